@@ -1,0 +1,10 @@
+//! The definitions that every statement about the engine cites: names, values, rows and the trees of
+//! statements, with what they mean. It stands on nothing of the engine, and nothing in it knows of
+//! pages, frames or runs.
+#![tactic(auto)]
+
+mod names;
+mod values;
+
+pub use names::Name;
+pub use values::{Chars, Value};
