@@ -21,8 +21,8 @@ impl Model for Name {
 }
 
 impl Name {
-    ghost use Rattle.std.specs.Prelude.{◌≡◌, IsTrue};
-    ghost use Rattle.hg_model.specs.Name.{is_name};
+    ghost use Rattle.std.specs.Prelude.{◌≡◌, ◌<◌, ◌≤◌, IsTrue, true, [], ◌∷◌, ◌++◌, length, MatchBool};
+    ghost use Rattle.hg_model.specs.Name.{is_name, begins_word, is_in_word};
 
     pub fn new(s: &str) -> Name
         requires { IsTrue (is_name s.now) }
@@ -31,6 +31,30 @@ impl Name {
         let mut text = ArrayString::new();
         text.push_str(s);
         Name { text }
+    }
+
+    /// A name of one letter or `_`.
+    pub fn of_letter(letter: u8) -> Name
+        requires { begins_word letter ≡ true }
+        ensures { result ≡ letter ∷ [] }
+    {
+        let mut text = ArrayString::new();
+        text.push(letter as char);
+        Name { text }
+    }
+
+    /// Puts a letter, a digit or `_` behind the name where it has fewer than 30 bytes, and answers
+    /// whether it had.
+    pub fn append(&mut self, letter: u8) -> bool
+        requires { is_in_word letter ≡ true }
+        ensures { MatchBool result ((length self.old < 30) × (self.new ≡ self.old ++ letter ∷ []))
+            ((30 ≤ length self.old) × (self.new ≡ self.old)) }
+    {
+        if self.text.len() == 30 {
+            return false;
+        }
+        self.text.push(letter as char);
+        true
     }
 
     pub fn copy(&self) -> Name

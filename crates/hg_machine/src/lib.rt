@@ -1,0 +1,13 @@
+//! The plain machine that the engine is measured by: how a script is cut into lines, how a line is
+//! read, and what the machine over lists of rows answers to it, in small steps. It stands on the
+//! definitions of `hg_model` and has no loop, no buffer and no memory.
+//!
+//! The contract used above: `specs/Run.antt` says which replies are a run of the machine over a
+//! script; `specs/Outcome.antt` what a run of the engine took from its source and gave to its sink.
+#![tactic(auto)]
+
+mod statements;
+mod tokens;
+
+pub use statements::{Cell, Row, Statement};
+pub use tokens::{Part, RESERVED, Sign, Token};
