@@ -9,5 +9,5 @@
 mod statements;
 mod tokens;
 
-pub use statements::{Cell, Row, Statement};
+pub use statements::{Cell, Content, Row, Statement};
 pub use tokens::{Part, RESERVED, Sign, Token};

@@ -2,51 +2,77 @@
 use hg_model::Name;
 use std::marker::Model;
 
-/// A value of a column of INTEGER: NULL or a number of 32 bits.
-#[derive(Clone, Copy, PartialEq, Eq, Debug, Default)]
-pub enum Cell {
-    #[default]
+/// What stands in a column of INTEGER: NULL or a number of 32 bits.
+#[derive(Clone, Copy, PartialEq, Eq, Debug)]
+pub enum Content {
     Null,
     Int(i32),
 }
 
-/// A row, which contracts see as its list of values.
+/// One value of a row, which contracts see as a value.
+#[derive(Drop)]
+pub struct Cell {
+    content: Content,
+}
+
+impl Model for Cell {
+    ghost use Rattle.hg_model.specs.declared.values.Value.{Value as Scalar};
+    ghost use Rattle.hg_machine.specs.Cell.{value_of};
+
+    ghost Value = { Scalar };
+
+    ghost view = { λ c. value_of c.content };
+}
+
+impl Cell {
+    ghost use Rattle.std.specs.Prelude.{◌≡◌};
+    ghost use Rattle.hg_machine.specs.Cell.{value_of};
+
+    pub fn new(content: Content) -> Cell
+        ensures { result ≡ value_of content }
+    {
+        Cell { content }
+    }
+
+    pub fn content(&self) -> Content
+        ensures { self.now ≡ value_of result }
+    {
+        self.content
+    }
+}
+
+/// A row of at most 16 values, which contracts see as their list.
 #[derive(Drop)]
 pub struct Row {
     cells: Vec<Cell>,
 }
 
 impl Model for Row {
-    ghost use Rattle.std.specs.Prelude.{List, map};
+    ghost use Rattle.std.specs.Prelude.{◌≤◌, List, length};
     ghost use Rattle.hg_model.specs.declared.values.Value.{Value as Scalar};
-    ghost use Rattle.hg_machine.specs.Cell.{value_of};
 
     ghost Value = { List Scalar };
 
-    ghost view = { λ r. map value_of r.cells.items };
+    ghost view = { λ r. r.cells.items };
+
+    ghost invariant = { λ r. length r.cells.items ≤ 16 };
 }
 
 impl Row {
-    ghost use Rattle.std.specs.Prelude.{◌≡◌, map, length};
-    ghost use Rattle.hg_machine.specs.Cell.{value_of};
+    ghost use Rattle.std.specs.Prelude.{◌≡◌, ◌≤◌, length};
 
     pub fn new(cells: Vec<Cell>) -> Row
-        ensures { result ≡ map value_of cells.items }
+        requires { length cells.items ≤ 16 }
+        ensures { result ≡ cells.items }
     {
         Row { cells }
     }
 
     pub fn cells(&self) -> &[Cell]
-        ensures { self.now ≡ map value_of result.now }
+        ensures cells { result.now ≡ self.now }
+        ensures few { length result.now ≤ 16 }
     {
         self.cells.as_slice()
-    }
-
-    /// The number of its values.
-    pub fn width(&self) -> usize
-        ensures { result ≡ length self.now }
-    {
-        self.cells.len()
     }
 }
 

@@ -1,0 +1,5 @@
+//! Runs a script.
+#![tactic(auto)]
+
+mod parse;
+mod scan;
