@@ -21,7 +21,7 @@ use Rattle.hg_machine.specs.declared.tokens.Token.{Token}
 use Rattle.hg_machine.specs.declared.tokens.Token.TheVariants as token
 use Rattle.hg_machine.specs.declared.tokens.Sign.TheVariants as sign
 
-abbrev pub is_reserved : List ℕ → Bool
+unfoldable pub is_reserved : List ℕ → Bool
 is_reserved letters = list_any (λ word. pointwise nat_eq word.now letters) RESERVED
 
 -- a word is a name where it is not reserved
@@ -86,8 +86,10 @@ IsCommand (statement.CreateTable name columns) tokens = IsCreateTable name colum
 IsCommand (statement.Insert table rows) tokens = IsInsert table rows.items tokens
 IsCommand (statement.Select table) tokens = IsSelect table tokens
 
--- a command with an optional semicolon behind it
+-- what may stand behind a command: nothing, or a semicolon
+abbrev pub IsEnd : List Token → Type 0
+IsEnd tokens = (tokens ≡ []) ⊎ (tokens ≡ token.Sign sign.Semicolon ∷ [])
+
+-- a command and its end
 abbrev pub StandsFor : Statement → List Token → Type 0
-StandsFor s tokens =
-    (body : List Token) × IsCommand s body
-    × ((tokens ≡ body) ⊎ (tokens ≡ body ++ token.Sign sign.Semicolon ∷ []))
+StandsFor s tokens = (body : List Token) × (end : List Token) × IsCommand s body × IsEnd end × (tokens ≡ body ++ end)

@@ -1,2 +1,4 @@
 pub mod Scanning
 pub mod Commas
+pub mod Values
+pub mod Commands
