@@ -1,12 +1,16 @@
 -- CREATE TABLE. After SQL-92, section 11.3: the columns have different names and the table's name is
 -- free. Our own rule: at most 64 tables.
-use Rattle.std.specs.Prelude.{◌≡◌, ℕ, ◌<◌, ⊤, List, [], ◌∷◌, ◌++◌, length, Contains}
+use Rattle.std.specs.Prelude.{◌≡◌, ◌≢◌, ℕ, ◌<◌, ⊤, List, [], ◌∷◌, ◌++◌, length, All}
 use Rattle.hg_machine.specs.Reply.{Reply, created, syntax_error}
 use Rattle.hg_machine.specs.State.{State, IsUnknown}
 
+-- no name among these is the name
+abbrev pub IsNotAmong : List (List ℕ) → List ℕ → Type 0
+IsNotAmong names name = All (λ other. other ≢ name) names
+
 abbrev pub AllDifferent : List (List ℕ) → Type 0
 AllDifferent [] = ⊤
-AllDifferent (name ∷ names) = (¬ Contains names name) × AllDifferent names
+AllDifferent (name ∷ names) = IsNotAmong names name × AllDifferent names
 
 pub record CanCreate (old : State) (name : List ℕ) (columns : List (List ℕ)) : Type 0 where
   pub different : AllDifferent columns

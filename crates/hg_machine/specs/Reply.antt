@@ -29,11 +29,14 @@ value_text value.Null = codes "NULL"
 value_text (value.Int number) = signed_decimal number
 value_text (value.Text text) = quoted text
 
+-- a value behind a comma
+abbrev pub next_text : Value → List ℕ
+next_text v = 44 ∷ value_text v
+
 -- the values with commas between them
 abbrev pub row_text : List Value → List ℕ
 row_text [] = []
-row_text (v ∷ []) = value_text v
-row_text (v ∷ w ∷ vs) = value_text v ++ 44 ∷ row_text (w ∷ vs)
+row_text (v ∷ vs) = value_text v ++ flat_map next_text vs
 
 -- a reply line with its line feed
 abbrev pub reply_text : Reply → List ℕ

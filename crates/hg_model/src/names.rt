@@ -66,6 +66,7 @@ impl Name {
     pub fn as_str(&self) -> &str
         ensures text { result.now ≡ self.now }
         ensures name { IsTrue (is_name self.now) }
+        ensures short { length self.now ≤ 30 }
     {
         self.text.as_str()
     }

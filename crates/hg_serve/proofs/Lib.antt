@@ -2,3 +2,5 @@ pub mod Scanning
 pub mod Commas
 pub mod Values
 pub mod Commands
+pub mod Writing
+pub mod Places

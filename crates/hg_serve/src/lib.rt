@@ -1,5 +1,7 @@
 //! Runs a script.
 #![tactic(auto)]
 
+mod output;
 mod parse;
 mod scan;
+mod tables;

@@ -1,0 +1,27 @@
+-- The reply that a line of the engine stands for, and what a write to the sink promises.
+use Rattle.std.specs.Prelude.{◌≡◌, ℕ, List, ◌++◌, ◌||◌, Option}
+use Rattle.hg_io.specs.Bytes.{then}
+use Rattle.hg_machine.specs.Reply.{Reply, created, inserted, row, at_end, syntax_error, unknown_table, text_of, has_error}
+use Rattle.hg_serve.specs.declared.output.Output.{Output}
+use Rattle.hg_serve.specs.declared.output.ReplyLine.{ReplyLine}
+use Rattle.hg_serve.specs.declared.output.ReplyLine.TheVariants as line
+
+abbrev pub reply_of : ReplyLine → Reply
+reply_of line.Created = created
+reply_of (line.Inserted count) = inserted count
+reply_of (line.Row values) = row values.now
+reply_of line.End = at_end
+reply_of line.SyntaxError = syntax_error
+reply_of (line.UnknownTable name) = unknown_table name.now
+
+-- a front of the bytes was written
+pub record WritesFront (old new : Option (List ℕ)) (bytes : List ℕ) : Type 0 where
+  pub front : List ℕ
+  pub rest : List ℕ
+  pub parts : bytes ≡ front ++ rest
+  pub written : new ≡ then old front
+
+-- these reply lines were put behind the others
+pub record Says (old new : Output) (replies : List Reply) : Type 0 where
+  pub bytes : new.bytes.items ≡ old.bytes.items ++ text_of replies
+  pub errors : new.errors ≡ (old.errors || has_error replies)
