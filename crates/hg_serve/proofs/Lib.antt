@@ -4,3 +4,6 @@ pub mod Values
 pub mod Commands
 pub mod Writing
 pub mod Places
+pub mod Says
+pub mod States
+pub mod Turning

@@ -19,6 +19,7 @@ pub const BUFFER_BYTES: usize = 16_384;
 pub const LINE_BYTES: usize = 256;
 
 /// A reply line.
+#[derive(Drop)]
 pub enum ReplyLine<'a> {
     Created,
     Inserted(u64),

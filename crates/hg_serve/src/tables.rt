@@ -1,11 +1,11 @@
 //! The tables of a script, as vectors in memory, and the SELECT at work.
-ghost use Rattle.std.specs.Prelude.{◌≡◌, ◌≢◌, ◌≤◌, ◌<◌, ◌+◌, ℕ, List, ◌∷◌, [], length, All, MatchBool, None, IfSome, IfNone, OnOk, OnErr, is_some};
+ghost use Rattle.std.specs.Prelude.{◌≡◌, ◌≢◌, ◌≤◌, ◌<◌, ◌+◌, ℕ, List, ◌∷◌, [], length, All, MatchBool, None, Some, slice_get, IsSome, IfSome, IfNone, OnOk, OnErr, is_some};
 ghost use Rattle.arrayvec.specs.ArrayVec.{array_vec_len};
 ghost use Rattle.hg_model.specs.declared.values.Value.{Value as Scalar};
 ghost use Rattle.hg_machine.specs.Reply.{Reply};
 ghost use Rattle.hg_machine.specs.State.{first_state, IsUnknown, TableState, IsTableAt};
-ghost use Rattle.hg_machine.specs.CreateTable.{AllDifferent, IsNotAmong, CreatesTable};
-ghost use Rattle.hg_machine.specs.Insert.{Inserts};
+ghost use Rattle.hg_machine.specs.CreateTable.{AllDifferent, IsNotAmong, CanCreate, CreatesTable};
+ghost use Rattle.hg_machine.specs.Insert.{Inserts, Fit, with_rows};
 ghost use Rattle.hg_machine.specs.Select.{Selects};
 ghost use Rattle.hg_machine.specs.Run.{Begins, Turn};
 ghost use Rattle.hg_serve.specs.Output.{Says};
@@ -46,6 +46,7 @@ pub struct Place {
 /// All tables in order of creation, and the first row that the SELECT at work has still to give.
 #[derive(Drop)]
 pub struct Tables {
+    alloc: Global,
     tables: Vec<Table>,
     open: Option<Place>,
 }
@@ -105,6 +106,7 @@ impl Tables {
         ensures { result ≡ first_state }
     {
         Tables {
+            alloc,
             tables: Vec::new(alloc),
             open: None,
         }
@@ -119,8 +121,139 @@ impl Tables {
 
     fn position(&self, name: &Name) -> Option<usize>
         ensures found { IfSome result (λ k. (table : TableState) × IsTableAt self.now name.now k table) }
+        ensures inside { IfSome result (λ k. k < length self.now.tables) }
         ensures unknown { IfNone result (IsUnknown self.now name.now) }
     {
         place_of(&self.tables, name)
+    }
+
+    fn can_create(&self, name: &Name, columns: &[Name]) -> bool
+        ensures { MatchBool result (CanCreate self.now name.now columns.now) (¬ CanCreate self.now name.now columns.now) }
+    {
+        self.position(name).is_none() && self.tables.len() < TABLES && all_different(columns)
+    }
+
+    /// CREATE TABLE. The only error is want of memory, and then nothing changed.
+    fn create_table(&mut self, name: Name, columns: Vec<Name>, output: &mut Output) -> Result<(), AllocError>
+        requires idle { self.old.left ≡ None }
+        requires room { array_vec_len output.old.bytes + 256 ≤ 16384 }
+        ensures ok { OnOk result ((replies : List Reply) × CreatesTable self.old name columns.items replies self.new
+            × Says output.old output.new replies) }
+        ensures err { OnErr result ((self.new ≡ self.old) × (output.new ≡ output.old)) }
+    {
+        if !self.can_create(&name, &columns) {
+            output.say(&ReplyLine::SyntaxError);
+            return Ok(());
+        }
+        let rows = Vec::new(self.alloc);
+        self.tables.push(Table {
+            name,
+            columns,
+            rows,
+        })?;
+        output.say(&ReplyLine::Created);
+        Ok(())
+    }
+
+    /// Whether each row has a value for each column of the table.
+    fn fit(&self, at: usize, rows: &[Row]) -> bool
+        requires { at < length self.now.tables }
+        ensures { (table : TableState) → slice_get self.now.tables at ≡ Some table
+            → MatchBool result (Fit rows.now table) (¬ Fit rows.now table) }
+    {
+        let table = &self.tables[at];
+        all_fit(rows, table.columns.len())
+    }
+
+    /// Puts the rows behind those of the table. Without memory for all of them nothing changes.
+    fn join(&mut self, at: usize, rows: &mut Vec<Row>) -> Result<(), AllocError>
+        requires inside { at < length self.old.tables }
+        requires idle { self.old.left ≡ None }
+        ensures ok { OnOk result ((table : TableState) → slice_get self.old.tables at ≡ Some table
+            → self.new ≡ with_rows self.old at table rows.old.items) }
+        ensures err { OnErr result (self.new ≡ self.old) }
+    {
+        let table = &mut self.tables[at];
+        table.rows.append(rows)
+    }
+
+    /// INSERT. The only error is want of memory, and then nothing changed.
+    fn insert(&mut self, name: Name, rows: Vec<Row>, output: &mut Output) -> Result<(), AllocError>
+        requires idle { self.old.left ≡ None }
+        requires room { array_vec_len output.old.bytes + 256 ≤ 16384 }
+        ensures ok { OnOk result ((replies : List Reply) × Inserts self.old name rows.items replies self.new
+            × Says output.old output.new replies) }
+        ensures err { OnErr result ((self.new ≡ self.old) × (output.new ≡ output.old)) }
+    {
+        let Some(at) = self.position(&name) else {
+            output.say(&ReplyLine::UnknownTable(&name));
+            return Ok(());
+        };
+        if !self.fit(at, &rows) {
+            output.say(&ReplyLine::SyntaxError);
+            return Ok(());
+        }
+        let count = rows.as_slice().len() as u64;
+        let mut rows = rows;
+        self.join(at, &mut rows)?;
+        output.say(&ReplyLine::Inserted(count));
+        Ok(())
+    }
+
+    /// SELECT of all rows.
+    fn select(&mut self, name: Name, output: &mut Output)
+        requires idle { self.old.left ≡ None }
+        requires room { array_vec_len output.old.bytes + 256 ≤ 16384 }
+        ensures { (replies : List Reply) × Selects self.old name replies self.new × Says output.old output.new replies }
+    {
+        match self.position(&name) {
+            Some(table) => self.open = Some(Place { table, next: 0 }),
+            None => output.say(&ReplyLine::UnknownTable(&name)),
+        }
+    }
+
+    /// The immediate replies of a statement. The only error is want of memory, and then nothing
+    /// changed.
+    pub fn begin(&mut self, statement: Statement, output: &mut Output) -> Result<(), AllocError>
+        requires idle { self.old.left ≡ None }
+        requires room { array_vec_len output.old.bytes + 256 ≤ 16384 }
+        ensures ok { OnOk result ((replies : List Reply) × Begins self.old statement replies self.new
+            × Says output.old output.new replies) }
+        ensures err { OnErr result ((self.new ≡ self.old) × (output.new ≡ output.old)) }
+    {
+        match statement {
+            Statement::CreateTable { name, columns } => self.create_table(name, columns, output),
+            Statement::Insert { table, rows } => self.insert(table, rows, output),
+            Statement::Select { table } => {
+                self.select(table, output);
+                Ok(())
+            }
+        }
+    }
+
+    /// One turn of the SELECT at work.
+    pub fn turn(&mut self, output: &mut Output)
+        requires open { IsSome self.old.left }
+        requires room { array_vec_len output.old.bytes + 256 ≤ 16384 }
+        ensures turn { (reply : Reply) × Turn self.old reply self.new × Says output.old output.new (reply ∷ []) }
+        ensures nearer { turns_left self.new.left < turns_left self.old.left }
+    {
+        let Some(place) = self.open else {
+            return;
+        };
+        let table = &self.tables[place.table];
+        match table.rows.get(place.next) {
+            Some(row) => {
+                output.say(&ReplyLine::Row(row));
+                self.open = Some(Place {
+                    table: place.table,
+                    next: place.next + 1,
+                });
+            }
+            None => {
+                output.say(&ReplyLine::End);
+                self.open = None;
+            }
+        }
     }
 }
