@@ -7,3 +7,4 @@ pub mod Places
 pub mod Says
 pub mod States
 pub mod Turning
+pub mod LineLemmas

@@ -1,3 +1,4 @@
 pub mod Parse
 pub mod Output
 pub mod Tables
+pub mod Lines

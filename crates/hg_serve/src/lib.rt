@@ -1,6 +1,7 @@
 //! Runs a script.
 #![tactic(auto)]
 
+mod lines;
 mod output;
 mod parse;
 mod scan;

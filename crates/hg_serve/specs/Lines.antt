@@ -1,0 +1,24 @@
+-- What the answer of the reader of lines stands for.
+use Rattle.std.specs.Prelude.{◌≡◌, ℕ, true, List, Some}
+use Rattle.hg_machine.specs.declared.statements.Statement.{Statement}
+use Rattle.hg_machine.specs.declared.tokens.Token.{Token}
+use Rattle.hg_machine.specs.Script.{Line}
+use Rattle.hg_machine.specs.Tokens.{tokens_of, is_all_blank}
+use Rattle.hg_machine.specs.Grammar.{StandsFor}
+use Rattle.hg_machine.specs.Run.{IsReading, IsBlankLine}
+use Rattle.hg_serve.specs.declared.lines.Asked.{Asked}
+use Rattle.hg_serve.specs.declared.lines.Asked.TheVariants as asked
+
+-- the text is made of tokens that stand for the statement
+abbrev pub TextStandsFor : List ℕ → Statement → Type 0
+TextStandsFor text s = (tokens : List Token) × (tokens_of text ≡ Some tokens) × StandsFor s tokens
+
+abbrev pub TextAsksFor : List ℕ → Asked → Type 0
+TextAsksFor text asked.Nothing = is_all_blank text ≡ true
+TextAsksFor text asked.SyntaxError = (¬ (is_all_blank text ≡ true)) × ((s : Statement) → ¬ TextStandsFor text s)
+TextAsksFor text (asked.Statement s) = TextStandsFor text s
+
+abbrev pub AsksFor : Line → Asked → Type 0
+AsksFor line asked.Nothing = IsBlankLine line
+AsksFor line asked.SyntaxError = (¬ IsBlankLine line) × ((s : Statement) → ¬ IsReading line s)
+AsksFor line (asked.Statement s) = IsReading line s
