@@ -8,3 +8,5 @@ pub mod Says
 pub mod States
 pub mod Turning
 pub mod LineLemmas
+pub mod Telling
+pub mod Running

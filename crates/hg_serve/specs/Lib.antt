@@ -2,3 +2,4 @@ pub mod Parse
 pub mod Output
 pub mod Tables
 pub mod Lines
+pub mod Session

@@ -5,4 +5,5 @@ mod lines;
 mod output;
 mod parse;
 mod scan;
+mod session;
 mod tables;

@@ -4,7 +4,7 @@ ghost use Rattle.arrayvec.specs.ArrayVec.{array_vec_len};
 ghost use Rattle.hg_io.specs.Bytes.{then};
 ghost use Rattle.hg_io.specs.Count.{HasCause};
 ghost use Rattle.hg_machine.specs.Reply.{reply_text, value_text, row_text, is_error, unknown_table};
-ghost use Rattle.hg_serve.specs.Output.{reply_of, WritesFront};
+ghost use Rattle.hg_serve.specs.Output.{reply_of, WritesFront, Passes, Breaks, Tells};
 
 use arrayvec::ArrayVec;
 use hg_io::{Failed, Sink};
@@ -145,16 +145,30 @@ impl Output {
         }
     }
 
-    /// Writes what waits to the sink. Where the sink fails, a front of it was written.
+    /// Writes what waits to the sink.
     pub fn flush<K: Sink>(&mut self, sink: &mut K) -> Result<(), Failed>
-        ensures ok { OnOk result (K.written sink.new ≡ then (K.written sink.old) self.old.bytes.items) }
+        ensures ok { OnOk result (Passes (K.written sink.old) (K.written sink.new) self.old.bytes.items [] []) }
         ensures empty { OnOk result (self.new.bytes.items ≡ []) }
-        ensures part { OnErr result (WritesFront (K.written sink.old) (K.written sink.new) self.old.bytes.items) }
+        ensures part { OnErr result (Breaks (K.written sink.old) (K.written sink.new) self.old.bytes.items []) }
         ensures errors { self.new.errors ≡ self.old.errors }
         ensures cause { HasCause (K.faults sink.old) (K.faults sink.new) result }
     {
         write_all(sink, self.bytes.as_slice())?;
         self.bytes.clear();
+        Ok(())
+    }
+
+    /// Writes what waits to the sink where it leaves no room for a reply line.
+    pub fn make_room<K: Sink>(&mut self, sink: &mut K) -> Result<(), Failed>
+        ensures ok { OnOk result (Tells (K.written sink.old) (K.written sink.new) self.old self.new []) }
+        ensures room { OnOk result (array_vec_len self.new.bytes + 256 ≤ 16384) }
+        ensures part { OnErr result (Breaks (K.written sink.old) (K.written sink.new) self.old.bytes.items []) }
+        ensures cause { HasCause (K.faults sink.old) (K.faults sink.new) result }
+    {
+        if self.bytes.len() + LINE_BYTES <= BUFFER_BYTES {
+            return Ok(());
+        }
+        self.flush(sink)?;
         Ok(())
     }
 }
