@@ -5,7 +5,12 @@ use Rattle.std.proofs.lemmas.List.Sorted.{IsPermutation-refl}
 use Rattle.hg_model.specs.declared.values.Value.{Value}
 use Rattle.hg_machine.specs.State.{State}
 use Rattle.hg_machine.specs.Reply.{Reply, row, at_end, text_of}
-use Rattle.hg_machine.specs.Run.{Turn, Turns, gives_row, ends}
+use Rattle.hg_machine.specs.Script.{Line}
+use Rattle.hg_machine.specs.Run.{Turn, Turns, gives_row, ends, LineBegins, asks, is_blank_line, has_no_reading, RunsLine}
+use Rattle.hg_serve.specs.declared.lines.Asked.{Asked}
+use Rattle.hg_serve.specs.declared.lines.Asked.TheVariants as asked
+use Rattle.hg_serve.specs.Lines.{AsksFor}
+use Rattle.hg_serve.specs.Session.{BeginsAsked}
 use Rattle.hg_serve.specs.declared.output.Output.{Output}
 use Rattle.hg_serve.specs.Output.{Tells, Breaks}
 use Rattle.hg_serve.proofs.Telling.{text_of-append, breaks-then, breaks-more}
@@ -83,3 +88,14 @@ pub some-ends : (old now : State) (replies : List Reply) → SomeTurns old repli
 unfolding Turns
 some-ends old now [] is idle = (subst (λ s. s.left ≡ None) is idle, is)
 some-ends old now (r ∷ rs) (between, first, others) idle = (between, first, some-ends between now rs others idle)
+
+pub line-begins : (old new : State) (line : Line) (a : Asked) (replies : List Reply) → AsksFor line a → BeginsAsked old a replies new
+    → LineBegins old line replies new
+line-begins old new line asked.Nothing replies blank (none, same) = is_blank_line blank none same
+line-begins old new line asked.SyntaxError replies (not_blank, none) (one, same) = has_no_reading not_blank none one same
+line-begins old new line (asked.Statement s) replies reading begins = asks s reading begins
+
+pub runs-line : (old between new : State) (line : Line) (first others : List Reply) → LineBegins old line first between
+    → Turns between others new → RunsLine old line (first ++ others) new
+runs-line old between new line first others begins turns =
+    record { between = between; first = first; others = others; begins = begins; turns = turns; joined = refl }

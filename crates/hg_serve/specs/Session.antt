@@ -23,3 +23,9 @@ StopsIn w0 w1 tables before after line stop.SinkFault =
     (replies : List Reply) × (last : State) × RunsLine tables line replies last
         × Breaks w0 w1 before.bytes.items (text_of replies)
 StopsIn w0 w1 tables before after line stop.NoMemory = Tells w0 w1 before after []
+
+-- a line was answered
+pub record AnswersLine (w0 w1 : Option (List ℕ)) (old new : State) (before after : Output) (line : Line) : Type 0 where
+  pub replies : List Reply
+  pub runs : RunsLine old line replies new
+  pub tells : Tells w0 w1 before after replies

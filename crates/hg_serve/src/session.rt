@@ -5,8 +5,8 @@ ghost use Rattle.hg_io.specs.Count.{Rose, HasCause};
 ghost use Rattle.hg_machine.specs.Reply.{Reply, text_of};
 ghost use Rattle.hg_machine.specs.State.{State};
 ghost use Rattle.hg_machine.specs.Run.{Turns, RunsLine};
-ghost use Rattle.hg_serve.specs.Output.{Breaks, Tells};
-ghost use Rattle.hg_serve.specs.Session.{StopsIn, BeginsAsked};
+ghost use Rattle.hg_serve.specs.Output.{Says, Breaks, Tells};
+ghost use Rattle.hg_serve.specs.Session.{StopsIn, BeginsAsked, AnswersLine};
 
 use crate::lines::{Asked, read_line};
 use crate::output::{Output, ReplyLine};
@@ -38,5 +38,57 @@ fn give_turns<K: Sink>(tables: &mut Tables, output: &mut Output, sink: &mut K) -
         tables.turn(output);
         output.make_room(sink)?;
     }
+    Ok(())
+}
+
+/// The immediate replies of what a line asks for. The only error is want of memory, and then nothing
+/// changed.
+fn begin(tables: &mut Tables, output: &mut Output, asked: Asked) -> Result<(), AllocError>
+    requires idle { tables.old.left ≡ None }
+    requires room { array_vec_len output.old.bytes + 256 ≤ 16384 }
+    ensures ok { OnOk result ((replies : List Reply) × BeginsAsked tables.old asked replies tables.new
+        × Says output.old output.new replies) }
+    ensures err { OnErr result ((tables.new ≡ tables.old) × (output.new ≡ output.old)) }
+{
+    match asked {
+        Asked::Nothing => Ok(()),
+        Asked::SyntaxError => {
+            output.say(&ReplyLine::SyntaxError);
+            Ok(())
+        }
+        Asked::Statement(statement) => tables.begin(statement, output),
+    }
+}
+
+/// Answers a line, of which `kept` has the first 4,097 bytes.
+fn answer_line<K: Sink>(
+    alloc: Global,
+    tables: &mut Tables,
+    output: &mut Output,
+    tokens: &mut Vec<Token>,
+    kept: &[u8],
+    ended: bool,
+    sink: &mut K,
+) -> Result<(), Stop>
+    requires idle { tables.old.left ≡ None }
+    requires room { array_vec_len output.old.bytes + 256 ≤ 16384 }
+    ensures ok { OnOk result ((whole : List ℕ) → kept.now ≡ take 4097 whole → AnswersLine (K.written sink.old) (K.written sink.new)
+        tables.old tables.new output.old output.new (record { bytes = whole; ended = ended })) }
+    ensures idle { OnOk result (tables.new.left ≡ None) }
+    ensures room { OnOk result (array_vec_len output.new.bytes + 256 ≤ 16384) }
+    ensures stop { IfErr result (λ stop. (whole : List ℕ) → kept.now ≡ take 4097 whole → StopsIn (K.written sink.old) (K.written sink.new)
+        tables.old output.old output.new (record { bytes = whole; ended = ended }) stop) }
+    ensures later { K.faults sink.old ≤ K.faults sink.new }
+    ensures cause { IfErr result (λ stop. stop ≡ Stop.SinkFault → Rose (K.faults sink.old) (K.faults sink.new)) }
+{
+    let Ok(asked) = read_line(alloc, kept, ended, tokens) else {
+        return Err(Stop::NoMemory);
+    };
+    let Ok(()) = begin(tables, output, asked) else {
+        return Err(Stop::NoMemory);
+    };
+    let Ok(()) = give_turns(tables, output, sink) else {
+        return Err(Stop::SinkFault);
+    };
     Ok(())
 }
