@@ -10,3 +10,5 @@ pub mod Turning
 pub mod LineLemmas
 pub mod Telling
 pub mod Running
+pub mod Scripts
+pub mod ServeLemmas

@@ -3,3 +3,4 @@ pub mod Output
 pub mod Tables
 pub mod Lines
 pub mod Session
+pub mod Serving

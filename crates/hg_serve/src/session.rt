@@ -11,6 +11,7 @@ ghost use Rattle.hg_serve.specs.Session.{StopsIn, BeginsAsked, AnswersLine};
 use crate::lines::{Asked, read_line};
 use crate::output::{Output, ReplyLine};
 use crate::tables::Tables;
+use arrayvec::ArrayVec;
 use hg_io::{Failed, Sink};
 use hg_machine::Token;
 use std::alloc::{AllocError, Global};
@@ -91,4 +92,89 @@ fn answer_line<K: Sink>(
         return Err(Stop::SinkFault);
     };
     Ok(())
+}
+
+/// The bytes of a line that are kept: one more than it may have, so that a longer one is known.
+const KEPT_BYTES: usize = 4097;
+
+/// The tables, the reply lines that wait, and the front of the line at hand. `tokens` is room for the
+/// tokens of a line.
+#[derive(Drop)]
+pub struct Session {
+    alloc: Global,
+    tables: Tables,
+    output: Output,
+    tokens: Vec<Token>,
+    line: ArrayVec<u8, KEPT_BYTES>,
+}
+
+impl Session {
+    ghost use Rattle.std.specs.Prelude.{◌≡◌, ◌≤◌, ◌∷◌, [], ◌++◌, ℕ, List, Option, OnOk, IfOk, IfErr};
+    ghost use Rattle.hg_io.specs.Count.{Rose};
+    ghost use Rattle.hg_serve.specs.Serving.{IsReady, Serves, Halts};
+
+    pub fn new(alloc: Global) -> Session
+        ensures ready { IsReady result }
+        ensures start { (w : Option (List ℕ)) → Serves w w result [] }
+    {
+        Session {
+            alloc,
+            tables: Tables::new(alloc),
+            output: Output::new(),
+            tokens: Vec::new(alloc),
+            line: ArrayVec::new(),
+        }
+    }
+
+    /// Takes one byte of the script, and answers the line that it ends.
+    fn take_byte<K: Sink>(&mut self, b: u8, sink: &mut K) -> Result<(), Stop>
+        requires { IsReady self.old }
+        ensures ready { OnOk result (IsReady self.new) }
+        ensures ok { OnOk result ((w : Option (List ℕ)) (taken : List ℕ) → Serves w (K.written sink.old) self.old taken
+            → Serves w (K.written sink.new) self.new (taken ++ b ∷ [])) }
+        ensures stop { IfErr result (λ stop. (w : Option (List ℕ)) (taken : List ℕ) → Serves w (K.written sink.old) self.old taken
+            → Halts w (K.written sink.new) self.new.output.bytes.items (taken ++ b ∷ []) stop) }
+        ensures later { K.faults sink.old ≤ K.faults sink.new }
+        ensures cause { IfErr result (λ stop. stop ≡ Stop.SinkFault → Rose (K.faults sink.old) (K.faults sink.new)) }
+    {
+        if b != b'\n' {
+            if self.line.len() < KEPT_BYTES {
+                self.line.push(b);
+            }
+            return Ok(());
+        }
+        let answered = answer_line(
+            self.alloc,
+            &mut self.tables,
+            &mut self.output,
+            &mut self.tokens,
+            self.line.as_slice(),
+            true,
+            sink,
+        );
+        if let Err(stop) = answered {
+            return Err(stop);
+        }
+        self.line.clear();
+        Ok(())
+    }
+
+    /// Takes bytes of the script, and answers the lines that they end.
+    pub fn feed<K: Sink>(&mut self, bytes: &[u8], sink: &mut K) -> Result<(), Stop>
+        requires { IsReady self.old }
+        ensures ready { OnOk result (IsReady self.new) }
+        ensures ok { OnOk result ((w : Option (List ℕ)) (taken : List ℕ) → Serves w (K.written sink.old) self.old taken
+            → Serves w (K.written sink.new) self.new (taken ++ bytes.now)) }
+        ensures stop { IfErr result (λ stop. (w : Option (List ℕ)) (taken : List ℕ) → Serves w (K.written sink.old) self.old taken
+            → Halts w (K.written sink.new) self.new.output.bytes.items (taken ++ bytes.now) stop) }
+        ensures later { K.faults sink.old ≤ K.faults sink.new }
+        ensures cause { IfErr result (λ stop. stop ≡ Stop.SinkFault → Rose (K.faults sink.old) (K.faults sink.new)) }
+    {
+        for b in bytes {
+            if let Err(stop) = self.take_byte(*b, sink) {
+                return Err(stop);
+            }
+        }
+        Ok(())
+    }
 }
