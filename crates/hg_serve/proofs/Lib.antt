@@ -12,3 +12,4 @@ pub mod Telling
 pub mod Running
 pub mod Scripts
 pub mod ServeLemmas
+pub mod Closing

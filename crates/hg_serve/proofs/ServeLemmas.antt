@@ -60,7 +60,7 @@ module _ (first now then : Option (List ℕ)) (s t : Session) (taken : List ℕ)
 
 pub halts-line : (first now after : Option (List ℕ)) (s : Session) (output : Output) (taken : List ℕ) (b : ℕ) → Serves first now s taken → b ≡ 10
     → (k : Stop) → StopsIn now after s.tables s.output output (record { bytes = last_part [] taken; ended = true }) k
-    → Halts first after output.bytes.items (taken ++ b ∷ []) k
+    → Halts first after output.bytes.items (whole_lines (taken ++ b ∷ [])) k
 halts-line first now after s output taken b serves feed stop.NoMemory told =
       (record {
         front = whole_lines taken;
@@ -103,8 +103,8 @@ first-later taken more lines = record {
   run = lines.run;
 }
 
-pub halts-later : (first now : Option (List ℕ)) (waiting taken more : List ℕ) (k : Stop) → Halts first now waiting taken k
-    → Halts first now waiting (taken ++ more) k
+pub halts-later : (first now : Option (List ℕ)) (waiting taken more : List ℕ) (k : Stop) → Halts first now waiting (whole_lines taken) k
+    → Halts first now waiting (whole_lines (taken ++ more)) k
 unfolding first-later
 halts-later first now waiting taken more stop.NoMemory (lines, passes) = (first-later taken more lines, passes)
 halts-later first now waiting taken more stop.SinkFault (lines, broke) = (first-later taken more lines, broke)

@@ -6,4 +6,5 @@ mod output;
 mod parse;
 mod scan;
 mod session;
+mod status;
 mod tables;

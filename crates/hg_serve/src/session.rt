@@ -10,6 +10,7 @@ ghost use Rattle.hg_serve.specs.Session.{StopsIn, BeginsAsked, AnswersLine};
 
 use crate::lines::{Asked, read_line};
 use crate::output::{Output, ReplyLine};
+use crate::status::Status;
 use crate::tables::Tables;
 use arrayvec::ArrayVec;
 use hg_io::{Failed, Sink};
@@ -109,9 +110,10 @@ pub struct Session {
 }
 
 impl Session {
-    ghost use Rattle.std.specs.Prelude.{◌≡◌, ◌≤◌, ◌∷◌, [], ◌++◌, ℕ, List, Option, OnOk, IfOk, IfErr};
-    ghost use Rattle.hg_io.specs.Count.{Rose};
-    ghost use Rattle.hg_serve.specs.Serving.{IsReady, Serves, Halts};
+    ghost use Rattle.std.specs.Prelude.{◌≡◌, ◌≤◌, ◌∷◌, [], ◌++◌, ℕ, List, Option, ◌⊎◌, OnOk, OnErr, IfOk, IfErr};
+    ghost use Rattle.hg_io.specs.Count.{Rose, HasCause};
+    ghost use Rattle.hg_machine.specs.Script.{Line, whole_lines, lines_of};
+    ghost use Rattle.hg_serve.specs.Serving.{IsReady, Serves, Halts, Answers, Closes};
 
     pub fn new(alloc: Global) -> Session
         ensures ready { IsReady result }
@@ -133,7 +135,7 @@ impl Session {
         ensures ok { OnOk result ((w : Option (List ℕ)) (taken : List ℕ) → Serves w (K.written sink.old) self.old taken
             → Serves w (K.written sink.new) self.new (taken ++ b ∷ [])) }
         ensures stop { IfErr result (λ stop. (w : Option (List ℕ)) (taken : List ℕ) → Serves w (K.written sink.old) self.old taken
-            → Halts w (K.written sink.new) self.new.output.bytes.items (taken ++ b ∷ []) stop) }
+            → Halts w (K.written sink.new) self.new.output.bytes.items (whole_lines (taken ++ b ∷ [])) stop) }
         ensures later { K.faults sink.old ≤ K.faults sink.new }
         ensures cause { IfErr result (λ stop. stop ≡ Stop.SinkFault → Rose (K.faults sink.old) (K.faults sink.new)) }
     {
@@ -166,7 +168,7 @@ impl Session {
         ensures ok { OnOk result ((w : Option (List ℕ)) (taken : List ℕ) → Serves w (K.written sink.old) self.old taken
             → Serves w (K.written sink.new) self.new (taken ++ bytes.now)) }
         ensures stop { IfErr result (λ stop. (w : Option (List ℕ)) (taken : List ℕ) → Serves w (K.written sink.old) self.old taken
-            → Halts w (K.written sink.new) self.new.output.bytes.items (taken ++ bytes.now) stop) }
+            → Halts w (K.written sink.new) self.new.output.bytes.items (whole_lines (taken ++ bytes.now)) stop) }
         ensures later { K.faults sink.old ≤ K.faults sink.new }
         ensures cause { IfErr result (λ stop. stop ≡ Stop.SinkFault → Rose (K.faults sink.old) (K.faults sink.new)) }
     {
@@ -176,5 +178,89 @@ impl Session {
             }
         }
         Ok(())
+    }
+
+    /// Writes the reply lines that wait.
+    pub fn flush<K: Sink>(&mut self, sink: &mut K) -> Result<(), Failed>
+        requires { IsReady self.old }
+        ensures ready { OnOk result (IsReady self.new) }
+        ensures ok { OnOk result ((w : Option (List ℕ)) (taken : List ℕ) → Serves w (K.written sink.old) self.old taken
+            → Serves w (K.written sink.new) self.new taken) }
+        ensures empty { OnOk result (self.new.output.bytes.items ≡ []) }
+        ensures part { OnErr result ((w : Option (List ℕ)) (taken : List ℕ) → Serves w (K.written sink.old) self.old taken
+            → Closes w (K.written sink.new) (whole_lines taken) Status.SinkFault) }
+        ensures cause { HasCause (K.faults sink.old) (K.faults sink.new) result }
+    {
+        self.output.flush(sink)?;
+        Ok(())
+    }
+
+    /// Writes the reply lines that wait where memory was wanted.
+    fn give_up<K: Sink>(&mut self, sink: &mut K) -> Status
+        ensures closes { (w : Option (List ℕ)) (lines : List Line)
+            → Halts w (K.written sink.old) self.old.output.bytes.items lines Stop.NoMemory → Closes w (K.written sink.new) lines result }
+        ensures later { K.faults sink.old ≤ K.faults sink.new }
+        ensures cause { result ≡ Status.SinkFault → Rose (K.faults sink.old) (K.faults sink.new) }
+    {
+        match self.output.flush(sink) {
+            Ok(()) => Status::NoMemory,
+            Err(_) => Status::SinkFault,
+        }
+    }
+
+    /// The status of a session that stopped.
+    pub fn stopped<K: Sink>(&mut self, stop: Stop, sink: &mut K) -> Status
+        ensures closes { (w : Option (List ℕ)) (lines : List Line)
+            → Halts w (K.written sink.old) self.old.output.bytes.items lines stop → Closes w (K.written sink.new) lines result }
+        ensures later { K.faults sink.old ≤ K.faults sink.new }
+        ensures cause { result ≡ Status.SinkFault → (stop ≡ Stop.SinkFault) ⊎ Rose (K.faults sink.old) (K.faults sink.new) }
+    {
+        match stop {
+            Stop::SinkFault => Status::SinkFault,
+            Stop::NoMemory => self.give_up(sink),
+        }
+    }
+
+    /// Writes the reply lines that wait at the end of the script.
+    fn finish<K: Sink>(&mut self, sink: &mut K) -> Status
+        ensures closes { (w : Option (List ℕ)) (lines : List Line)
+            → Answers w (K.written sink.old) self.old.output lines → Closes w (K.written sink.new) lines result }
+        ensures later { K.faults sink.old ≤ K.faults sink.new }
+        ensures cause { result ≡ Status.SinkFault → Rose (K.faults sink.old) (K.faults sink.new) }
+    {
+        if let Err(Failed) = self.output.flush(sink) {
+            return Status::SinkFault;
+        }
+        if self.output.errors {
+            Status::Errors
+        } else {
+            Status::Clean
+        }
+    }
+
+    /// Answers a last line that no line feed ends, and closes the session.
+    pub fn end<K: Sink>(&mut self, sink: &mut K) -> Status
+        requires { IsReady self.old }
+        ensures closes { (w : Option (List ℕ)) (taken : List ℕ) → Serves w (K.written sink.old) self.old taken
+            → Closes w (K.written sink.new) (lines_of taken) result }
+        ensures later { K.faults sink.old ≤ K.faults sink.new }
+        ensures cause { result ≡ Status.SinkFault → Rose (K.faults sink.old) (K.faults sink.new) }
+    {
+        if self.line.is_empty() {
+            return self.finish(sink);
+        }
+        let answered = answer_line(
+            self.alloc,
+            &mut self.tables,
+            &mut self.output,
+            &mut self.tokens,
+            self.line.as_slice(),
+            false,
+            sink,
+        );
+        match answered {
+            Ok(()) => self.finish(sink),
+            Err(stop) => self.stopped(stop, sink),
+        }
     }
 }
