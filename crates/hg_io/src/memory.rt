@@ -1,6 +1,6 @@
 //! A source and a sink in memory, which tell their bytes and fail at the calls that they are told to
 //! fail at. Calls are numbered from 1.
-ghost use Rattle.std.specs.Prelude.{◌≡◌, ◌≤◌, ◌↔◌, Some, [], take, drop, min, IfOk, IsErr, OnErr, Contains, length};
+ghost use Rattle.std.specs.Prelude.{◌≡◌, ◌≤◌, ◌<◌, ◌^◌, ◌↔◌, Some, [], take, drop, min, IfOk, IsErr, OnErr, Contains, length};
 ghost use Rattle.hg_io.specs.Count.{raised, HasCause};
 ghost use Rattle.hg_io.specs.Bytes.{Reads, Writes};
 
@@ -17,6 +17,7 @@ pub struct MemSource {
     faults: u64,
     given: u64,
     ghost in_range: { at ≤ length bytes.items },
+    ghost counted: { given < 2 ^ 64 },
 }
 
 impl MemSource {
@@ -46,6 +47,8 @@ impl Source for MemSource {
     ghost given = { λ s. s.given };
 
     ghost faults = { λ s. s.faults };
+
+    ghost given_ends = { λ s. s.counted };
 
     fn read(&mut self, buf: &mut [u8]) -> Result<usize, Failed>
         ensures bound { IfOk result (λ n. n ≤ length buf.old) }

@@ -1,5 +1,5 @@
 //! A source of bytes and a sink for bytes.
-ghost use Rattle.std.specs.Prelude.{◌≡◌, ◌≤◌, ℕ, List, Option, IfOk, OnErr, length};
+ghost use Rattle.std.specs.Prelude.{◌≡◌, ◌≤◌, ◌<◌, ◌^◌, ℕ, List, Option, IfOk, OnErr, length};
 ghost use Rattle.hg_io.specs.Count.{raised, HasCause};
 ghost use Rattle.hg_io.specs.Bytes.{Reads, Writes};
 
@@ -25,6 +25,9 @@ pub trait Source {
         ensures given { IfOk result (λ n. given self.new ≡ raised (given self.old) n) }
         ensures given_stays { OnErr result (given self.new ≡ given self.old) }
         ensures cause { HasCause (faults self.old) (faults self.new) result };
+
+    /// The count of bytes ends at 2^64 - 1.
+    ghost given_ends: { (s : Self) → given s < 2 ^ 64 };
 }
 
 /// Where the bytes of the replies go.

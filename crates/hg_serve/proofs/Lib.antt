@@ -13,3 +13,4 @@ pub mod Running
 pub mod Scripts
 pub mod ServeLemmas
 pub mod Closing
+pub mod Endings

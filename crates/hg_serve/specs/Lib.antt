@@ -4,3 +4,4 @@ pub mod Tables
 pub mod Lines
 pub mod Session
 pub mod Serving
+pub mod Ending

@@ -5,6 +5,7 @@ mod lines;
 mod output;
 mod parse;
 mod scan;
+mod serve;
 mod session;
 mod status;
 mod tables;

@@ -197,6 +197,7 @@ impl Session {
 
     /// Writes the reply lines that wait where memory was wanted.
     fn give_up<K: Sink>(&mut self, sink: &mut K) -> Status
+        ensures kind { (result ≡ Status.SinkFault) ⊎ (result ≡ Status.NoMemory) }
         ensures closes { (w : Option (List ℕ)) (lines : List Line)
             → Halts w (K.written sink.old) self.old.output.bytes.items lines Stop.NoMemory → Closes w (K.written sink.new) lines result }
         ensures later { K.faults sink.old ≤ K.faults sink.new }
@@ -213,6 +214,7 @@ impl Session {
         ensures closes { (w : Option (List ℕ)) (lines : List Line)
             → Halts w (K.written sink.old) self.old.output.bytes.items lines stop → Closes w (K.written sink.new) lines result }
         ensures later { K.faults sink.old ≤ K.faults sink.new }
+        ensures kind { (result ≡ Status.SinkFault) ⊎ (result ≡ Status.NoMemory) }
         ensures cause { result ≡ Status.SinkFault → (stop ≡ Stop.SinkFault) ⊎ Rose (K.faults sink.old) (K.faults sink.new) }
     {
         match stop {
