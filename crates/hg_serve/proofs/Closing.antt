@@ -1,16 +1,16 @@
 -- how a session is closed
-use Rattle.std.proofs.Common.{◌≡◌, ◌≢◌, ℕ, ◌<◌, ◌≤◌, Bool, true, false, List, [], ◌∷◌, ◌++◌, ◌||◌, length, take, Option, refl, sym, ap, ◌∙◌, subst, arith, append_assoc, append-nil, length-take}
+use Rattle.std.proofs.Common.{◌≡◌, ℕ, ◌<◌, false, List, [], ◌∷◌, ◌++◌, ◌||◌, length, take, Option, refl, sym, ap, ◌∙◌, subst, arith, append-nil, length-take}
 use Rattle.std.proofs.lemmas.List.{nil_from_length}
 use Rattle.hg_io.specs.Bytes.{then}
 use Rattle.hg_machine.specs.Script.{Line, last_part, unended, whole_lines, lines_of}
-use Rattle.hg_machine.specs.State.{State, first_state}
+use Rattle.hg_machine.specs.State.{State}
 use Rattle.hg_machine.specs.Reply.{Reply, text_of, has_error}
-use Rattle.hg_machine.specs.Run.{RunsLine, RunsLines, IsRun}
+use Rattle.hg_machine.specs.Run.{IsRun}
 use Rattle.hg_serve.specs.declared.output.Output.{Output}
 use Rattle.hg_serve.specs.declared.session.Session.{Session}
 use Rattle.hg_serve.specs.declared.session.Stop.{Stop}
 use Rattle.hg_serve.specs.declared.session.Stop.TheVariants as stop
-use Rattle.hg_serve.specs.Output.{Passes, Breaks, Tells}
+use Rattle.hg_serve.specs.Output.{Passes, Breaks}
 use Rattle.hg_serve.specs.Session.{AnswersLine, StopsIn}
 use Rattle.hg_serve.specs.Serving.{Serves, FirstOf, Halts, Answers}
 use Rattle.hg_serve.proofs.Telling.{passes-then, breaks-then, text_of-append, has_error-append, text_of-nil}
@@ -37,9 +37,10 @@ pub breaks-serves : (first now after : Option (List ℕ)) (s : Session) (taken :
     → Breaks now after s.output.bytes.items []
     → (f : FirstOf (whole_lines taken)) × Breaks first after [] (text_of f.replies)
 unfolding all-of
-breaks-serves first now after s taken serves broke =
-    (all-of (whole_lines taken) serves.replies (record { last = s.tables; runs = serves.runs }),
-        broke-all _ _ _ _ _ serves.passes broke)
+breaks-serves first now after s taken serves broke = (
+  all-of (whole_lines taken) serves.replies (record { last = s.tables; runs = serves.runs }),
+  broke-all _ _ _ _ _ serves.passes broke,
+)
 
 pub breaks-answers : (first now after : Option (List ℕ)) (output : Output) (lines : List Line) → Answers first now output lines
     → Breaks now after output.bytes.items [] → (f : FirstOf lines) × Breaks first after [] (text_of f.replies)
@@ -90,26 +91,28 @@ module _ (first now after : Option (List ℕ)) (s : Session) (tables : State) (o
 pub halts-last : (first now after : Option (List ℕ)) (s : Session) (output : Output) (taken : List ℕ) → Serves first now s taken
     → 0 < length (last_part [] taken) → (k : Stop) → StopsIn now after s.tables s.output output (last_line taken) k
     → Halts first after output.bytes.items (lines_of taken) k
-halts-last first now after s output taken serves some stop.NoMemory told =
-    (record {
-      front = whole_lines taken;
-      later = last_line taken ∷ [];
-      first = with-last-line taken some;
-      replies = serves.replies;
-      run = record { last = s.tables; runs = serves.runs };
-    },
-      subst (λ l. Passes first after [] output.bytes.items l)
-          (ap (λ l. text_of serves.replies ++ l) text_of-nil ∙ append-nil (text_of serves.replies))
-          (passes-then _ _ _ _ _ _ _ _ serves.passes told.passes))
-halts-last first now after s output taken serves some stop.SinkFault (replies, last, run, broke) =
-    (record {
-      front = lines_of taken;
-      later = [];
-      first = sym (append-nil (lines_of taken));
-      replies = serves.replies ++ replies;
-      run = record { last = last; runs = rw (with-last-line taken some) (runs-push _ _ _ _ _ _ _ serves.runs run) };
-    },
-      rw (text_of-append serves.replies replies) (breaks-then _ _ _ _ _ _ _ serves.passes broke))
+halts-last first now after s output taken serves some stop.NoMemory told = (
+  record {
+    front = whole_lines taken;
+    later = last_line taken ∷ [];
+    first = with-last-line taken some;
+    replies = serves.replies;
+    run = record { last = s.tables; runs = serves.runs };
+  },
+  subst (λ l. Passes first after [] output.bytes.items l)
+      (ap (λ l. text_of serves.replies ++ l) text_of-nil ∙ append-nil (text_of serves.replies))
+      (passes-then _ _ _ _ _ _ _ _ serves.passes told.passes),
+)
+halts-last first now after s output taken serves some stop.SinkFault (replies, last, run, broke) = (
+  record {
+    front = lines_of taken;
+    later = [];
+    first = sym (append-nil (lines_of taken));
+    replies = serves.replies ++ replies;
+    run = record { last = last; runs = rw (with-last-line taken some) (runs-push _ _ _ _ _ _ _ serves.runs run) };
+  },
+  rw (text_of-append serves.replies replies) (breaks-then _ _ _ _ _ _ _ serves.passes broke),
+)
 
 pub serves-flushed : (first now after : Option (List ℕ)) (s t : Session) (taken : List ℕ) → Serves first now s taken
     → t.tables ≡ s.tables → t.line ≡ s.line → Passes now after s.output.bytes.items [] [] → t.output.bytes.items ≡ []
@@ -119,8 +122,8 @@ serves-flushed first now after s t taken serves tables line passes empty errors 
   runs = rw tables serves.runs;
   passes =
       rw empty
-          (subst (λ l. Passes first after [] [] l) (append-nil (text_of serves.replies))
-              (passes-then first now after [] s.output.bytes.items [] (text_of serves.replies) [] serves.passes passes));
+      (subst (λ l. Passes first after [] [] l) (append-nil (text_of serves.replies))
+      (passes-then first now after [] s.output.bytes.items [] (text_of serves.replies) [] serves.passes passes));
   errors = errors ∙ serves.errors;
   part = rw line serves.part;
 }

@@ -38,7 +38,7 @@ tuple-inner tokens slice rest x opens s = by_parts s.front s.reads s.parts
       reads = sep;
       parts =
           same_tail open_sign open_sign slice ((inner ++ close ∷ []) ++ rest) (sym opens ∙ parts ∙ ap (λ l. l ++ rest) is)
-              ∙ append_assoc inner (close ∷ []) rest;
+          ∙ append_assoc inner (close ∷ []) rest;
     }
 
 pub tuple-few : (tokens rest : List Token) (x : List Value) → StandsFirst IsTuple tokens x rest → length x ≤ 16
@@ -63,7 +63,7 @@ pub create-inner : (tokens slice body end : List Token) (first name : List ℕ) 
     → StandsFirst (Separated IsColumn) slice columns (close ∷ end) × (length columns ≤ 16)
 create-inner tokens slice body end first name columns begins (inner, free, few, sep, is) parts =
     let all : create_words first ++ slice ≡ create_words name ++ ((inner ++ close ∷ []) ++ end) =
-        sym begins ∙ parts ∙ ap (λ l. l ++ end) is
+    sym begins ∙ parts ∙ ap (λ l. l ++ end) is
     in
     let rest : slice ≡ (inner ++ close ∷ []) ++ end = cc in
     (record { front = inner; reads = sep; parts = rest ∙ append_assoc inner (close ∷ []) end }, few)
@@ -82,7 +82,7 @@ pub create-parts : (tokens slice front behind end : List Token) (name : List ℕ
     → slice ≡ front ++ behind → behind ≡ close ∷ end → tokens ≡ (create_words name ++ (front ++ close ∷ [])) ++ end
 create-parts tokens slice front behind end name begins parts closes =
     begins
-        ∙ ap (λ l. create_words name ++ l) (parts ∙ ap (λ l. front ++ l) closes ∙ sym (append_assoc front (close ∷ []) end))
+    ∙ ap (λ l. create_words name ++ l) (parts ∙ ap (λ l. front ++ l) closes ∙ sym (append_assoc front (close ∷ []) end))
 
 -- INSERT
 

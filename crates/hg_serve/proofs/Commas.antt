@@ -1,5 +1,5 @@
 -- a list of parts with commas between them, read from its front
-use Rattle.std.proofs.Common.{◌≡◌, ◌<◌, ◌+◌, List, [], ◌∷◌, ◌++◌, length, refl, sym, ap, ◌∙◌, subst, append_assoc, append-nil, arith, length-append}
+use Rattle.std.proofs.Common.{◌≡◌, ◌<◌, List, [], ◌∷◌, ◌++◌, length, refl, sym, ap, ◌∙◌, subst, append_assoc, arith, length-append}
 use Rattle.hg_machine.specs.declared.tokens.Token.{Token}
 use Rattle.hg_machine.specs.declared.tokens.Token.TheVariants as token
 use Rattle.hg_machine.specs.declared.tokens.Sign.TheVariants as sign
@@ -18,9 +18,13 @@ Begun P (x ∷ xs) tokens =
 begun-push : {X : Type 0} (P : X → List Token → Type 0) (xs : List X) (b : List Token) (x : X) (f : List Token)
     → Begun P xs b → P x f → Begun P (xs ++ x ∷ []) (b ++ (f ++ comma ∷ []))
 begun-push P [] b x f none p = (f, [], p, refl, ap (λ l. l ++ (f ++ comma ∷ [])) none)
-begun-push P (y ∷ ys) b x f (first, others, q, begun, is) p =
-    (first, others ++ (f ++ comma ∷ []), q, begun-push P ys others x f begun p,
-        ap (λ l. l ++ (f ++ comma ∷ [])) is ∙ append_assoc first (comma ∷ others) (f ++ comma ∷ []))
+begun-push P (y ∷ ys) b x f (first, others, q, begun, is) p = (
+  first,
+  others ++ (f ++ comma ∷ []),
+  q,
+  begun-push P ys others x f begun p,
+  ap (λ l. l ++ (f ++ comma ∷ [])) is ∙ append_assoc first (comma ∷ others) (f ++ comma ∷ []),
+)
 
 begun-last : {X : Type 0} (P : X → List Token → Type 0) (xs : List X) (b : List Token) (x : X) (f : List Token)
     → Begun P xs b → P x f → Separated P (xs ++ x ∷ []) (b ++ f)
@@ -74,8 +78,11 @@ more_ahead {X} P items rest x behind more xs last only follows ends a =
         let same = only.only y last (record { front = front; reads = sep; parts = parts }) in
         absurd (ends.none more (sym same.1 ∙ follows))
     by_parts (y ∷ z ∷ zs) front (first, others, p, sep, joined) parts is =
-        let same = only.only y (comma ∷ (others ++ last)) (record { front = first; reads = p;
-          parts = parts ∙ ap (λ l. l ++ last) joined ∙ append_assoc first (comma ∷ others) last }) in
+        let same = only.only y (comma ∷ (others ++ last)) (record {
+          front = first;
+          reads = p;
+          parts = parts ∙ ap (λ l. l ++ last) joined ∙ append_assoc first (comma ∷ others) last;
+        }) in
         let tail : comma ∷ more ≡ comma ∷ (others ++ last) = sym follows ∙ same.1 in
         record {
           others = z ∷ zs;
@@ -93,7 +100,7 @@ progress-goes_on P tokens items rest x behind more progress only follows =
       begun = begun-push P items progress.before x front progress.begun only.stands.reads;
       parts =
           progress.parts ∙ ap (λ l. progress.before ++ l) (only.stands.parts ∙ ap (λ l. front ++ l) follows ∙ sym (append_assoc front (comma ∷ []) more))
-              ∙ sym (append_assoc progress.before (front ++ comma ∷ []) more);
+          ∙ sym (append_assoc progress.before (front ++ comma ∷ []) more);
       ahead = λ xs last stands ends. more_ahead P items rest x behind more xs last only follows ends (progress.ahead xs last stands ends);
     }
 
@@ -122,8 +129,11 @@ progress-only {X} P tokens items rest x behind xs last progress only ends stands
         let same = only.only y last (record { front = front; reads = sep; parts = parts }) in
         (ap (λ l. items ++ l ∷ []) same.0 ∙ sym is, same.1)
     by_parts (y ∷ z ∷ zs) front (first, others, p, sep, joined) parts is =
-        let same = only.only y (comma ∷ (others ++ last)) (record { front = first; reads = p;
-          parts = parts ∙ ap (λ l. l ++ last) joined ∙ append_assoc first (comma ∷ others) last }) in
+        let same = only.only y (comma ∷ (others ++ last)) (record {
+          front = first;
+          reads = p;
+          parts = parts ∙ ap (λ l. l ++ last) joined ∙ append_assoc first (comma ∷ others) last;
+        }) in
         absurd (ends (others ++ last) same.1)
 
 -- nothing stands first
@@ -138,8 +148,11 @@ progress-stops {X} P tokens items rest xs last progress nothing (stands, ends) =
     by_parts [] front sep parts = sep
     by_parts (y ∷ []) front sep parts = nothing y last (record { front = front; reads = sep; parts = parts })
     by_parts (y ∷ z ∷ zs) front (first, others, p, sep, joined) parts =
-        nothing y (comma ∷ (others ++ last)) (record { front = first; reads = p;
-          parts = parts ∙ ap (λ l. l ++ last) joined ∙ append_assoc first (comma ∷ others) last })
+        nothing y (comma ∷ (others ++ last)) (record {
+          front = first;
+          reads = p;
+          parts = parts ∙ ap (λ l. l ++ last) joined ∙ append_assoc first (comma ∷ others) last;
+        })
 
 pub shorter : (rest front behind more : List Token) → rest ≡ front ++ behind → behind ≡ comma ∷ more → length more < length rest
 shorter rest front behind more parts follows =

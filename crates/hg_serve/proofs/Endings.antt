@@ -1,17 +1,16 @@
 -- from where a session stands to how a run ends
-use Rattle.std.proofs.Common.{◌≡◌, ℕ, ◌<◌, ◌≤◌, ◌+◌, ◌-◌, ◌^◌, min, Bool, true, false, List, [], ◌∷◌, ◌++◌, length, take, Option, None, Some, Result, MatchResult, refl, sym, ap, ◌∙◌, subst, arith, inl, inr, ◌⊎◌, append_assoc, append-nil, length-take, length-append}
+use Rattle.std.proofs.Common.{◌≡◌, ℕ, ◌<◌, ◌≤◌, ◌+◌, ◌^◌, List, [], ◌++◌, length, take, Option, None, Some, refl, sym, ap, ◌∙◌, arith, inl, inr, ◌⊎◌, append_assoc, append-nil, length-append}
 use Rattle.hg_io.specs.Bytes.{then, before, AtEnd, before-before}
 use Rattle.hg_io.specs.Count.{raised, Rose}
-use Rattle.hg_machine.specs.Script.{Line, last_part, unended, whole_lines, lines_of}
-use Rattle.hg_machine.specs.Reply.{Reply, text_of}
-use Rattle.hg_machine.specs.Run.{IsRun}
-use Rattle.hg_machine.specs.Outcome.{Outside, Took, Answers, AnswersAll, AnswersWholeLines, AnswersUpToLimit, AnswersFirstLines, AnswersInPart}
+use Rattle.hg_machine.specs.Script.{last_part, unended, whole_lines, lines_of}
+use Rattle.hg_machine.specs.Reply.{text_of}
+use Rattle.hg_machine.specs.Outcome.{Outside, Took, AnswersWholeLines, AnswersUpToLimit, AnswersFirstLines, AnswersInPart}
 use Rattle.hg_serve.specs.declared.session.Session.{Session}
-use Rattle.hg_serve.specs.declared.status.Status.{Status}
-use Rattle.hg_serve.specs.declared.status.Status.TheVariants as status
-use Rattle.hg_serve.specs.Output.{Passes, Breaks}
-use Rattle.hg_serve.specs.Serving.{Serves, FirstOf, AllAnswered, Closes}
-use Rattle.hg_serve.specs.Ending.{Ends, outside}
+use Rattle.hg_serve.specs.declared.statuses.Status.{Status}
+use Rattle.hg_serve.specs.declared.statuses.Status.TheVariants as status
+use Rattle.hg_serve.specs.Output.{Breaks}
+use Rattle.hg_serve.specs.Serving.{Serves, FirstOf, Closes}
+use Rattle.hg_serve.specs.Ending.{Ends}
 
 -- counts
 
@@ -36,7 +35,7 @@ took-more old mid new taken bytes n t left count given = record {
   left = t.left ∙ ap (before taken) left ∙ before-before new.left taken bytes;
   given =
       given ∙ ap (λ g. raised g n) t.given ∙ raised-raised old.given (length taken) n
-          ∙ ap (raised old.given) (ap (λ k. length taken + k) (sym count) ∙ sym (length-append taken bytes));
+      ∙ ap (raised old.given) (ap (λ k. length taken + k) (sym count) ∙ sym (length-append taken bytes));
 }
 
 pub took-same : (old mid new : Outside) (taken : List ℕ) → Took old mid taken → new.left ≡ mid.left → new.given ≡ mid.given
@@ -48,8 +47,8 @@ pub took-end : (old mid new : Outside) (taken buffer : List ℕ) (n : ℕ) → T
     → n ≡ 0 → new.given ≡ raised mid.given n → mid.given < 2 ^ 64 → Took old new taken
 took-end old mid new taken buffer n t left none given small =
     took-same old mid new taken t
-        (sym (left ∙ ap (λ k. before (take k buffer) new.left) none ∙ sym (before-nil new.left)))
-        (omega (arith, given, none, small))
+    (sym (left ∙ ap (λ k. before (take k buffer) new.left) none ∙ sym (before-nil new.left)))
+    (omega (arith, given, none, small))
 
 -- how it ends
 
@@ -109,11 +108,25 @@ module _ (old new : Outside) (taken : List ℕ) (took : Took old new taken) wher
 
   pub closes : (s : Status) → length taken < 2 ^ 32 → AtEnd new.left → Closes old.written new.written (lines_of taken) s → Ends old new s
   closes status.Clean few last a =
-      record { taken = taken; took = took; few = few; at_end = last; replies = a.replies;
-        answers = record { run = a.run; text = a.text }; errors_shown = a.shown }
+      record {
+        taken = taken;
+        took = took;
+        few = few;
+        at_end = last;
+        replies = a.replies;
+        answers = record { run = a.run; text = a.text };
+        errors_shown = a.shown;
+      }
   closes status.Errors few last a =
-      record { taken = taken; took = took; few = few; at_end = last; replies = a.replies;
-        answers = record { run = a.run; text = a.text }; errors_shown = a.shown }
+      record {
+        taken = taken;
+        took = took;
+        few = few;
+        at_end = last;
+        replies = a.replies;
+        answers = record { run = a.run; text = a.text };
+        errors_shown = a.shown;
+      }
   closes status.Usage few last c = absurd c
   closes status.SourceFault few last c = absurd c
   closes status.SinkFault few last c = ends-in-part c
@@ -124,12 +137,22 @@ module _ (old new : Outside) (taken : List ℕ) (took : Took old new taken) wher
     all_text : new.written ≡ then old.written (text_of serves.replies)
     all_text =
         serves.passes.written
-            ∙ ap (then old.written) (sym (serves.passes.parts ∙ ap (λ l. serves.passes.passed ++ l) empty ∙ append-nil serves.passes.passed))
+        ∙ ap (then old.written) (sym (serves.passes.parts ∙ ap (λ l. serves.passes.passed ++ l) empty ∙ append-nil serves.passes.passed))
 
     pub source-breaks : length taken < 2 ^ 32 → AnswersWholeLines old new
-    source-breaks few = record { taken = taken; took = took; few = few; replies = serves.replies;
-      answers = record { run = record { last = s.tables; runs = serves.runs }; text = all_text } }
+    source-breaks few = record {
+      taken = taken;
+      took = took;
+      few = few;
+      replies = serves.replies;
+      answers = record { run = record { last = s.tables; runs = serves.runs }; text = all_text };
+    }
 
     pub limit-comes : length taken ≡ 2 ^ 32 → AnswersUpToLimit old new
-    limit-comes all = record { taken = taken; took = took; all = all; replies = serves.replies;
-      answers = record { run = record { last = s.tables; runs = serves.runs }; text = all_text } }
+    limit-comes all = record {
+      taken = taken;
+      took = took;
+      all = all;
+      replies = serves.replies;
+      answers = record { run = record { last = s.tables; runs = serves.runs }; text = all_text };
+    }

@@ -8,7 +8,6 @@ use Rattle.hg_machine.specs.declared.tokens.Token.{Token}
 use Rattle.hg_machine.specs.Tokens.{tokens_of, is_all_blank}
 use Rattle.hg_machine.specs.Grammar.{StandsFor}
 use Rattle.hg_machine.specs.Script.{Line, without_return, text_of_line}
-use Rattle.hg_machine.specs.Run.{IsReading, IsBlankLine}
 use Rattle.hg_serve.specs.declared.lines.Asked.{Asked}
 use Rattle.hg_serve.specs.declared.lines.Asked.TheVariants as asked
 use Rattle.hg_serve.specs.Lines.{TextAsksFor, AsksFor}
@@ -32,9 +31,10 @@ long-whole kept whole is long = omega (arith, ap length is, length-take 4097 who
 pub asks-long : (kept whole : List ℕ) (ended : Bool) → kept ≡ take 4097 whole → 4096 < length kept
     → AsksFor (record { bytes = whole; ended = ended }) asked.SyntaxError
 asks-long kept whole ended is long =
-    let over : 4096 < length whole = long-whole kept whole is long in
-    (λ blank. absurd (let short : length whole ≤ 4096 = blank.short in omega arith),
-        λ s reading. absurd (let short : length whole ≤ 4096 = reading.short in omega arith))
+    let over : 4096 < length whole = long-whole kept whole is long in (
+      λ blank. absurd (let short : length whole ≤ 4096 = blank.short in omega arith),
+      λ s reading. absurd (let short : length whole ≤ 4096 = reading.short in omega arith),
+    )
 
 asks-short : (line : Line) (a : Asked) → length line.bytes ≤ 4096 → TextAsksFor (text_of_line line) a → AsksFor line a
 asks-short line asked.Nothing short blank = record { short = short; blank = blank }
@@ -47,7 +47,7 @@ pub asks-kept : (kept whole text : List ℕ) (ended : Bool) (a : Asked) → kept
 asks-kept kept whole text ended a is short same asks =
     let bytes : kept ≡ whole = sym (short-whole kept whole is short) in
     subst (λ b. AsksFor (record { bytes = b; ended = ended }) a) bytes
-        (asks-short (record { bytes = kept; ended = ended }) a short (subst (λ t. TextAsksFor t a) same asks))
+    (asks-short (record { bytes = kept; ended = ended }) a short (subst (λ t. TextAsksFor t a) same asks))
 
 pub text-cut : (line front : List ℕ) (last : ℕ) (ended : Bool) → ended ≡ true → line ≡ front ++ last ∷ [] → last ≡ 13
     → front ≡ text_of_line (record { bytes = line; ended = ended })
@@ -67,9 +67,10 @@ asks-ok text kept ended (Err e) short same asks = asks
 
 pub no-reading : (text : List ℕ) (tokens made : List Token) (blank : Bool) → blank ≡ is_all_blank text → blank ≡ false
     → tokens_of text ≡ Some made → tokens ≡ made → ((s : Statement) → ¬ StandsFor s tokens) → TextAsksFor text asked.SyntaxError
-no-reading text tokens made blank is not_blank reads same none =
-    (λ all. let h : true ≡ false = sym all ∙ sym is ∙ not_blank in cc,
-        λ s stands. by_tokens s stands.0 stands.1 stands.2)
+no-reading text tokens made blank is not_blank reads same none = (
+  λ all. let h : true ≡ false = sym all ∙ sym is ∙ not_blank in cc,
+  λ s stands. by_tokens s stands.0 stands.1 stands.2,
+)
   where
     by_tokens : (s : Statement) (others : List Token) → tokens_of text ≡ Some others → StandsFor s others → ⊥
     by_tokens s others is' stands =

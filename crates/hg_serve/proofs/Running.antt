@@ -1,5 +1,5 @@
 -- turns that were given, and turns that go on to the end
-use Rattle.std.proofs.Common.{◌≡◌, ℕ, List, [], ◌∷◌, ◌++◌, Option, None, Some, Result, Ok, Err, OnErr, Bool, true, false, refl, sym, ap, ◌∙◌, subst, append-nil}
+use Rattle.std.proofs.Common.{◌≡◌, ℕ, List, [], ◌∷◌, ◌++◌, Option, None, Some, Result, Ok, Err, OnErr, true, false, refl, sym, ap, ◌∙◌, subst, append-nil}
 use Rattle.std.specs.Option.{is_some}
 use Rattle.std.proofs.lemmas.List.Sorted.{IsPermutation-refl}
 use Rattle.hg_model.specs.declared.values.Value.{Value}
@@ -73,12 +73,15 @@ pub breaks-within : (w0 w1 w2 : Option (List ℕ)) (first now : State) (before a
 breaks-within w0 w1 w2 first now before after given so_far told broke =
     let rest = go_on now in
     let text : text_of (given ++ rest.replies) ≡ text_of given ++ [] ++ text_of rest.replies =
-        text_of-append given rest.replies ∙ ap (λ l. l ++ text_of rest.replies) (sym (append-nil (text_of given)))
-    in
-    (given ++ rest.replies, rest.last, some-then first now rest.last given rest.replies so_far rest.turns,
-        rw text
-            (breaks-more w0 w2 before.bytes.items (text_of given ++ []) (text_of rest.replies)
-                (breaks-then w0 w1 w2 before.bytes.items after.bytes.items (text_of given) [] told.passes broke)))
+    text_of-append given rest.replies ∙ ap (λ l. l ++ text_of rest.replies) (sym (append-nil (text_of given)))
+    in (
+      given ++ rest.replies,
+      rest.last,
+      some-then first now rest.last given rest.replies so_far rest.turns,
+      rw text
+          (breaks-more w0 w2 before.bytes.items (text_of given ++ []) (text_of rest.replies)
+          (breaks-then w0 w1 w2 before.bytes.items after.bytes.items (text_of given) [] told.passes broke)),
+    )
 
 pub none-left : {A : Type 0} (o : Option A) → false ≡ is_some o → o ≡ None
 none-left None is = refl

@@ -1,5 +1,5 @@
 -- how the tokens of a line follow from those of its rest
-use Rattle.std.proofs.Common.{◌≡◌, ℕ, ◌<◌, ◌≤◌, ◌+◌, List, [], ◌∷◌, ◌++◌, length, drop, get_or, Option, None, Some, refl, sym, ap, ◌∙◌, add-one, drop-cons}
+use Rattle.std.proofs.Common.{◌≡◌, ℕ, ◌<◌, ◌≤◌, ◌+◌, List, [], ◌++◌, length, drop, get_or, None, Some, sym, ap, ◌∙◌, add-one, drop-cons}
 use Rattle.std.proofs.lemmas.List.{drop_all}
 use Rattle.std.specs.Option.{option_and_then}
 use Rattle.hg_machine.specs.declared.tokens.Token.{Token}
@@ -10,7 +10,7 @@ use Rattle.hg_machine.specs.Tokens.{tokens_from, tokens_of, after, ended}
 -- the tokens where the bytes from the k-th on are left
 tokens_at : (done : List Token) (part : Part) (bytes : List ℕ) (k : ℕ) → k < length bytes
     → tokens_from done part (drop k bytes)
-        ≡ option_and_then (λ n. tokens_from n.0 n.1 (drop (k + 1) bytes)) (after done part (get_or bytes k 0))
+    ≡ option_and_then (λ n. tokens_from n.0 n.1 (drop (k + 1) bytes)) (after done part (get_or bytes k 0))
 unfolding tokens_from
 tokens_at done part bytes k inside = ap (tokens_from done part) (drop-cons bytes k 0 inside) ∙ rw add-one
 
@@ -24,7 +24,7 @@ module _ (done : List Token) (part : Part) (bytes : List ℕ) (k : ℕ) (inside 
   pub scan-stops : after done part (get_or bytes k 0) ≡ None → tokens_of bytes ≡ None
   scan-stops is =
       sym so_far ∙ tokens_at done part bytes k inside
-          ∙ ap (option_and_then (λ n. tokens_from n.0 n.1 (drop (k + 1) bytes))) is
+      ∙ ap (option_and_then (λ n. tokens_from n.0 n.1 (drop (k + 1) bytes))) is
 
 pub scan-begins : (done : List Token) (bytes : List ℕ) → done ≡ [] → tokens_from done Between bytes ≡ tokens_of bytes
 unfolding tokens_of

@@ -1,7 +1,7 @@
 -- how the lines of a script grow by a byte
-use Rattle.std.proofs.Common.{◌≡◌, ℕ, Bool, true, false, List, [], ◌∷◌, ◌++◌, ◌==◌, if◌then◌else◌, refl, sym, ap, ◌∙◌, append_assoc, append-nil, subst}
-use Rattle.hg_machine.specs.Script.{Line, ended_lines, last_part, unended, whole_lines, lines_of}
-use Rattle.hg_machine.specs.State.{State, first_state}
+use Rattle.std.proofs.Common.{◌≡◌, ℕ, true, false, List, [], ◌∷◌, ◌++◌, ◌==◌, if◌then◌else◌, refl, sym, ap, ◌∙◌, append_assoc, append-nil, subst}
+use Rattle.hg_machine.specs.Script.{Line, ended_lines, last_part, whole_lines}
+use Rattle.hg_machine.specs.State.{State}
 use Rattle.hg_machine.specs.Reply.{Reply}
 use Rattle.hg_machine.specs.Run.{RunsLine, RunsLines}
 
@@ -11,19 +11,19 @@ ended_lines-append part [] b = refl
 ended_lines-append part (x ∷ xs) b =
     let line : Line = record { bytes = part; ended = true } in
     elim (x == 10) as
-        (λ t. (if t then line ∷ ended_lines [] (xs ++ b) else ended_lines (part ++ x ∷ []) (xs ++ b))
-            ≡ (if t then line ∷ ended_lines [] xs else ended_lines (part ++ x ∷ []) xs)
-                ++ ended_lines (if t then last_part [] xs else last_part (part ++ x ∷ []) xs) b)
-        [ true ↦ ap (λ l. line ∷ l) (ended_lines-append [] xs b) | false ↦ ended_lines-append (part ++ x ∷ []) xs b ]
+    (λ t. (if t then line ∷ ended_lines [] (xs ++ b) else ended_lines (part ++ x ∷ []) (xs ++ b))
+    ≡ (if t then line ∷ ended_lines [] xs else ended_lines (part ++ x ∷ []) xs)
+    ++ ended_lines (if t then last_part [] xs else last_part (part ++ x ∷ []) xs) b)
+    [ true ↦ ap (λ l. line ∷ l) (ended_lines-append [] xs b) | false ↦ ended_lines-append (part ++ x ∷ []) xs b ]
 
 pub last_part-append : (part a b : List ℕ) → last_part part (a ++ b) ≡ last_part (last_part part a) b
 unfolding last_part
 last_part-append part [] b = refl
 last_part-append part (x ∷ xs) b =
     elim (x == 10) as
-        (λ t. (if t then last_part [] (xs ++ b) else last_part (part ++ x ∷ []) (xs ++ b))
-            ≡ last_part (if t then last_part [] xs else last_part (part ++ x ∷ []) xs) b)
-        [ true ↦ last_part-append [] xs b | false ↦ last_part-append (part ++ x ∷ []) xs b ]
+    (λ t. (if t then last_part [] (xs ++ b) else last_part (part ++ x ∷ []) (xs ++ b))
+    ≡ last_part (if t then last_part [] xs else last_part (part ++ x ∷ []) xs) b)
+    [ true ↦ last_part-append [] xs b | false ↦ last_part-append (part ++ x ∷ []) xs b ]
 
 pub whole_lines-append : (a b : List ℕ) → whole_lines (a ++ b) ≡ whole_lines a ++ ended_lines (last_part [] a) b
 unfolding whole_lines
@@ -53,9 +53,14 @@ pub runs-push : (old mid new : State) (lines : List Line) (line : Line) (rs ss :
 unfolding RunsLines
 runs-push old mid new [] line rs ss (none, is) run =
     (ss, [], new, subst (λ s. RunsLine s line ss new) is run, (refl, refl), ap (λ l. l ++ ss) none ∙ sym (append-nil ss))
-runs-push old mid new (l ∷ ls) line rs ss (first, others, between, runs, more, joined) run =
-    (first, others ++ ss, between, runs, runs-push between mid new ls line others ss more run,
-        ap (λ r. r ++ ss) joined ∙ append_assoc first others ss)
+runs-push old mid new (l ∷ ls) line rs ss (first, others, between, runs, more, joined) run = (
+  first,
+  others ++ ss,
+  between,
+  runs,
+  runs-push between mid new ls line others ss more run,
+  ap (λ r. r ++ ss) joined ∙ append_assoc first others ss,
+)
 
 pub whole_lines-nil : whole_lines [] ≡ []
 unfolding whole_lines ended_lines

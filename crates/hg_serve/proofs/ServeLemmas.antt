@@ -1,16 +1,15 @@
 -- how a session goes on by a byte
-use Rattle.std.proofs.Common.{◌≡◌, ◌≢◌, ℕ, ◌<◌, ◌≤◌, ◌+◌, Bool, true, false, List, [], ◌∷◌, ◌++◌, ◌==◌, ◌||◌, length, take, Option, refl, sym, ap, ◌∙◌, subst, arith, append_assoc, append-nil, length-take, length-append, get_or, drop, drop-cons, add-one}
+use Rattle.std.proofs.Common.{◌≡◌, ◌≢◌, ℕ, ◌<◌, ◌≤◌, ◌+◌, true, false, List, [], ◌∷◌, ◌++◌, ◌==◌, ◌||◌, length, take, Option, sym, ap, ◌∙◌, subst, arith, append_assoc, append-nil, length-take, length-append, get_or, drop, drop-cons, add-one}
 use Rattle.std.proofs.lemmas.Bool.Decides.{nat_tests}
 use Rattle.std.proofs.lemmas.List.{take_all, take-append-le, take-append-drop}
-use Rattle.hg_machine.specs.Script.{Line, ended_lines, last_part, whole_lines}
-use Rattle.hg_machine.specs.State.{State, first_state}
-use Rattle.hg_machine.specs.Reply.{Reply, text_of, has_error}
-use Rattle.hg_machine.specs.Run.{RunsLine, RunsLines, IsRun}
+use Rattle.hg_machine.specs.Script.{ended_lines, last_part, whole_lines}
+use Rattle.hg_machine.specs.State.{first_state}
+use Rattle.hg_machine.specs.Reply.{text_of, has_error}
 use Rattle.hg_serve.specs.declared.output.Output.{Output}
 use Rattle.hg_serve.specs.declared.session.Session.{Session}
 use Rattle.hg_serve.specs.declared.session.Stop.{Stop}
 use Rattle.hg_serve.specs.declared.session.Stop.TheVariants as stop
-use Rattle.hg_serve.specs.Output.{Passes, Breaks, Tells}
+use Rattle.hg_serve.specs.Output.{Passes}
 use Rattle.hg_serve.specs.Session.{AnswersLine, StopsIn}
 use Rattle.hg_serve.specs.Serving.{Serves, FirstOf, Halts}
 use Rattle.hg_serve.proofs.Telling.{passes-then, breaks-then, text_of-append, has_error-append, text_of-nil, has_error-nil, passes-none}
@@ -61,26 +60,28 @@ module _ (first now then : Option (List ℕ)) (s t : Session) (taken : List ℕ)
 pub halts-line : (first now after : Option (List ℕ)) (s : Session) (output : Output) (taken : List ℕ) (b : ℕ) → Serves first now s taken → b ≡ 10
     → (k : Stop) → StopsIn now after s.tables s.output output (record { bytes = last_part [] taken; ended = true }) k
     → Halts first after output.bytes.items (whole_lines (taken ++ b ∷ [])) k
-halts-line first now after s output taken b serves feed stop.NoMemory told =
-      (record {
-        front = whole_lines taken;
-        later = ended_lines (last_part [] taken) (b ∷ []);
-        first = whole_lines-append taken (b ∷ []);
-        replies = serves.replies;
-        run = record { last = s.tables; runs = serves.runs };
-      },
-        subst (λ l. Passes first after [] output.bytes.items l)
-            (ap (λ l. text_of serves.replies ++ l) text_of-nil ∙ append-nil (text_of serves.replies))
-            (passes-then _ _ _ _ _ _ _ _ serves.passes told.passes))
-halts-line first now after s output taken b serves feed stop.SinkFault (replies, last, run, broke) =
-      (record {
-        front = whole_lines (taken ++ b ∷ []);
-        later = [];
-        first = sym (append-nil (whole_lines (taken ++ b ∷ [])));
-        replies = serves.replies ++ replies;
-        run = record { last = last; runs = rw (whole_lines-feed taken b feed) (runs-push _ _ _ _ _ _ _ serves.runs run) };
-      },
-        rw (text_of-append serves.replies replies) (breaks-then _ _ _ _ _ _ _ serves.passes broke))
+halts-line first now after s output taken b serves feed stop.NoMemory told = (
+  record {
+    front = whole_lines taken;
+    later = ended_lines (last_part [] taken) (b ∷ []);
+    first = whole_lines-append taken (b ∷ []);
+    replies = serves.replies;
+    run = record { last = s.tables; runs = serves.runs };
+  },
+  subst (λ l. Passes first after [] output.bytes.items l)
+      (ap (λ l. text_of serves.replies ++ l) text_of-nil ∙ append-nil (text_of serves.replies))
+      (passes-then _ _ _ _ _ _ _ _ serves.passes told.passes),
+)
+halts-line first now after s output taken b serves feed stop.SinkFault (replies, last, run, broke) = (
+  record {
+    front = whole_lines (taken ++ b ∷ []);
+    later = [];
+    first = sym (append-nil (whole_lines (taken ++ b ∷ [])));
+    replies = serves.replies ++ replies;
+    run = record { last = last; runs = rw (whole_lines-feed taken b feed) (runs-push _ _ _ _ _ _ _ serves.runs run) };
+  },
+  rw (text_of-append serves.replies replies) (breaks-then _ _ _ _ _ _ _ serves.passes broke),
+)
 
 pub serves-start : (w : Option (List ℕ)) (s : Session) → s.tables ≡ first_state → s.output.bytes.items ≡ [] → s.output.errors ≡ false
     → s.line.items ≡ [] → Serves w w s []
@@ -98,7 +99,7 @@ first-later taken more lines = record {
   later = lines.later ++ ended_lines (last_part [] taken) more;
   first =
       whole_lines-append taken more ∙ ap (λ l. l ++ ended_lines (last_part [] taken) more) lines.first
-          ∙ append_assoc lines.front lines.later (ended_lines (last_part [] taken) more);
+      ∙ append_assoc lines.front lines.later (ended_lines (last_part [] taken) more);
   replies = lines.replies;
   run = lines.run;
 }
@@ -114,5 +115,5 @@ pub parts-at : (taken bytes : List ℕ) (i : ℕ) → i < length bytes
 parts-at taken bytes i inside =
     let tail : drop i bytes ≡ get_or bytes i 0 ∷ drop (i + 1) bytes = drop-cons bytes i 0 inside ∙ rw add-one in
     append_assoc (taken ++ take i bytes) (get_or bytes i 0 ∷ []) (drop (i + 1) bytes)
-        ∙ append_assoc taken (take i bytes) (get_or bytes i 0 ∷ drop (i + 1) bytes)
-        ∙ ap (λ l. taken ++ (take i bytes ++ l)) (sym tail) ∙ ap (λ l. taken ++ l) (take-append-drop i bytes)
+    ∙ append_assoc taken (take i bytes) (get_or bytes i 0 ∷ drop (i + 1) bytes)
+    ∙ ap (λ l. taken ++ (take i bytes ++ l)) (sym tail) ∙ ap (λ l. taken ++ l) (take-append-drop i bytes)

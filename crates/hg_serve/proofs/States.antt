@@ -1,5 +1,5 @@
 -- what a change of the tables in memory makes of their state
-use Rattle.std.proofs.Common.{◌≡◌, ℕ, List, [], Option, None, Some, refl, sym, ap, ◌∙◌}
+use Rattle.std.proofs.Common.{◌≡◌, ℕ, List, [], Option, None, Some, refl, ap, ◌∙◌}
 use Rattle.std.specs.Option.{option_map, unwrap_or}
 use Rattle.std.specs.List.{slice_get}
 use Rattle.hg_machine.specs.State.{State, TableState, IsTableAt}
@@ -32,5 +32,5 @@ pub select-begins : (old : State) (tables : List TableState) (before : Option Pl
     → seen tables (Some (record { table = k; next = 0 })) ≡ record old { left = Some table.rows }
 select-begins old tables before name k table is at =
     left-changed old tables before (Some (record { table = k; next = 0 })) is
-        ∙ ap (λ rows. record old { left = Some rows })
-            (rows-in_place tables k table (ap (λ (s : State). slice_get s.tables k) is ∙ at.place))
+    ∙ ap (λ rows. record old { left = Some rows })
+    (rows-in_place tables k table (ap (λ (s : State). slice_get s.tables k) is ∙ at.place))

@@ -1,6 +1,5 @@
 -- how what goes to the sink adds up
 use Rattle.std.proofs.Common.{◌≡◌, ℕ, List, [], ◌∷◌, ◌++◌, ◌||◌, Bool, true, false, Option, None, Some, refl, sym, ap, ◌∙◌, append_assoc, append-nil}
-use Rattle.std.specs.List.{flat_map, list_any}
 use Rattle.std.proofs.lemmas.Grind.{flat_map-append}
 use Rattle.hg_io.specs.Bytes.{then, then-then}
 use Rattle.hg_machine.specs.Reply.{Reply, reply_text, is_error, text_of, has_error}
@@ -48,7 +47,7 @@ passes-then w0 w1 w2 b0 b1 b2 t u p q = record {
   passed = p.passed ++ q.passed;
   parts =
       sym (append_assoc b0 t u) ∙ ap (λ l. l ++ u) p.parts ∙ append_assoc p.passed b1 u ∙ ap (λ l. p.passed ++ l) q.parts
-          ∙ sym (append_assoc p.passed q.passed b2);
+      ∙ sym (append_assoc p.passed q.passed b2);
   written = q.written ∙ ap (λ w. then w q.passed) p.written ∙ then-then w0 p.passed q.passed;
 }
 
@@ -58,7 +57,7 @@ breaks-then w0 w1 w2 b0 b1 t u p q = record {
   rest = q.rest;
   parts =
       sym (append_assoc b0 t u) ∙ ap (λ l. l ++ u) p.parts ∙ append_assoc p.passed b1 u ∙ ap (λ l. p.passed ++ l) q.parts
-          ∙ sym (append_assoc p.passed q.front q.rest);
+      ∙ sym (append_assoc p.passed q.front q.rest);
   written = q.written ∙ ap (λ w. then w q.front) p.written ∙ then-then w0 p.passed q.front;
 }
 

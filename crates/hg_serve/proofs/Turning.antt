@@ -1,7 +1,5 @@
 -- a turn of the SELECT at work
 use Rattle.std.proofs.Common.{◌≡◌, ℕ, suc, ◌+◌, ◌<◌, ◌≤◌, List, [], ◌∷◌, length, drop, get_or, Option, None, Some, refl, sym, ap, ◌∙◌, subst, arith, add-one, drop-cons, length-drop}
-use Rattle.std.specs.Option.{option_map, unwrap_or}
-use Rattle.std.specs.List.{slice_get}
 use Rattle.std.specs.List.Sorted.{IsPermutation}
 use Rattle.std.proofs.lemmas.List.{drop_all}
 use Rattle.std.proofs.lemmas.List.Sorted.{IsPermutation-refl}
@@ -29,10 +27,10 @@ module _ (old : State) (tables : List TableState) (opened : Option Place) (place
   turn-gives values inside here =
       let next : Place = record { table = place.table; next = place.next + 1 } in
       let parts : drop place.next rows ≡ values ∷ drop (place.next + 1) rows =
-          drop-cons rows place.next [] inside ∙ rw (add-one, here []) in
+      drop-cons rows place.next [] inside ∙ rw (add-one, here []) in
       gives_row (drop place.next rows) (drop (place.next + 1) rows) values rows_left
-          (subst (λ l. IsPermutation (drop place.next rows) l) parts (IsPermutation-refl (drop place.next rows))) refl
-          (left-changed old tables opened (Some next) is ∙ ap (λ r. record old { left = Some (drop (place.next + 1) r) }) (sym same))
+      (subst (λ l. IsPermutation (drop place.next rows) l) parts (IsPermutation-refl (drop place.next rows))) refl
+      (left-changed old tables opened (Some next) is ∙ ap (λ r. record old { left = Some (drop (place.next + 1) r) }) (sym same))
 
   pub turn-nearer : place.next < length rows → suc (length (drop (place.next + 1) (rows_at tables place.table))) < turns_left old.left
   turn-nearer inside =

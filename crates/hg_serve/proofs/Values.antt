@@ -1,5 +1,5 @@
 -- the four forms of a value
-use Rattle.std.proofs.Common.{◌≡◌, ℕ, List, [], ◌∷◌, codes, ℤ, pos, refl, sym, ap, ◌∙◌, subst, inl, inr, FitsSigned}
+use Rattle.std.proofs.Common.{◌≡◌, ℕ, List, [], ◌∷◌, codes, pos, refl, sym, ap, ◌∙◌, subst, inl, inr, FitsSigned}
 use Rattle.std.specs.Int.{w32}
 use Rattle.hg_model.specs.declared.values.Value.{Value}
 use Rattle.hg_model.specs.declared.values.Value.TheVariants as value

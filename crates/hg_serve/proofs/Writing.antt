@@ -7,4 +7,4 @@ pub more_written : (first old new : Option (List ℕ)) (bytes rest : List ℕ) (
     → new ≡ then old (take n rest) → new ≡ then first (take (at + n) bytes)
 more_written first old new bytes rest at n before is written =
     written ∙ ap (λ o. then o (take n rest)) before ∙ then-then first (take at bytes) (take n rest)
-        ∙ ap (λ l. then first (take at bytes ++ take n l)) is ∙ ap (then first) (sym (take-add at n bytes))
+    ∙ ap (λ l. then first (take at bytes ++ take n l)) is ∙ ap (then first) (sym (take-add at n bytes))

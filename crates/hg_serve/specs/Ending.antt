@@ -1,9 +1,9 @@
 -- What each status of a run says of the script and of what was written.
-use Rattle.std.specs.Prelude.{◌≡◌, ℕ, ◌<◌, Bool, true, false, List, length, take, Option, Result, MatchResult}
+use Rattle.std.specs.Prelude.{◌≡◌, ℕ, ◌<◌, true, false, List, take, Option, Result, MatchResult}
 use Rattle.hg_io.specs.Bytes.{before, AtEnd}
 use Rattle.hg_machine.specs.Outcome.{Outside, AnswersAll, AnswersWholeLines, AnswersUpToLimit, AnswersFirstLines, AnswersInPart}
-use Rattle.hg_serve.specs.declared.status.Status.{Status}
-use Rattle.hg_serve.specs.declared.status.Status.TheVariants as status
+use Rattle.hg_serve.specs.declared.statuses.Status.{Status}
+use Rattle.hg_serve.specs.declared.statuses.Status.TheVariants as status
 
 -- the outside at one moment
 abbrev pub outside : Option (List ℕ) → ℕ → Option (List ℕ) → Outside

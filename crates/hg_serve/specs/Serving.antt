@@ -10,8 +10,8 @@ use Rattle.hg_serve.specs.declared.output.Output.{Output}
 use Rattle.hg_serve.specs.declared.session.Session.{Session}
 use Rattle.hg_serve.specs.declared.session.Stop.{Stop}
 use Rattle.hg_serve.specs.declared.session.Stop.TheVariants as stop
-use Rattle.hg_serve.specs.declared.status.Status.{Status}
-use Rattle.hg_serve.specs.declared.status.Status.TheVariants as status
+use Rattle.hg_serve.specs.declared.statuses.Status.{Status}
+use Rattle.hg_serve.specs.declared.statuses.Status.TheVariants as status
 use Rattle.hg_serve.specs.Output.{Passes, Breaks}
 
 -- no SELECT is at work, and a reply line has room

@@ -21,7 +21,7 @@ BeginsAsked old (asked.Statement s) replies new = Begins old s replies new
 abbrev pub StopsIn : Option (List ℕ) → Option (List ℕ) → State → Output → Output → Line → Stop → Type 0
 StopsIn w0 w1 tables before after line stop.SinkFault =
     (replies : List Reply) × (last : State) × RunsLine tables line replies last
-        × Breaks w0 w1 before.bytes.items (text_of replies)
+    × Breaks w0 w1 before.bytes.items (text_of replies)
 StopsIn w0 w1 tables before after line stop.NoMemory = Tells w0 w1 before after []
 
 -- a line was answered

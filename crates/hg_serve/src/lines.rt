@@ -57,7 +57,12 @@ fn read_text(alloc: Global, text: &[u8], tokens: &mut Vec<Token>) -> Result<Aske
 
 /// What a line asks for, of which `kept` has the first 4,097 bytes. `tokens` is room for its tokens.
 /// The only error is want of memory.
-pub fn read_line(alloc: Global, kept: &[u8], ended: bool, tokens: &mut Vec<Token>) -> Result<Asked, AllocError>
+pub fn read_line(
+    alloc: Global,
+    kept: &[u8],
+    ended: bool,
+    tokens: &mut Vec<Token>,
+) -> Result<Asked, AllocError>
     ensures { IfOk result (λ asked. (whole : List ℕ) → kept.now ≡ take 4097 whole
         → AsksFor (record { bytes = whole; ended = ended }) asked) }
 {

@@ -77,7 +77,10 @@ trait Item: Drop {
 }
 
 /// One or more parts with commas between them, as many as stand there, and what is behind them.
-fn separated<T: Item>(alloc: Global, tokens: &[Token]) -> Result<Option<(Vec<T>, &[Token])>, AllocError>
+fn separated<T: Item>(
+    alloc: Global,
+    tokens: &[Token],
+) -> Result<Option<(Vec<T>, &[Token])>, AllocError>
     ensures sound { IfOk result (λ r. IfSome r (λ p. StandsFirst (Separated T.reads) tokens.now p.0.items p.1.now)) }
     ensures complete { IfOk result (λ r. (xs : List T) (rest : List Tok) → StandsFirst (Separated T.reads) tokens.now xs rest
         → BeginsWithNoComma rest → IsSomeAnd r (λ p. (p.0.items ≡ xs) × (p.1.now ≡ rest))) }

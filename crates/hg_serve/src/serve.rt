@@ -5,7 +5,7 @@ ghost use Rattle.hg_io.specs.Bytes.{Reads};
 ghost use Rattle.hg_serve.specs.Ending.{Ends, ReadsSome, outside};
 
 use crate::session::Session;
-use crate::status::Status;
+use crate::statuses::Status;
 use hg_io::{Failed, Sink, Source};
 use std::alloc::Global;
 

@@ -10,7 +10,7 @@ ghost use Rattle.hg_serve.specs.Session.{StopsIn, BeginsAsked, AnswersLine};
 
 use crate::lines::{Asked, read_line};
 use crate::output::{Output, ReplyLine};
-use crate::status::Status;
+use crate::statuses::Status;
 use crate::tables::Tables;
 use arrayvec::ArrayVec;
 use hg_io::{Failed, Sink};

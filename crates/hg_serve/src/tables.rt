@@ -134,7 +134,12 @@ impl Tables {
     }
 
     /// CREATE TABLE. The only error is want of memory, and then nothing changed.
-    fn create_table(&mut self, name: Name, columns: Vec<Name>, output: &mut Output) -> Result<(), AllocError>
+    fn create_table(
+        &mut self,
+        name: Name,
+        columns: Vec<Name>,
+        output: &mut Output,
+    ) -> Result<(), AllocError>
         requires idle { self.old.left ≡ None }
         requires room { array_vec_len output.old.bytes + 256 ≤ 16384 }
         ensures ok { OnOk result ((replies : List Reply) × CreatesTable self.old name columns.items replies self.new

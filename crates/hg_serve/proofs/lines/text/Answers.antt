@@ -4,9 +4,9 @@ use Rattle.hg_serve.proofs.lines.text.Goals as goal
 pub returns-then-last-eq13 : goal.returns-then-last-eq13
 returns-then-last-eq13 c =
     text-cut c.args.line.now c.in-Some.front.now c.in-Some.last.now c.args.ended c.if-not-ended.false (c.in-Some.ensures {u = tt}).cases.0
-        c.if-last-eq13.true
+    c.if-last-eq13.true
 
 pub returns-else-last-eq13 : goal.returns-else-last-eq13
 returns-else-last-eq13 c =
     text-kept c.args.line.now c.in-Some.front.now c.in-Some.last.now c.args.ended c.if-not-ended.false (c.in-Some.ensures {u = tt}).cases.0
-        c.if-last-eq13.false
+    c.if-last-eq13.false

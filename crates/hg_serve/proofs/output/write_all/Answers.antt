@@ -1,4 +1,4 @@
-use Rattle.std.proofs.Common.{◌≤◌, length, arith}
+use Rattle.std.proofs.Common.{arith}
 use Rattle.hg_serve.proofs.Writing.{more_written}
 use Rattle.hg_serve.proofs.output.write_all.Goals as goal
 

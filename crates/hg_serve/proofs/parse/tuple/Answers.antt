@@ -1,4 +1,4 @@
-use Rattle.std.proofs.Common.{◌≡◌, ◌∷◌, [], ◌++◌, codes, refl, sym, ap, ◌∙◌, ◌≤◌, length, arith, subst}
+use Rattle.std.proofs.Common.{◌∷◌, ap, ◌∙◌, ◌≤◌, length, arith}
 use Rattle.hg_serve.proofs.Commands.{close, no_comma-close, tuple-inner, tuple-few, tuple-stands}
 use Rattle.hg_serve.proofs.parse.tuple.Goals as goal
 
@@ -25,8 +25,8 @@ returns-clause-sound c =
     let read = rw c.in-Some-2.is at (c.in_ok-cells.ensures {u = tt}) in
     let few : length c.in-Some-2.cells.items ≤ 16 = omega arith in
     rw c.new.ensures
-        (tuple-stands _ c.in-Some.inner.now c.in-Some-2.rest.now _ _ (c.in-Some.ensures {u = tt}).sound read.sound
-            (c.in-Some-sign.ensures {u = tt}).sound few)
+    (tuple-stands _ c.in-Some.inner.now c.in-Some-2.rest.now _ _ (c.in-Some.ensures {u = tt}).sound read.sound
+    (c.in-Some-sign.ensures {u = tt}).sound few)
 
 pub returns-clause-complete : goal.returns-clause-complete
 returns-clause-complete c = λ x rest s.

@@ -9,13 +9,13 @@ pub returns-in-Some-sign-clause-sound : goal.returns-in-Some-sign-clause-sound
 returns-in-Some-sign-clause-sound c =
     let fits = (c.in_ok-negated.ensures {u = tt}).fits.0 refl in
     minus-stands _ c.in-Some-sign.rest.now _ _ c.in_ok-n.n (c.in_ok-negated.ensures {u = tt}).value fits (c.in-Some-sign.ensures {u = tt}).sound
-        (c.in_ok-n.ensures {u = tt}).sound
+    (c.in_ok-n.ensures {u = tt}).sound
 
 pub returns-in-Some-sign-2-clause-sound : goal.returns-in-Some-sign-2-clause-sound
 returns-in-Some-sign-2-clause-sound c =
     let fits = (c.in_ok-positive.ensures {u = tt}).fits.0 refl in
     plus-stands _ c.in-Some-sign-2.rest.now _ _ c.in_ok-n-2.n (c.in_ok-positive.ensures {u = tt}).value fits (c.in-Some-sign-2.ensures {u = tt}).sound
-        (c.in_ok-n-2.ensures {u = tt}).sound
+    (c.in_ok-n-2.ensures {u = tt}).sound
 
 pub returns-clause-sound : goal.returns-clause-sound
 returns-clause-sound c =

@@ -8,7 +8,7 @@ abbrev pub invariant-loop-taken : goal.invariant-loop-taken
 invariant-loop-taken g l = record {
   served : (bytes : List ℕ)
       × Took (outside (g.S.Source.left l.fn.source) (g.S.Source.given l.fn.source) (g.K.Sink.written l.fn.sink))
-          (outside (g.S.Source.left l.source) (g.S.Source.given l.source) (g.K.Sink.written l.sink)) bytes
+      (outside (g.S.Source.left l.source) (g.S.Source.given l.source) (g.K.Sink.written l.sink)) bytes
       × (length bytes ≡ l.taken) × Serves (g.K.Sink.written l.fn.sink) (g.K.Sink.written l.sink) l.session bytes;
   ready : IsReady l.session;
   within : l.taken ≤ 2 ^ 32;

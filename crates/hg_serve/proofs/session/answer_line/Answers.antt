@@ -1,4 +1,4 @@
-use Rattle.std.proofs.Common.{◌≡◌, [], ◌∷◌, ◌++◌, refl, sym, ap, ◌∙◌}
+use Rattle.std.proofs.Common.{◌++◌}
 use Rattle.hg_machine.specs.Script.{Line}
 use Rattle.hg_machine.specs.Reply.{text_of}
 use Rattle.hg_serve.proofs.Telling.{tells-none, tells-says, tells-then, breaks-then, text_of-append}
@@ -15,11 +15,13 @@ pub returns-in_default-give_turns-clause-stop : goal.returns-in_default-give_tur
 returns-in_default-give_turns-clause-stop g c = λ whole is.
     let line : Line = record { bytes = whole; ended = c.args.ended } in
     let begun = (c.in-Ok-begin.ensures {u = tt}).ok in
-    let broke = (c.in_default-give_turns.ensures {u = tt}).part in
-    (begun.0 ++ broke.0, broke.1,
-        runs-line _ _ _ line begun.0 broke.0 (line-begins _ _ line c.in-Ok.asked begun.0 (c.in-Ok.ensures {u = tt} whole is) begun.1) broke.2,
-        rw (text_of-append begun.0 broke.0)
-            (breaks-then _ _ _ _ _ (text_of begun.0) (text_of broke.0) (tells-says _ _ _ begun.0 begun.2).passes broke.3))
+    let broke = (c.in_default-give_turns.ensures {u = tt}).part in (
+      begun.0 ++ broke.0,
+      broke.1,
+      runs-line _ _ _ line begun.0 broke.0 (line-begins _ _ line c.in-Ok.asked begun.0 (c.in-Ok.ensures {u = tt} whole is) begun.1) broke.2,
+      rw (text_of-append begun.0 broke.0)
+          (breaks-then _ _ _ _ _ (text_of begun.0) (text_of broke.0) (tells-says _ _ _ begun.0 begun.2).passes broke.3),
+    )
 
 pub returns-clause-ok : goal.returns-clause-ok
 returns-clause-ok g c = λ whole is.

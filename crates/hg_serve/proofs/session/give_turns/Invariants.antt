@@ -1,4 +1,4 @@
-use Rattle.std.proofs.Common.{◌≡◌, ◌+◌, ◌≤◌, List}
+use Rattle.std.proofs.Common.{◌+◌, ◌≤◌, List}
 use Rattle.arrayvec.specs.ArrayVec.{array_vec_len}
 use Rattle.hg_machine.specs.Reply.{Reply}
 use Rattle.hg_serve.specs.Output.{Tells}

@@ -10,6 +10,6 @@ returns-in-Err-clause-stop g c = λ w taken serves.
     let bytes = c.args.bytes.now in
     let so_far = c.loop-b.invariant.serves w taken serves in
     subst (λ l. Halts w (g.K.Sink.written c.take_byte.new.sink) c.take_byte.new.self.output.bytes.items (whole_lines l) c.in-Err.stop)
-        (parts-at taken bytes i c.loop-b-test.true)
-        (halts-later _ _ _ ((taken ++ take i bytes) ++ get_or bytes i 0 ∷ []) (drop (i + 1) bytes) c.in-Err.stop
-            ((c.in-Err.ensures {u = tt}).stop w (taken ++ take i bytes) so_far))
+    (parts-at taken bytes i c.loop-b-test.true)
+    (halts-later _ _ _ ((taken ++ take i bytes) ++ get_or bytes i 0 ∷ []) (drop (i + 1) bytes) c.in-Err.stop
+    ((c.in-Err.ensures {u = tt}).stop w (taken ++ take i bytes) so_far))

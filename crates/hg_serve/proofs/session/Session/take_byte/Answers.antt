@@ -1,5 +1,4 @@
-use Rattle.std.proofs.Common.{◌≡◌, ◌≤◌, ◌<◌, refl, length, arith, sym, ◌∙◌, ap}
-use Rattle.hg_serve.specs.declared.session.Session.{Session}
+use Rattle.std.proofs.Common.{◌≤◌, ◌<◌, refl, length, arith, ◌∙◌}
 use Rattle.hg_serve.proofs.ServeLemmas.{serves-kept, serves-full, serves-line, halts-line}
 use Rattle.hg_serve.proofs.session.Session.take_byte.Goals as goal
 
@@ -16,9 +15,9 @@ returns-else-len-lt-KEPT_BYTES-clause-ok g c = λ w taken serves.
 pub returns-in-Err-clause-stop : goal.returns-in-Err-clause-stop
 returns-in-Err-clause-stop g c = λ w taken serves.
     halts-line w _ _ c.args.self.now c.answer_line-answered.new.output taken c.args.b serves c.if-b-ne10.false _
-        ((c.in-Err.ensures {u = tt}).stop _ (c.as_slice.ensures.value ∙ serves.part))
+    ((c.in-Err.ensures {u = tt}).stop _ (c.as_slice.ensures.value ∙ serves.part))
 
 pub returns-clause-ok : goal.returns-clause-ok
 returns-clause-ok g c = λ w taken serves.
     serves-line w _ _ c.args.self.now _ taken c.args.b serves c.if-b-ne10.false
-        ((c.in_default.ensures {u = tt}).ok _ (c.as_slice.ensures.value ∙ serves.part)) c.clear.ensures
+    ((c.in_default.ensures {u = tt}).ok _ (c.as_slice.ensures.value ∙ serves.part)) c.clear.ensures

@@ -19,12 +19,13 @@ returns-clause-ok c =
     let with_no_row : List (List Value) → TableState = λ r. record { name = c.args.name; columns = c.args.columns.items; rows = r } in
     let old = c.args.self.now in
     let more : c.push.new.self.items ≡ old.tables ++ table ∷ [] =
-        (c.in_ok-push.ensures {u = tt}).items
-            ∙ ap (λ r. c.self.inside.tables.items ++ with_no_row r ∷ []) c.new-rows.ensures.items
-            ∙ ap (λ (s : State). s.tables ++ table ∷ []) c.self.view_is
-    in
-    (created ∷ [],
-        table_made can refl
-            (tables-changed old c.self.inside.tables.items c.push.new.self.items c.self.inside.open c.self.view_is c.requires.idle
-                ∙ ap (λ l. record old { tables = l }) more),
-        says-one _ _ created c.say-2.ensures.bytes c.say-2.ensures.errors)
+    (c.in_ok-push.ensures {u = tt}).items
+    ∙ ap (λ r. c.self.inside.tables.items ++ with_no_row r ∷ []) c.new-rows.ensures.items
+    ∙ ap (λ (s : State). s.tables ++ table ∷ []) c.self.view_is
+    in (
+      created ∷ [],
+      table_made can refl
+          (tables-changed old c.self.inside.tables.items c.push.new.self.items c.self.inside.open c.self.view_is c.requires.idle
+          ∙ ap (λ l. record old { tables = l }) more),
+      says-one _ _ created c.say-2.ensures.bytes c.say-2.ensures.errors,
+    )
