@@ -11,3 +11,23 @@ pub enum Status {
     NoMemory,
     TooLong,
 }
+
+impl Status {
+    ghost use Rattle.std.specs.Prelude.{◌≡◌};
+    ghost use Rattle.hg_serve.specs.Number.{number_of};
+
+    /// The status of the program.
+    pub fn number(self) -> u8
+        ensures { result ≡ number_of self }
+    {
+        match self {
+            Status::Clean => 0,
+            Status::Errors => 1,
+            Status::Usage => 2,
+            Status::SourceFault => 3,
+            Status::SinkFault => 4,
+            Status::NoMemory => 5,
+            Status::TooLong => 6,
+        }
+    }
+}
