@@ -6,7 +6,7 @@ pub reads_front : (bytes buffer : List ℕ) (at n : ℕ) → take n buffer ≡ t
     → drop at bytes ≡ take n buffer ++ drop (at + n) bytes
 reads_front bytes buffer at n copied =
     sym (ap (λ l. l ++ drop (at + n) bytes) copied ∙ ap (λ l. take n (drop at bytes) ++ l) (sym (drop-drop n at bytes))
-        ∙ take-append-drop n (drop at bytes))
+    ∙ take-append-drop n (drop at bytes))
 
 pub nothing_left : (bytes : List ℕ) (at n room : ℕ) → n ≡ min (length (drop at bytes)) room → n ≡ 0 → 0 < room
     → drop (at + n) bytes ≡ []

@@ -22,16 +22,16 @@ AtEnd left = IfSome left (λ bytes. bytes ≡ [])
 abbrev pub Reads : {E : Type 0} → Option (List ℕ) → Option (List ℕ) → Result ℕ E → List ℕ → Type 0
 Reads old new result buffer =
     MatchResult result
-        (λ n. (old ≡ before (take n buffer) new) × (n ≡ 0 → 0 < length buffer → AtEnd new))
-        (λ _. new ≡ old)
+    (λ n. (old ≡ before (take n buffer) new) × (n ≡ 0 → 0 < length buffer → AtEnd new))
+    (λ _. new ≡ old)
 
 -- a write takes bytes from the front of the piece, at least one of a piece that is not empty; a failed
 -- write leaves the bytes written as they were
 abbrev pub Writes : {E : Type 0} → Option (List ℕ) → Option (List ℕ) → Result ℕ E → List ℕ → Type 0
 Writes old new result piece =
     MatchResult result
-        (λ n. (new ≡ then old (take n piece)) × (0 < length piece → 0 < n))
-        (λ _. new ≡ old)
+    (λ n. (new ≡ then old (take n piece)) × (0 < length piece → 0 < n))
+    (λ _. new ≡ old)
 
 pub then-then : (told : Option (List ℕ)) (a b : List ℕ) → then (then told a) b ≡ then told (a ++ b)
 then-then None a b = refl

@@ -13,3 +13,6 @@ mod stream;
 pub use device::{MemDevice, PAGE_BYTES, PAGE_LIMIT, PageDevice};
 pub use memory::{MemSink, MemSource};
 pub use stream::{Failed, Sink, Source};
+
+#[cfg(test)]
+mod tests;

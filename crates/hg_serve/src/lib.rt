@@ -19,3 +19,6 @@ mod top;
 
 pub use statuses::Status;
 pub use top::{Outcome, run};
+
+#[cfg(test)]
+mod tests;
