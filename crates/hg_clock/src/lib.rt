@@ -1,0 +1,78 @@
+//! The clock that chooses the frame whose page has to go when another page wants a frame. Each frame
+//! has a score from 0 to 7; the hand goes round the frames, passes those that are out, lowers a
+//! positive score by 1 and passes, and takes the first frame with score 0. It stands on the base
+//! crate alone. The layer above uses the contract of `Clock::victim`.
+#![tactic(auto)]
+
+mod sweep;
+
+ghost use Rattle.std.specs.Prelude.{◌≡◌, ◌<◌, ◌≤◌, ◌↔◌, ℕ, false, length, replicate, slice_set, IfOk, IfSome, IfNone, IsNone, OnOk};
+ghost use Rattle.hg_clock.specs.Clock.{frame_count, AllOut, IsVictim, Takes};
+
+use hg_base::{FrameNo, NoMemory};
+use std::alloc::Global;
+use std::marker::Model;
+use sweep::{least_in, lower};
+
+/// The score of a frame that was just used.
+const FULL_SCORE: u8 = 7;
+
+/// The scores of all frames, which of them are out, and the hand.
+#[derive(Drop)]
+pub struct Clock {
+    scores: Vec<u8>,
+    out: Vec<bool>,
+    hand: u32,
+}
+
+impl Model for Clock {
+    ghost use Rattle.std.specs.Prelude.{◌≡◌, ◌<◌, ◌≤◌, All, length};
+    ghost use Rattle.hg_clock.specs.Clock.{ClockState};
+
+    ghost Value = { ClockState };
+
+    ghost view = { λ c. record { scores = c.scores.items; out = c.out.items; hand = c.hand } };
+
+    ghost invariant = { λ c. (length c.out.items ≡ length c.scores.items) × All (λ s. s ≤ 7) c.scores.items };
+}
+
+impl Clock {
+    /// A clock of so many frames, numbered from 0. Memory is taken here alone, and the only error is
+    /// want of it.
+    pub fn new(alloc: Global, frames: u32) -> Result<Clock, NoMemory>
+        ensures { IfOk result (λ clock. clock ≡ record { scores = replicate frames 0; out = replicate frames false; hand = 0 }) }
+    {
+        let count = frames as usize;
+        let Ok(scores) = Vec::from_elem(alloc, 0u8, count) else {
+            return Err(NoMemory);
+        };
+        let Ok(out) = Vec::from_elem(alloc, false, count) else {
+            return Err(NoMemory);
+        };
+        Ok(Clock { scores, out, hand: 0 })
+    }
+
+    /// The frame was used: its score is 7.
+    pub fn touch(&mut self, f: FrameNo)
+        requires { f.0 < frame_count self.old }
+        ensures { self.new ≡ record self.old { scores = slice_set self.old.scores f.0 7 } }
+    {
+        self.scores[f.0 as usize] = FULL_SCORE;
+    }
+
+    /// The frame's page is gone: its score is 0, so that the hand takes it when it comes.
+    pub fn clear(&mut self, f: FrameNo)
+        requires { f.0 < frame_count self.old }
+        ensures { self.new ≡ record self.old { scores = slice_set self.old.scores f.0 0 } }
+    {
+        self.scores[f.0 as usize] = 0;
+    }
+
+    /// Whether the frame is out; the hand takes no frame that is.
+    pub fn set_out(&mut self, f: FrameNo, out: bool)
+        requires { f.0 < frame_count self.old }
+        ensures { self.new ≡ record self.old { out = slice_set self.old.out f.0 out } }
+    {
+        self.out[f.0 as usize] = out;
+    }
+}
