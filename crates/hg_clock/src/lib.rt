@@ -12,7 +12,7 @@ ghost use Rattle.hg_clock.specs.Clock.{frame_count, AllOut, IsVictim, Takes};
 use hg_base::{FrameNo, NoMemory};
 use std::alloc::Global;
 use std::marker::Model;
-use sweep::{least_in, lower};
+use sweep::{first_frame, first_used_up, pass};
 
 /// The score of a frame that was just used.
 const FULL_SCORE: u8 = 7;
@@ -74,5 +74,25 @@ impl Clock {
         ensures { self.new ≡ record self.old { out = slice_set self.old.out f.0 out } }
     {
         self.out[f.0 as usize] = out;
+    }
+
+    /// The frame whose page has to go, of those below `current` that are not out. Each is passed as
+    /// often as its score says, and taken is the first whose score is used up. The rounds are not
+    /// gone one by one: one sweep finds the frame and one lowers the scores, each over at most the
+    /// frames below `current`, and where the first frame of score 0 is near the hand, each over the
+    /// frames up to it alone.
+    pub fn victim(&mut self, current: u32) -> Option<FrameNo>
+        requires { current ≤ frame_count self.old }
+        ensures none { IsNone result ↔ AllOut current self.old }
+        ensures unchanged { IfNone result (self.new ≡ self.old) }
+        ensures taken { IfSome result (λ f. Takes current self.old f.0 self.new) }
+    {
+        let count = current as usize;
+        let first = first_frame(self.hand as usize, count);
+        let victim = first_used_up(&self.scores, &self.out, first, count)?;
+        pass(&mut self.scores, &self.out, first, count, victim);
+        let frame = victim as u32;
+        self.hand = frame + 1;
+        Some(FrameNo(frame))
     }
 }
