@@ -5,6 +5,8 @@
 #![tactic(auto)]
 
 mod sweep;
+#[cfg(test)]
+mod tests;
 
 ghost use Rattle.std.specs.Prelude.{◌≡◌, ◌<◌, ◌≤◌, ◌↔◌, ℕ, false, length, replicate, slice_set, IfOk, IfSome, IfNone, IsNone, OnOk};
 ghost use Rattle.hg_clock.specs.Clock.{frame_count, AllOut, IsVictim, Takes};
@@ -49,7 +51,11 @@ impl Clock {
         let Ok(out) = Vec::from_elem(alloc, false, count) else {
             return Err(NoMemory);
         };
-        Ok(Clock { scores, out, hand: 0 })
+        Ok(Clock {
+            scores,
+            out,
+            hand: 0,
+        })
     }
 
     /// The frame was used: its score is 7.
