@@ -1,2 +1,4 @@
+pub mod Looking
+pub mod Places
 pub mod Sweeps
 pub mod Victims
