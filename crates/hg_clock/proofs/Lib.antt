@@ -1,3 +1,4 @@
+pub mod Chains
 pub mod Looking
 pub mod Places
 pub mod Sweeps

@@ -7,15 +7,15 @@ use Rattle.hg_clock.specs.Looks.{Looks, Passed, Taken}
 use Rattle.hg_clock.proofs.Places.{first_look-below, place-below, place-zero, place-first, place-next, place-next_first}
 
 -- the frame that the hand looks at
-abbrev at_hand : ℕ → ClockState → ℕ
+abbrev pub at_hand : ℕ → ClockState → ℕ
 at_hand current clock = first_look current clock.hand
 
 -- the hand went on, and no score changed
-abbrev gone_on : ℕ → ClockState → ClockState
+abbrev pub gone_on : ℕ → ClockState → ClockState
 gone_on current old = record old { hand = at_hand current old + 1 }
 
 -- the hand went on, and lowered the score of the frame that it looked at
-abbrev lowered : ℕ → ClockState → ClockState
+abbrev pub lowered : ℕ → ClockState → ClockState
 lowered current old = record old { scores = slice_set old.scores (at_hand current old) (score_of old (at_hand current old) - 1); hand = at_hand current old + 1 }
 
 -- a score left, where both places are nearer by one
@@ -27,7 +27,7 @@ differ : (current : ℕ) (old : ClockState) (g h : ℕ) → is_out old g ≡ fal
 differ current old g h g_in h_out same = let e : is_out old g ≡ is_out old h = ap (λ k. is_out old k) same in cc
 
 -- past a frame that is out
-step-out : (current f : ℕ) (old new : ClockState) → is_out old (at_hand current old) ≡ true
+pub step-out : (current f : ℕ) (old new : ClockState) → is_out old (at_hand current old) ≡ true
     → Takes current old f new → Takes current (gone_on current old) f new
 step-out current f old new h_out t =
     let h_below : at_hand current old < current = first_look-below current old.hand f t.victim.eligible.below in
@@ -49,10 +49,10 @@ step-out current f old new h_out t =
       hand = t.hand;
     }
 
-score-other : (current : ℕ) (old : ClockState) (g : ℕ) → g ≢ at_hand current old → score_of (lowered current old) g ≡ score_of old g
+pub score-other : (current : ℕ) (old : ClockState) (g : ℕ) → g ≢ at_hand current old → score_of (lowered current old) g ≡ score_of old g
 score-other current old g other = get_or-set_other old.scores (at_hand current old) g (score_of old (at_hand current old) - 1) 0 other
 
-score-same : (current : ℕ) (old : ClockState) → at_hand current old < frame_count old
+pub score-same : (current : ℕ) (old : ClockState) → at_hand current old < frame_count old
     → score_of (lowered current old) (at_hand current old) ≡ score_of old (at_hand current old) - 1
 score-same current old inside = get_or-set_same old.scores (at_hand current old) (score_of old (at_hand current old) - 1) 0 inside
 
@@ -71,6 +71,9 @@ zero-by p q le e = omega arith
 
 differ-by : (g h current : ℕ) → h < current → current ≤ g → g ≢ h
 differ-by g h current lt le = omega arith
+
+all-equal : (m n : ℕ) → n ≡ m → m ≤ n
+all-equal m n e = omega arith
 
 least-other : (m s m' s' : ℕ) → m' ≡ m → s' ≡ s → m ≤ s → m' ≤ s'
 least-other m s m' s' e e' le = omega arith
@@ -93,7 +96,7 @@ left-looked : (n s m s' m' a b far_a far_b current : ℕ) → n ≡ s - (m + (if
 left-looked n s m s' m' a b far_a far_b current h e e' z p e'' e''' lt = grind (arith, nat_tests)
 
 -- past a frame that is not the one taken, whose score is lowered
-step-lower : (current f : ℕ) (old new : ClockState) → current ≤ frame_count old → is_out old (at_hand current old) ≡ false
+pub step-lower : (current f : ℕ) (old new : ClockState) → current ≤ frame_count old → is_out old (at_hand current old) ≡ false
     → f ≢ at_hand current old → Takes current old f new → (0 < score_of old (at_hand current old)) × Takes current (lowered current old) f new
 step-lower current f old new room h_in f_other t =
     let h_below : at_hand current old < current = first_look-below current old.hand f t.victim.eligible.below in
@@ -134,3 +137,55 @@ step-lower current f old new room h_in f_other t =
       out = t.out;
       hand = t.hand;
     })
+
+-- the same numbers where the frame looked at is the one taken, with a round still to go
+least-round : (m s m' s' : ℕ) → m' ≡ m - 1 → s' ≡ s → m ≤ s → m' ≤ s'
+least-round m s m' s' e e' le = omega arith
+
+first-round : (m s m' s' : ℕ) → m' ≡ m - 1 → s' ≡ s → 0 < m → m ≤ s → s' ≡ m' → ⊥
+first-round m s m' s' e e' p le equal = omega arith
+
+left-round : (n s m s' m' a b far_a far_b current : ℕ) → n ≡ s - (m + (if nat_lt far_a far_b then 1 else 0)) → s' ≡ s → m' ≡ m - 1
+    → 0 < m → far_b ≡ 0 → a + 1 ≡ far_a → b + 1 ≡ current → far_a < current → n ≡ s' - (m' + (if nat_lt a b then 1 else 0))
+left-round n s m s' m' a b far_a far_b current h e e' p z e'' e''' lt = grind (arith, nat_tests)
+
+left-taken : (n s m s' m' extra extra' : ℕ) → n ≡ s - (m + extra) → s ≡ m → s' ≡ m' → n ≡ s' - (m' + extra')
+left-taken n s m s' m' extra extra' h e e' = omega arith
+
+-- past the frame that is taken in a later round, whose score is lowered
+pub step-round : (current f : ℕ) (old new : ClockState) → current ≤ frame_count old → f ≡ at_hand current old
+    → 0 < score_of old f → Takes current old f new → Takes current (lowered current old) f new
+step-round current f old new room f_first positive t =
+    let f_is : IsEligible current old f = t.victim.eligible in
+    let h_below : at_hand current old < current = first_look-below current old.hand f f_is.below in
+    let h_inside : at_hand current old < frame_count old = omega arith in
+    let f_score : score_of (lowered current old) f ≡ score_of old f - 1 =
+        ap (λ k. score_of (lowered current old) k) f_first ∙ score-same current old h_inside ∙ ap (λ k. score_of old k - 1) (sym f_first) in
+    let f_far : place_of current (lowered current old) f + 1 ≡ current =
+        ap (λ k. place_of current (lowered current old) k + 1) f_first ∙ place-next_first current (at_hand current old) h_below in
+    let f_zero : place_of current old f ≡ 0 = ap (λ k. place_of current old k) f_first ∙ place-first current (at_hand current old) in
+    let same = λ (g : ℕ) (e : IsEligible current (lowered current old) g). let e' : IsEligible current old g = record { below = e.below; not_out = e.not_out } in e' in
+    let other = λ (g : ℕ) (o : g ≢ f). let o' : g ≢ at_hand current old = λ e. o (e ∙ sym f_first) in o' in
+    let near = λ (g : ℕ) (e : IsEligible current (lowered current old) g) (o : g ≢ f). place-next current (at_hand current old) g h_below e.below (other g o) in
+    record {
+      victim = record {
+        eligible = record { below = f_is.below; not_out = f_is.not_out };
+        least = λ g e. elim (eqb_tells g f) [
+            inl w ↦ all-equal _ _ (ap (λ k. score_of (lowered current old) k) w.1)
+          | inr w ↦ least-round _ _ _ _ f_score (score-other current old g (other g w.1)) (t.victim.least g (same g e)) ];
+        first = λ g e equal. elim (eqb_tells g f) [
+            inl w ↦ all-equal _ _ (ap (λ k. place_of current (lowered current old) k) w.1)
+          | inr w ↦ absurd (first-round _ _ _ _ f_score (score-other current old g (other g w.1)) positive (t.victim.least g (same g e)) equal) ];
+      };
+      frames = t.frames ∙ sym (length-set old.scores _ _);
+      passed = λ g e. elim (eqb_tells g f) [
+            inl w ↦ left-taken _ _ _ _ _ _ _ (t.passed g (same g e)) (ap (λ k. score_of old k) w.1)
+              (ap (λ k. score_of (lowered current old) k) w.1)
+          | inr w ↦ left-round _ _ _ _ _ _ _ _ _ current (t.passed g (same g e)) (score-other current old g (other g w.1)) f_score positive f_zero
+              (near g e w.1) f_far (place-below current (at_hand current old) g h_below e.below) ];
+      out_kept = λ g g_out. t.out_kept g g_out ∙ sym (score-other current old g
+          (other g (λ e. differ current old f g f_is.not_out g_out (sym e))));
+      unused_kept = λ g behind. t.unused_kept g behind ∙ sym (score-other current old g (differ-by _ _ current h_below behind));
+      out = t.out;
+      hand = t.hand;
+    }

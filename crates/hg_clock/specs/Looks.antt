@@ -18,3 +18,12 @@ Taken current old f new = (f ≡ first_look current old.hand) × (f < current) �
 abbrev pub Looks : ℕ → ClockState → List ℕ → ℕ → ClockState → Type 0
 Looks current old [] f new = Taken current old f new
 Looks current old (g ∷ gs) f new = (mid : ClockState) × Passed current old g mid × Looks current mid gs f new
+
+-- looks of the hand end in taking f, and they can end in nothing else
+pub record LooksEndIn (current : ℕ) (old : ClockState) (f : ℕ) (new : ClockState) : Type 0 where
+  pub reached : (passed : List ℕ) × Looks current old passed f new
+  pub only : (passed : List ℕ) (g : ℕ) (other : ClockState) → Looks current old passed g other → (g ≡ f) × (other ≡ new)
+
+-- the hand may look as often as it will, and takes no frame
+abbrev pub LooksNeverEnd : ℕ → ClockState → Type 0
+LooksNeverEnd current old = (passed : List ℕ) (f : ℕ) (new : ClockState) → ¬ Looks current old passed f new
