@@ -1,23 +1,18 @@
 -- The looks of the hand end in what the clock takes, and in nothing else.
-use Rattle.std.proofs.Common.{◌≡◌, ◌≢◌, ℕ, zero, suc, ◌+◌, ◌-◌, ◌<◌, ◌≤◌, Bool, true, false, if◌then◌else◌, nat_lt, List, [], ◌∷◌, length, slice_index, slice_index_or, slice_set, refl, sym, ap, ◌∙◌, subst, inl, inr, ◌⊎◌, arith}
+use Rattle.std.proofs.Common.{◌≡◌, ◌≢◌, ℕ, zero, suc, ◌+◌, ◌-◌, ◌<◌, ◌≤◌, Bool, true, false, if◌then◌else◌, nat_lt, List, [], ◌∷◌, length, slice_index, slice_index_or, refl, sym, ap, ◌∙◌, subst, inl, inr, arith}
 use Rattle.std.specs.Bool.{MatchBool}
 use Rattle.std.proofs.Math.ListN.{length-set}
 use Rattle.std.proofs.lemmas.Grind.{same_number_lists}
-use Rattle.std.proofs.lemmas.Bool.Decides.{nat_tests, leb_tells}
-use Rattle.hg_clock.specs.Clock.{ClockState, AllOut, IsEligible, IsVictim, Takes, first_look, place, place_of, passes, is_out, score_of, frame_count}
+use Rattle.std.proofs.lemmas.Bool.Decides.{nat_tests}
+use Rattle.hg_clock.specs.Clock.{ClockState, AllOut, Takes, place_of, is_out, score_of, frame_count}
 use Rattle.hg_clock.specs.Looks.{Looks, Passed, Taken, LooksEndIn, LooksNeverEnd}
-use Rattle.hg_clock.proofs.Places.{first_look-below, place-below, place-zero, place-first, place-next, place-next_first}
+use Rattle.hg_clock.specs.Sweep.{AllOutIn}
+use Rattle.hg_clock.proofs.Cases.{true-or-false, lt-or-le}
+use Rattle.hg_clock.proofs.Places.{first_look-below, place-zero, place-first, place-next}
 use Rattle.hg_clock.proofs.Looking.{at_hand, gone_on, lowered, step-out, step-lower, step-round, score-other, score-same}
 
 abbrev End : ℕ → ClockState → ℕ → ClockState → Type 0
 End current old f new = (passed : List ℕ) × Looks current old passed f new
-
-true-or-false : (b : Bool) → (b ≡ true) ⊎ (b ≡ false)
-true-or-false true = inl refl
-true-or-false false = inr refl
-
-lt-or-le : (a b : ℕ) → (a < b) ⊎ (b ≤ a)
-lt-or-le a b = elim (leb_tells b a) [ inl w ↦ inr w.1 | inr w ↦ inl w.1 ]
 
 match_true : (b : Bool) (P Q : Type 0) → b ≡ true → P → MatchBool b P Q
 match_true true P Q e p = p
@@ -40,12 +35,18 @@ take-now : (current f : ℕ) (new old : ClockState) → Takes current old f new 
 take-now current f new old t zero_score zero_place =
     let h_below = first_look-below current old.hand f t.victim.eligible.below in
     let each = λ (g : ℕ) (inside : g < length new.scores). elim (true-or-false (is_out old g)) as (λ _. slice_index new.scores g ≡ slice_index old.scores g) [
-        inl w ↦ t.out_kept g w
+      | inl w ↦ t.out_kept g w
       | inr w ↦ elim (lt-or-le g current) as (λ _. slice_index new.scores g ≡ slice_index old.scores g) [
-            inl below ↦ kept _ _ _ _ _ (t.passed g (record { below = below; not_out = w })) zero_score zero_place
-          | inr behind ↦ t.unused_kept g behind ] ] in
-    (place-zero current (at_hand current old) f h_below t.victim.eligible.below zero_place, t.victim.eligible.below, t.victim.eligible.not_out, zero_score,
-      state-is new old.scores old.out (f + 1) (same_number_lists new.scores old.scores t.frames each) t.out t.hand)
+        | inl below ↦ kept _ _ _ _ _ (t.passed g (record { below = below; not_out = w })) zero_score zero_place
+        | inr behind ↦ t.unused_kept g behind
+      ]
+    ] in (
+      place-zero current (at_hand current old) f h_below t.victim.eligible.below zero_place,
+      t.victim.eligible.below,
+      t.victim.eligible.not_out,
+      zero_score,
+      state-is new old.scores old.out (f + 1) (same_number_lists new.scores old.scores t.frames each) t.out t.hand,
+    )
 
 not-first : (p q n : ℕ) → p ≡ suc n → q ≡ 0 → q ≡ p → ⊥
 not-first p q n e e' e'' = cc
@@ -85,37 +86,38 @@ to-front current f s new at_front zero old room t score_is place_is = at_front o
 to-front current f s new at_front (suc p) old room t score_is place_is =
     let h_below : at_hand current old < current = first_look-below current old.hand f t.victim.eligible.below in
     let other : f ≢ at_hand current old =
-        λ e. not-first (place_of current old f) (place_of current old (at_hand current old)) p place_is (place-first current (at_hand current old))
-            (ap (λ k. place_of current old k) (sym e)) in
+    λ e. not-first (place_of current old f) (place_of current old (at_hand current old)) p place_is (place-first current (at_hand current old))
+    (ap (λ k. place_of current old k) (sym e)) in
     let near = nearer-by _ _ p (place-next current (at_hand current old) f h_below t.victim.eligible.below other) place_is in
     elim (true-or-false (is_out old (at_hand current old))) [
-      inl h_out ↦ look-out current f old new h_out
+      | inl h_out ↦ look-out current f old new h_out
           (to-front current f s new at_front p (gone_on current old) room (step-out current f old new h_out t) score_is near)
-    | inr h_in ↦
-        let stepped = step-lower current f old new room h_in other t in
-        look-lower current f old new h_in stepped.0
-          (to-front current f s new at_front p (lowered current old) (room-kept current old room) stepped.1 (score-other current old f other ∙ score_is) near) ]
+      | inr h_in ↦
+          let stepped = step-lower current f old new room h_in other t in
+          look-lower current f old new h_in stepped.0
+          (to-front current f s new at_front p (lowered current old) (room-kept current old room) stepped.1 (score-other current old f other ∙ score_is) near)
+    ]
 
 -- The hand comes to an end, whatever number of rounds is still to go.
 ends-by : (current f s : ℕ) (new old : ClockState) → current ≤ frame_count old → Takes current old f new → score_of old f ≡ s
     → End current old f new
 ends-by current f zero new old room t score_is =
     to-front current f zero new (λ now _ t' score_is' front. ([], take-now current f new now t' score_is' front))
-        (place_of current old f) old room t score_is refl
+    (place_of current old f) old room t score_is refl
 ends-by current f (suc s) new old room t score_is =
     to-front current f (suc s) new
-        (λ now room' t' score_is' front.
-          let first : f ≡ at_hand current now = place-zero current (at_hand current now) f
-              (first_look-below current now.hand f t'.victim.eligible.below) t'.victim.eligible.below front in
-          let positive = above-zero _ s score_is' in
-          let h_in : is_out now (at_hand current now) ≡ false = ap (λ k. is_out now k) (sym first) ∙ t'.victim.eligible.not_out in
-          let h_positive : 0 < score_of now (at_hand current now) = let P : ℕ → Type 0 = λ k. 0 < score_of now k in subst P first positive in
-          let h_inside : at_hand current now < frame_count now =
-              inside-by _ _ current (first_look-below current now.hand f t'.victim.eligible.below) room' in
-          look-lower current f now new h_in h_positive
-            (ends-by current f s new (lowered current now) (room-kept current now room') (step-round current f now new room' first positive t')
-              (ap (λ k. score_of (lowered current now) k) first ∙ nearer-score _ _ s (score-same current now h_inside) (ap (λ k. score_of now k) (sym first) ∙ score_is'))))
-        (place_of current old f) old room t score_is refl
+    (λ now room' t' score_is' front.
+    let first : f ≡ at_hand current now = place-zero current (at_hand current now) f
+    (first_look-below current now.hand f t'.victim.eligible.below) t'.victim.eligible.below front in
+    let positive = above-zero _ s score_is' in
+    let h_in : is_out now (at_hand current now) ≡ false = ap (λ k. is_out now k) (sym first) ∙ t'.victim.eligible.not_out in
+    let h_positive : 0 < score_of now (at_hand current now) = let P : ℕ → Type 0 = λ k. 0 < score_of now k in subst P first positive in
+    let h_inside : at_hand current now < frame_count now =
+    inside-by _ _ current (first_look-below current now.hand f t'.victim.eligible.below) room' in
+    look-lower current f now new h_in h_positive
+    (ends-by current f s new (lowered current now) (room-kept current now room') (step-round current f now new room' first positive t')
+    (ap (λ k. score_of (lowered current now) k) first ∙ nearer-score _ _ s (score-same current now h_inside) (ap (λ k. score_of now k) (sym first) ∙ score_is'))))
+    (place_of current old f) old room t score_is refl
 
 match-positive : (b : Bool) (P Q : Type 0) → b ≡ false → MatchBool b P Q → Q
 match-positive true P Q e m = cc
@@ -172,3 +174,6 @@ looks-never current old all_out [] f new l = let f_out : is_out old f ≡ true =
 looks-never current old all_out (x ∷ xs) f new l =
     let same : l.0.out ≡ old.out = out-by (is_out old x) _ _ _ l.0 old.out refl refl l.1.1 in
     looks-never current l.0 (λ g below. ap (λ out. slice_index_or out g false) same ∙ all_out g below) xs f new l.2
+
+pub never-by : (current : ℕ) (old : ClockState) (out : List Bool) → out ≡ old.out → AllOutIn out 0 current → LooksNeverEnd current old
+never-by current old out out_is all_out = looks-never current old (rw (← out_is) (λ f below. all_out f (omega arith) below))

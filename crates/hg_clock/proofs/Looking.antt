@@ -1,9 +1,8 @@
 -- What the clock takes after one look of the hand is what it takes before it.
-use Rattle.std.proofs.Common.{◌≡◌, ◌≢◌, ℕ, zero, suc, ◌+◌, ◌-◌, ◌<◌, ◌≤◌, Bool, true, false, if◌then◌else◌, nat_lt, List, [], ◌∷◌, length, slice_index, slice_index_or, slice_set, refl, sym, ap, ◌∙◌, subst, inl, inr, ◌⊎◌, get_or-set_other, get_or-set_same, arith}
+use Rattle.std.proofs.Common.{◌≡◌, ◌≢◌, ℕ, ◌+◌, ◌-◌, ◌<◌, ◌≤◌, true, false, if◌then◌else◌, nat_lt, slice_set, sym, ap, ◌∙◌, inl, inr, get_or-set_other, get_or-set_same, arith}
 use Rattle.std.proofs.Math.ListN.{length-set}
 use Rattle.std.proofs.lemmas.Bool.Decides.{nat_tests, eqb_tells}
-use Rattle.hg_clock.specs.Clock.{ClockState, IsEligible, IsVictim, Takes, first_look, place, place_of, passes, is_out, score_of, frame_count}
-use Rattle.hg_clock.specs.Looks.{Looks, Passed, Taken}
+use Rattle.hg_clock.specs.Clock.{ClockState, IsEligible, Takes, first_look, place_of, is_out, score_of, frame_count}
 use Rattle.hg_clock.proofs.Places.{first_look-below, place-below, place-zero, place-first, place-next, place-next_first}
 
 -- the frame that the hand looks at
@@ -111,32 +110,37 @@ step-lower current f old new room h_in f_other t =
     let f_same = score-other current old f f_other in
     let f_positive : 0 < place_of current old f = positive-by _ (λ z. f_other (place-zero current (at_hand current old) f h_below f_is.below z)) in
     let greater = greater-by (score_of old f) (score_of old (at_hand current old)) (t.victim.least _ h_is)
-        (λ e. f_other (place-zero current (at_hand current old) f h_below f_is.below (zero-by _ _ (t.victim.first _ h_is e) h_zero))) in
+    (λ e. f_other (place-zero current (at_hand current old) f h_below f_is.below (zero-by _ _ (t.victim.first _ h_is e) h_zero))) in
     let same = λ (g : ℕ) (e : IsEligible current (lowered current old) g). let e' : IsEligible current old g = record { below = e.below; not_out = e.not_out } in e' in
-    let near = λ (g : ℕ) (e : IsEligible current (lowered current old) g) (o : g ≢ at_hand current old). place-next current (at_hand current old) g h_below e.below o in
-    (positive-above _ _ greater, record {
-      victim = record {
-        eligible = record { below = f_is.below; not_out = f_is.not_out };
-        least = λ g e. elim (eqb_tells g (at_hand current old)) [
-            inl w ↦ least-looked _ _ _ _ f_same (ap (λ k. score_of (lowered current old) k) w.1 ∙ h_score) greater
-          | inr w ↦ least-other _ _ _ _ f_same (score-other current old g w.1) (t.victim.least g (same g e)) ];
-        first = λ g e equal. elim (eqb_tells g (at_hand current old)) [
-            inl w ↦ first-looked _ _ _ _ f_near (ap (λ k. place_of current (lowered current old) k + 1) w.1 ∙ h_far) f_far
-          | inr w ↦ first-other _ _ _ _ f_near (near g e w.1)
-              (t.victim.first g (same g e) (sym (score-other current old g w.1) ∙ equal ∙ f_same)) ];
-      };
-      frames = t.frames ∙ sym (length-set old.scores _ _);
-      passed = λ g e. elim (eqb_tells g (at_hand current old)) [
-            inl w ↦ left-looked _ _ _ _ _ _ _ _ _ current (t.passed g (same g e))
+    let near = λ (g : ℕ) (e : IsEligible current (lowered current old) g) (o : g ≢ at_hand current old). place-next current (at_hand current old) g h_below e.below o in (
+      positive-above _ _ greater,
+      record {
+        victim = record {
+          eligible = record { below = f_is.below; not_out = f_is.not_out };
+          least = λ g e. elim (eqb_tells g (at_hand current old)) [
+            | inl w ↦ least-looked _ _ _ _ f_same (ap (λ k. score_of (lowered current old) k) w.1 ∙ h_score) greater
+            | inr w ↦ least-other _ _ _ _ f_same (score-other current old g w.1) (t.victim.least g (same g e))
+          ];
+          first = λ g e equal. elim (eqb_tells g (at_hand current old)) [
+            | inl w ↦ first-looked _ _ _ _ f_near (ap (λ k. place_of current (lowered current old) k + 1) w.1 ∙ h_far) f_far
+            | inr w ↦ first-other _ _ _ _ f_near (near g e w.1)
+                (t.victim.first g (same g e) (sym (score-other current old g w.1) ∙ equal ∙ f_same))
+          ];
+        };
+        frames = t.frames ∙ sym (length-set old.scores _ _);
+        passed = λ g e. elim (eqb_tells g (at_hand current old)) [
+          | inl w ↦ left-looked _ _ _ _ _ _ _ _ _ current (t.passed g (same g e))
               (ap (λ k. score_of (lowered current old) k) w.1 ∙ h_score ∙ ap (λ k. score_of old k - 1) (sym w.1)) f_same
               (ap (λ k. place_of current old k) w.1 ∙ h_zero) f_positive
               (ap (λ k. place_of current (lowered current old) k + 1) w.1 ∙ h_far) f_near f_far
-          | inr w ↦ left-other _ _ _ _ _ _ _ _ _ (t.passed g (same g e)) (score-other current old g w.1) f_same (near g e w.1) f_near ];
-      out_kept = λ g g_out. t.out_kept g g_out ∙ sym (score-other current old g (λ e. differ current old (at_hand current old) g h_in g_out (sym e)));
-      unused_kept = λ g behind. t.unused_kept g behind ∙ sym (score-other current old g (differ-by _ _ current h_below behind));
-      out = t.out;
-      hand = t.hand;
-    })
+          | inr w ↦ left-other _ _ _ _ _ _ _ _ _ (t.passed g (same g e)) (score-other current old g w.1) f_same (near g e w.1) f_near
+        ];
+        out_kept = λ g g_out. t.out_kept g g_out ∙ sym (score-other current old g (λ e. differ current old (at_hand current old) g h_in g_out (sym e)));
+        unused_kept = λ g behind. t.unused_kept g behind ∙ sym (score-other current old g (differ-by _ _ current h_below behind));
+        out = t.out;
+        hand = t.hand;
+      },
+    )
 
 -- the same numbers where the frame looked at is the one taken, with a round still to go
 least-round : (m s m' s' : ℕ) → m' ≡ m - 1 → s' ≡ s → m ≤ s → m' ≤ s'
@@ -160,9 +164,9 @@ step-round current f old new room f_first positive t =
     let h_below : at_hand current old < current = first_look-below current old.hand f f_is.below in
     let h_inside : at_hand current old < frame_count old = omega arith in
     let f_score : score_of (lowered current old) f ≡ score_of old f - 1 =
-        ap (λ k. score_of (lowered current old) k) f_first ∙ score-same current old h_inside ∙ ap (λ k. score_of old k - 1) (sym f_first) in
+    ap (λ k. score_of (lowered current old) k) f_first ∙ score-same current old h_inside ∙ ap (λ k. score_of old k - 1) (sym f_first) in
     let f_far : place_of current (lowered current old) f + 1 ≡ current =
-        ap (λ k. place_of current (lowered current old) k + 1) f_first ∙ place-next_first current (at_hand current old) h_below in
+    ap (λ k. place_of current (lowered current old) k + 1) f_first ∙ place-next_first current (at_hand current old) h_below in
     let f_zero : place_of current old f ≡ 0 = ap (λ k. place_of current old k) f_first ∙ place-first current (at_hand current old) in
     let same = λ (g : ℕ) (e : IsEligible current (lowered current old) g). let e' : IsEligible current old g = record { below = e.below; not_out = e.not_out } in e' in
     let other = λ (g : ℕ) (o : g ≢ f). let o' : g ≢ at_hand current old = λ e. o (e ∙ sym f_first) in o' in
@@ -171,18 +175,21 @@ step-round current f old new room f_first positive t =
       victim = record {
         eligible = record { below = f_is.below; not_out = f_is.not_out };
         least = λ g e. elim (eqb_tells g f) [
-            inl w ↦ all-equal _ _ (ap (λ k. score_of (lowered current old) k) w.1)
-          | inr w ↦ least-round _ _ _ _ f_score (score-other current old g (other g w.1)) (t.victim.least g (same g e)) ];
+          | inl w ↦ all-equal _ _ (ap (λ k. score_of (lowered current old) k) w.1)
+          | inr w ↦ least-round _ _ _ _ f_score (score-other current old g (other g w.1)) (t.victim.least g (same g e))
+        ];
         first = λ g e equal. elim (eqb_tells g f) [
-            inl w ↦ all-equal _ _ (ap (λ k. place_of current (lowered current old) k) w.1)
-          | inr w ↦ absurd (first-round _ _ _ _ f_score (score-other current old g (other g w.1)) positive (t.victim.least g (same g e)) equal) ];
+          | inl w ↦ all-equal _ _ (ap (λ k. place_of current (lowered current old) k) w.1)
+          | inr w ↦ absurd (first-round _ _ _ _ f_score (score-other current old g (other g w.1)) positive (t.victim.least g (same g e)) equal)
+        ];
       };
       frames = t.frames ∙ sym (length-set old.scores _ _);
       passed = λ g e. elim (eqb_tells g f) [
-            inl w ↦ left-taken _ _ _ _ _ _ _ (t.passed g (same g e)) (ap (λ k. score_of old k) w.1)
-              (ap (λ k. score_of (lowered current old) k) w.1)
-          | inr w ↦ left-round _ _ _ _ _ _ _ _ _ current (t.passed g (same g e)) (score-other current old g (other g w.1)) f_score positive f_zero
-              (near g e w.1) f_far (place-below current (at_hand current old) g h_below e.below) ];
+        | inl w ↦ left-taken _ _ _ _ _ _ _ (t.passed g (same g e)) (ap (λ k. score_of old k) w.1)
+            (ap (λ k. score_of (lowered current old) k) w.1)
+        | inr w ↦ left-round _ _ _ _ _ _ _ _ _ current (t.passed g (same g e)) (score-other current old g (other g w.1)) f_score positive f_zero
+            (near g e w.1) f_far (place-below current (at_hand current old) g h_below e.below)
+      ];
       out_kept = λ g g_out. t.out_kept g g_out ∙ sym (score-other current old g
           (other g (λ e. differ current old f g f_is.not_out g_out (sym e))));
       unused_kept = λ g behind. t.unused_kept g behind ∙ sym (score-other current old g (differ-by _ _ current h_below behind));

@@ -1,5 +1,5 @@
 -- Sweeps that have come to their end.
-use Rattle.std.proofs.Common.{◌≡◌, ℕ, ◌≤◌, ◌<◌, Bool, List, subst}
+use Rattle.std.proofs.Common.{◌≡◌, ℕ, Bool, List, subst}
 use Rattle.std.specs.Prelude.{Option, None, Some, MatchOption, IfSome}
 use Rattle.hg_clock.specs.Sweep.{AllOutIn, IsLeastIn, Lowers}
 

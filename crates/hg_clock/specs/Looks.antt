@@ -1,5 +1,5 @@
 -- The looks of the hand, one by one. Our own rule.
-use Rattle.std.specs.Prelude.{◌≡◌, ℕ, ◌+◌, ◌-◌, ◌<◌, Bool, true, false, List, [], ◌∷◌, slice_set}
+use Rattle.std.specs.Prelude.{◌≡◌, ℕ, ◌+◌, ◌-◌, ◌<◌, false, List, [], ◌∷◌, slice_set}
 use Rattle.std.specs.Bool.{MatchBool}
 use Rattle.hg_clock.specs.Clock.{ClockState, first_look, is_out, score_of}
 
@@ -7,7 +7,7 @@ use Rattle.hg_clock.specs.Clock.{ClockState, first_look, is_out, score_of}
 abbrev pub Passed : ℕ → ClockState → ℕ → ClockState → Type 0
 Passed current old f new = (f ≡ first_look current old.hand)
     × MatchBool (is_out old f) (new ≡ record old { hand = f + 1 })
-        ((0 < score_of old f) × (new ≡ record old { scores = slice_set old.scores f (score_of old f - 1); hand = f + 1 }))
+    ((0 < score_of old f) × (new ≡ record old { scores = slice_set old.scores f (score_of old f - 1); hand = f + 1 }))
 
 -- the hand looks at f and takes it: one below `current` that is not out and has score 0
 abbrev pub Taken : ℕ → ClockState → ℕ → ClockState → Type 0

@@ -8,8 +8,9 @@ mod sweep;
 #[cfg(test)]
 mod tests;
 
-ghost use Rattle.std.specs.Prelude.{◌≡◌, ◌<◌, ◌≤◌, ◌↔◌, ℕ, false, length, replicate, slice_set, IfOk, IfSome, IfNone, IsNone, OnOk};
-ghost use Rattle.hg_clock.specs.Clock.{frame_count, AllOut, IsVictim, Takes};
+ghost use Rattle.std.specs.Prelude.{◌≡◌, ◌<◌, ◌≤◌, ◌↔◌, false, replicate, slice_set, IfOk, IfSome, IfNone, IsNone, MatchOption};
+ghost use Rattle.hg_clock.specs.Clock.{frame_count, AllOut, Takes};
+ghost use Rattle.hg_clock.specs.Looks.{LooksEndIn, LooksNeverEnd};
 
 use hg_base::{FrameNo, NoMemory};
 use std::alloc::Global;
@@ -92,6 +93,9 @@ impl Clock {
         ensures none { IsNone result ↔ AllOut current self.old }
         ensures unchanged { IfNone result (self.new ≡ self.old) }
         ensures taken { IfSome result (λ f. Takes current self.old f.0 self.new) }
+
+        // The same, look by look of the hand.
+        ensures looks { MatchOption result (LooksNeverEnd current self.old) (λ f. LooksEndIn current self.old f.0 self.new) }
     {
         let count = current as usize;
         let first = first_frame(self.hand as usize, count);

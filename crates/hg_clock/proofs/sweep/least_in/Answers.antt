@@ -1,4 +1,4 @@
-use Rattle.std.proofs.Common.{◌≡◌, arith}
+use Rattle.std.proofs.Common.{arith}
 use Rattle.hg_clock.proofs.Sweeps.{least_at_end}
 use Rattle.hg_clock.proofs.sweep.least_in.Goals as goal
 

@@ -1,4 +1,4 @@
-use Rattle.std.proofs.Common.{◌≡◌, arith}
+use Rattle.std.proofs.Common.{arith}
 use Rattle.hg_clock.proofs.Sweeps.{lowers_at_end}
 use Rattle.hg_clock.proofs.sweep.lower.Goals as goal
 

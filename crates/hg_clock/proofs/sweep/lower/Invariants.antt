@@ -1,4 +1,3 @@
-use Rattle.std.proofs.Common.{◌≡◌, ℕ, ◌≤◌, ◌<◌, length}
 use Rattle.hg_clock.specs.Sweep.{Lowers}
 use Rattle.hg_clock.proofs.sweep.lower.Given as goal
 
