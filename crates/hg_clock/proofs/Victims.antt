@@ -1,9 +1,8 @@
 -- From what the sweeps say of lists to what the clock takes.
 use Rattle.std.proofs.Common.{◌≡◌, ℕ, ◌+◌, ◌-◌, ◌≤◌, ◌<◌, Bool, List, length, slice_index, slice_index_or, false, sym, ◌∙◌, inl, inr, arith}
-use Rattle.std.specs.Prelude.{All}
 use Rattle.std.proofs.lemmas.List.{get_or_default}
 use Rattle.hg_clock.proofs.Cases.{true-or-false, lt-or-le}
-use Rattle.hg_clock.specs.Clock.{ClockState, IsVictim, Takes, first_look}
+use Rattle.hg_clock.specs.Clock.{ClockState, IsSound, IsVictim, Takes, first_look}
 use Rattle.hg_clock.specs.Sweep.{IsFirstUsedUp, Passes}
 
 pub victim_from : (current f : ℕ) (old : ClockState)
@@ -55,12 +54,14 @@ bound-kept current first f bound old left out g k old_bound = elim (true-or-fals
 ]
 
 -- the same of the clock's own lists
-pub invariant-kept : (current first f bound : ℕ) (old lent left new : List ℕ) (out lent_out : List Bool) → lent ≡ old → lent_out ≡ out
-    → Passes lent lent_out current first f left → new ≡ left → length out ≡ length old → All (λ s. s ≤ bound) old
-    → (length out ≡ length new) × All (λ s. s ≤ bound) new
-invariant-kept current first f bound old lent left new out lent_out lent_is lent_out_is k new_is same all =
-    let k' : Passes old out current first f new = rw (← lent_is, ← lent_out_is, new_is) k in (
-      same ∙ sym k'.frames,
-      λ g d inside. let inside' : g < length old = omega (arith, k'.frames) in
-          same-bound _ _ bound (get_or_default new g d 0 inside) (bound-kept current first f bound old new out g k' (all g 0 inside')),
-    )
+pub sound-kept : (current first f hand hand' : ℕ) (old lent left new : List ℕ) (out lent_out : List Bool) → lent ≡ old → lent_out ≡ out
+    → Passes lent lent_out current first f left → new ≡ left → IsSound (record { scores = old; out = out; hand = hand })
+    → IsSound (record { scores = new; out = out; hand = hand' })
+sound-kept current first f hand hand' old lent left new out lent_out lent_is lent_out_is k new_is sound =
+    let k' : Passes old out current first f new = rw (← lent_is, ← lent_out_is, new_is) k in
+    record {
+      same_length = sound.same_length ∙ sym k'.frames;
+      small = λ g d inside.
+          let inside' : g < length old = omega (arith, k'.frames) in
+          same-bound _ _ 7 (get_or_default new g d 0 inside) (bound-kept current first f 7 old new out g k' (sound.small g 0 inside'));
+    }

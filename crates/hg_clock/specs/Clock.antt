@@ -1,6 +1,6 @@
 -- The clock that chooses the frame whose page has to go. Our own rule: a clock as page caches have it, with scores from
 -- 0 to 7 in place of one bit.
-use Rattle.std.specs.Prelude.{◌≡◌, ℕ, ◌+◌, ◌-◌, ◌<◌, ◌≤◌, Bool, true, false, if◌then◌else◌, List, length, slice_index, slice_index_or, nat_lt}
+use Rattle.std.specs.Prelude.{◌≡◌, ℕ, ◌+◌, ◌-◌, ◌<◌, ◌≤◌, Bool, true, false, if◌then◌else◌, List, All, length, slice_index, slice_index_or, nat_lt}
 
 -- What callers see of a clock: each frame's score, whether it is out, and the frame that the hand stands at.
 pub record ClockState : Type 0 where
@@ -10,6 +10,11 @@ pub record ClockState : Type 0 where
 
 abbrev pub frame_count : ClockState → ℕ
 frame_count clock = length clock.scores
+
+-- what holds of every clock: it says of each frame whether it is out, and scores are from 0 to 7
+pub record IsSound (clock : ClockState) : Type 0 where
+  pub same_length : length clock.out ≡ frame_count clock
+  pub small : All (λ s. s ≤ 7) clock.scores
 
 abbrev pub score_of : ClockState → ℕ → ℕ
 score_of clock f = slice_index clock.scores f

@@ -9,7 +9,7 @@ mod sweep;
 mod tests;
 
 ghost use Rattle.std.specs.Prelude.{◌≡◌, ◌<◌, ◌≤◌, ◌↔◌, false, replicate, slice_set, IfOk, IfSome, IfNone, IsNone, MatchOption};
-ghost use Rattle.hg_clock.specs.Clock.{frame_count, AllOut, Takes};
+ghost use Rattle.hg_clock.specs.Clock.{frame_count, AllOut, IsSound, Takes};
 ghost use Rattle.hg_clock.specs.Looks.{LooksEndIn, LooksNeverEnd};
 
 use hg_base::{FrameNo, NoMemory};
@@ -29,21 +29,21 @@ pub struct Clock {
 }
 
 impl Model for Clock {
-    ghost use Rattle.std.specs.Prelude.{◌≡◌, ◌<◌, ◌≤◌, All, length};
-    ghost use Rattle.hg_clock.specs.Clock.{ClockState};
+    ghost use Rattle.hg_clock.specs.Clock.{ClockState, IsSound};
 
     ghost Value = { ClockState };
 
     ghost view = { λ c. record { scores = c.scores.items; out = c.out.items; hand = c.hand } };
 
-    ghost invariant = { λ c. (length c.out.items ≡ length c.scores.items) × All (λ s. s ≤ 7) c.scores.items };
+    ghost invariant = { λ c. IsSound (record { scores = c.scores.items; out = c.out.items; hand = c.hand }) };
 }
 
 impl Clock {
     /// A clock of so many frames, numbered from 0. Memory is taken here alone, and the only error is
     /// want of it.
     pub fn new(alloc: Global, frames: u32) -> Result<Clock, NoMemory>
-        ensures { IfOk result (λ clock. clock ≡ record { scores = replicate frames 0; out = replicate frames false; hand = 0 }) }
+        ensures made { IfOk result (λ clock. clock ≡ record { scores = replicate frames 0; out = replicate frames false; hand = 0 }) }
+        ensures sound { IfOk result IsSound }
     {
         let count = frames as usize;
         let Ok(scores) = Vec::from_elem(alloc, 0u8, count) else {
@@ -62,7 +62,8 @@ impl Clock {
     /// The frame was used: its score is 7.
     pub fn touch(&mut self, f: FrameNo)
         requires { f.0 < frame_count self.old }
-        ensures { self.new ≡ record self.old { scores = slice_set self.old.scores f.0 7 } }
+        ensures changed { self.new ≡ record self.old { scores = slice_set self.old.scores f.0 7 } }
+        ensures sound { IsSound self.new }
     {
         self.scores[f.0 as usize] = FULL_SCORE;
     }
@@ -70,7 +71,8 @@ impl Clock {
     /// The frame's page is gone: its score is 0, so that the hand takes it when it comes.
     pub fn clear(&mut self, f: FrameNo)
         requires { f.0 < frame_count self.old }
-        ensures { self.new ≡ record self.old { scores = slice_set self.old.scores f.0 0 } }
+        ensures changed { self.new ≡ record self.old { scores = slice_set self.old.scores f.0 0 } }
+        ensures sound { IsSound self.new }
     {
         self.scores[f.0 as usize] = 0;
     }
@@ -78,20 +80,25 @@ impl Clock {
     /// Whether the frame is out; the hand takes no frame that is.
     pub fn set_out(&mut self, f: FrameNo, out: bool)
         requires { f.0 < frame_count self.old }
-        ensures { self.new ≡ record self.old { out = slice_set self.old.out f.0 out } }
+        ensures changed { self.new ≡ record self.old { out = slice_set self.old.out f.0 out } }
+        ensures sound { IsSound self.new }
     {
         self.out[f.0 as usize] = out;
     }
 
     /// The frame whose page has to go, of those below `current` that are not out. Each is passed as
-    /// often as its score says, and taken is the first whose score is used up. The rounds are not
-    /// gone one by one: one sweep finds the frame and one lowers the scores, each over at most the
-    /// frames below `current`, and where the first frame of score 0 is near the hand, each over the
-    /// frames up to it alone.
+    /// often as its score says, and taken is the first whose score is used up. None where all are
+    /// out.
+    ///
+    /// Cost: the rounds of the hand are not gone one by one. Each frame below `current` is read once
+    /// at most to find the frame, and written twice at most to lower the scores; where all are out,
+    /// each is read once and none written. Where the hand comes to a frame of score 0 before it has
+    /// passed the last frame below `current`, only the frames up to that one are read and written.
     pub fn victim(&mut self, current: u32) -> Option<FrameNo>
         requires { current ≤ frame_count self.old }
         ensures none { IsNone result ↔ AllOut current self.old }
         ensures unchanged { IfNone result (self.new ≡ self.old) }
+        ensures sound { IsSound self.new }
         ensures taken { IfSome result (λ f. Takes current self.old f.0 self.new) }
 
         // The same, look by look of the hand.

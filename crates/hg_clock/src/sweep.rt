@@ -15,7 +15,7 @@ pub fn first_frame(hand: usize, current: usize) -> usize
 pub fn least_in(scores: &[u8], out: &[bool], low: usize, high: usize) -> Option<usize>
     requires ordered { low ≤ high }
     requires inside { high ≤ length scores.now }
-    requires both { length out.now ≡ length scores.now }
+    requires same_length { length out.now ≡ length scores.now }
     ensures found { IfSome result (λ f. IsLeastIn scores.now out.now low high f) }
     ensures none { IfNone result (AllOutIn out.now low high) }
 {
@@ -42,7 +42,7 @@ pub fn least_in(scores: &[u8], out: &[bool], low: usize, high: usize) -> Option<
 pub fn lower(scores: &mut [u8], out: &[bool], low: usize, high: usize, amount: u8)
     requires ordered { low ≤ high }
     requires inside { high ≤ length scores.old }
-    requires both { length out.now ≡ length scores.old }
+    requires same_length { length out.now ≡ length scores.old }
     requires enough { (g : ℕ) → low ≤ g → g < high → slice_index_or out.now g false ≡ false → amount ≤ slice_index scores.old g }
     ensures { Lowers scores.old out.now low high amount scores.new }
 {
@@ -58,7 +58,7 @@ pub fn lower(scores: &mut [u8], out: &[bool], low: usize, high: usize, amount: u
 pub fn first_used_up(scores: &[u8], out: &[bool], first: usize, current: usize) -> Option<usize>
     requires ordered { first ≤ current }
     requires inside { current ≤ length scores.now }
-    requires both { length out.now ≡ length scores.now }
+    requires same_length { length out.now ≡ length scores.now }
     ensures found { IfSome result (λ f. IsFirstUsedUp scores.now out.now current first f) }
     ensures none { IfNone result (AllOutIn out.now 0 current) }
 {
@@ -70,8 +70,7 @@ pub fn first_used_up(scores: &[u8], out: &[bool], first: usize, current: usize) 
     }
     match least_in(scores, out, 0, first) {
         Some(behind) if scores[behind] < scores[ahead] => Some(behind),
-        Some(_) => Some(ahead),
-        None => Some(ahead),
+        _ => Some(ahead),
     }
 }
 
@@ -79,7 +78,7 @@ pub fn first_used_up(scores: &[u8], out: &[bool], first: usize, current: usize) 
 pub fn lower_before(scores: &mut [u8], out: &[bool], first: usize, current: usize, victim: usize)
     requires ordered { first ≤ current }
     requires inside { current ≤ length scores.old }
-    requires both { length out.now ≡ length scores.old }
+    requires same_length { length out.now ≡ length scores.old }
     requires below { victim < current }
     requires enough { (g : ℕ) → g < current → slice_index_or out.now g false ≡ false
         → place current first g < place current first victim → 0 < slice_index scores.old g }
@@ -97,7 +96,7 @@ pub fn lower_before(scores: &mut [u8], out: &[bool], first: usize, current: usiz
 pub fn pass(scores: &mut [u8], out: &[bool], first: usize, current: usize, victim: usize)
     requires ordered { first ≤ current }
     requires inside { current ≤ length scores.old }
-    requires both { length out.now ≡ length scores.old }
+    requires same_length { length out.now ≡ length scores.old }
     requires victim { IsFirstUsedUp scores.old out.now current first victim }
     ensures { Passes scores.old out.now current first victim scores.new }
 {

@@ -1,7 +1,7 @@
 use Rattle.std.proofs.Common.{◌≡◌, length, refl, arith}
 use Rattle.std.proofs.lemmas.List.{with_items_is}
 use Rattle.hg_clock.proofs.Chains.{looks-end, never-by}
-use Rattle.hg_clock.proofs.Victims.{takes_lent, invariant-kept}
+use Rattle.hg_clock.proofs.Victims.{takes_lent, sound-kept}
 use Rattle.hg_clock.proofs.Clock.victim.Goals as goal
 
 pub returns-clause-taken : goal.returns-clause-taken
@@ -17,8 +17,8 @@ returns-clause-looks c = looks-end _ _ _ _ c.requires (returns-clause-taken c)
 pub invariant_of-self : goal.invariant_of-self
 invariant_of-self c =
     let same_count : length c.pass.new.scores ≡ c.self.inside.scores.len = omega arith in
-    invariant-kept _ _ _ 7 c.self.inside.scores.items _ _ _ _ _ c.deref_mut.ensures.value c.deref-3.ensures.value c.pass.ensures
-    (with_items_is c.self.inside.scores c.pass.new.scores same_count) c.self.invariant.0 c.self.invariant.1
+    sound-kept _ _ _ c.self.inside.hand _ c.self.inside.scores.items _ _ _ _ _ c.deref_mut.ensures.value c.deref-3.ensures.value
+    c.pass.ensures (with_items_is c.self.inside.scores c.pass.new.scores same_count) c.self.invariant
 
 pub returns-in_err-victim-clause-looks : goal.returns-in_err-victim-clause-looks
 returns-in_err-victim-clause-looks c =
