@@ -92,8 +92,8 @@ impl Clock {
     ///
     /// Cost: the rounds of the hand are not gone one by one. Each frame below `current` is read once
     /// at most to find the frame, and written twice at most to lower the scores; where all are out,
-    /// each is read once and none written. Where the hand comes to a frame of score 0 before it has
-    /// passed the last frame below `current`, only the frames up to that one are read and written.
+    /// each is read once and none written. Where some eligible frame has score 0, only the frames up
+    /// to the first of these in the order of the hand are read and written.
     pub fn victim(&mut self, current: u32) -> Option<FrameNo>
         requires { current ≤ frame_count self.old }
         ensures none { IsNone result ↔ AllOut current self.old }
