@@ -1,0 +1,4 @@
+pub mod Chains
+pub mod Homes
+pub mod Lists
+pub mod Regions

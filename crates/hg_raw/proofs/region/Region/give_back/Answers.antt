@@ -1,0 +1,27 @@
+use Rattle.std.proofs.Common.{ℕ, Bool, List, ◌++◌, ◌≡◌, ◌∙◌, length, refl, sym, ap, subst}
+use Rattle.hg_raw.specs.declared.slots.Slots.{Slots}
+use Rattle.hg_raw.specs.Frames.{RegionId, RegionSeen, ChainSeen, Sized, numbers, marked}
+use Rattle.hg_raw.proofs.Chains.{words-sized}
+use Rattle.hg_raw.proofs.Regions.{count-home, back-is, seen-back, refitted}
+use Rattle.hg_raw.proofs.region.Region.give_back.Goals as goal
+
+pub mark-requires : goal.mark-requires
+mark-requires c =
+    ap (λ (i : RegionId). i.frames) (c.requires ∙ sym (ap (λ (v : RegionSeen). v.region) c.self.view_is)) ∙ sym (count-home c.self.inside c.self.invariant) ∙ sym (ap (λ (hs : List Bool). length hs) c.deref_mut.ensures.value)
+
+pub append-requires-clause-other_sized : goal.append-requires-clause-other_sized
+append-requires-clause-other_sized c = subst (λ n. Sized n c.c.inside.words.held) (sym c.self.invariant.word_size) (words-sized c.c.inside c.c.invariant)
+
+pub invariant_of-self : goal.invariant_of-self
+invariant_of-self c =
+    let region = ap (λ (v : ChainSeen). v.region) c.c.view_is ∙ c.requires ∙ sym (ap (λ (v : RegionSeen). v.region) c.self.view_is) in
+    let marks = c.mark.ensures ∙ (λ i. marked (c.deref_mut.ensures.value i) (numbers (sym c.c.view_is i).frames)) in
+    back-is c.self.inside c.c.inside c.self.invariant c.c.invariant region c.append-2.ensures.apart _ c.append.ensures.all c.append-2.ensures.all refl
+    (refitted c.self.inside.home c.mark.new.flags (numbers c.c.inside.pages.held) marks) refl refl
+
+pub returns : goal.returns
+returns c =
+    let region = ap (λ (v : ChainSeen). v.region) c.c.view_is ∙ c.requires ∙ sym (ap (λ (v : RegionSeen). v.region) c.self.view_is) in
+    seen-back c.self.inside c.c.inside c.c.invariant c.args.self.now c.args.c c.self.view_is c.c.view_is region c.append-2.ensures.apart
+    (record { words = c.append.new.self; pages = c.append-2.new.self; frames = c.self.inside.frames; home = c.self.inside.home; alloc = c.self.inside.alloc; lease = c.self.inside.lease })
+    (ap (λ (s : Slots). s.base) c.append.ensures.all) c.append-2.ensures.all refl

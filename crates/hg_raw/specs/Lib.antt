@@ -1,0 +1,5 @@
+pub mod ChainParts
+pub mod Frames
+pub mod Lending
+pub mod Memory
+pub mod RegionParts
