@@ -8,7 +8,7 @@ use Rattle.hg_raw.specs.declared.slots.Slots.{Slots}
 use Rattle.hg_raw.specs.declared.chain.Chain.TheInside.{Inside}
 use Rattle.hg_raw.specs.ChainParts.{IsChain, chain_seen}
 use Rattle.hg_raw.specs.Frames.{Frame, RegionId, ChainSeen, numbers, is_in, distinct, apart, bytes_of, without, with_bytes, refit, first_of, last_of, nil, word, linked, from, behind, before, marked, Sized, Below}
-use Rattle.hg_raw.proofs.Lists.{minus, linked-numbers, linked-sized, sized-at, linked-next, from-next, below-at, no_nil, last-in, linked-join, first-append, last-append, numbers-append, sized-append, below-append, distinct-append, linked-minus, numbers-without, sized-without, below-minus, distinct-minus, first-minus, last-minus, sized-with, numbers-with, from-first, before-first, before-next, from-in, from-behind, or_false, clash, same, by_bool, first-nil, differ, with-none, before-in}
+use Rattle.hg_raw.proofs.Lists.{minus, linked-numbers, linked-sized, sized-at, linked-next, from-next, below-at, no_nil, last-in, linked-join, first-append, last-append, numbers-append, sized-append, below-append, distinct-append, linked-minus, numbers-without, sized-without, below-minus, distinct-minus, first-minus, last-minus, sized-with, numbers-with, from-first, before-first, before-next, from-in, from-behind, or_false, clash, same, by_bool, first-nil, differ, with-none, before-in, or_rest}
 
 pub first-small : (N : ℕ) (ns : List ℕ) → N < 2 ^ 32 → Below N ns → first_of ns < 2 ^ 32
 first-small N [] small b = lit< tt
@@ -134,10 +134,6 @@ alone p q N f b w small few l = record {
 -- ---- the walk to the frame before f
 pub rest-smaller : (ns : List ℕ) (n r : ℕ) → is_in n ns ≡ true → from r ns ≡ behind n ns → length (from r ns) < length (from n ns)
 rest-smaller ns n r h e = subst (λ (xs : List ℕ). length xs < length (from n ns)) (sym e) (subst (λ (xs : List ℕ). length (behind n ns) < length xs) (sym (from-behind n ns h)) (omega arith))
-
-or_rest : (a b : Bool) → (a || b) ≡ true → a ≡ false → b ≡ true
-or_rest true b h k = clash true refl k
-or_rest false b h k = h
 
 pub seen-no-nil : (c : Inside) → IsChain c → (v : ChainSeen) → chain_seen c ≡ v → is_in nil (numbers v.frames) ≡ false
 seen-no-nil c is v e = subst (λ (v : ChainSeen). is_in nil (numbers v.frames) ≡ false) e (no-nil c is)

@@ -1,4 +1,9 @@
+pub mod Blocks
 pub mod Chains
+pub mod Facts
 pub mod Homes
+pub mod Lent
 pub mod Lists
+pub mod Opens
+pub mod Parts
 pub mod Regions

@@ -3,6 +3,7 @@ use Rattle.std.proofs.Common.{◌≡◌, ℕ, zero, suc, ◌+◌, ◌-◌, ◌<�
 use lib.Dec.{eqb, eqb→eq, eqb_refl}
 use Rattle.std.proofs.Math.Bool.{and-true}
 use Rattle.std.proofs.Common.{append-nil}
+use native.Mathlib.Nat.{not-suc-le-zero}
 use Rattle.std.specs.Int.{to_le_bytes}
 use Rattle.hg_raw.specs.Frames.{Frame, numbers, is_in, distinct, apart, bytes_of, without, with_bytes, first_of, last_of, nil, word, linked, from, behind, before, Sized, Below}
 
@@ -53,9 +54,13 @@ pub by_bool : {X : Type 0} → (b : Bool) → (b ≡ true → X) → (b ≡ fals
 by_bool true f g = f refl
 by_bool false f g = g refl
 
-or_right : (a b : Bool) → b ≡ true → (a || b) ≡ true
+pub or_right : (a b : Bool) → b ≡ true → (a || b) ≡ true
 or_right true b h = refl
 or_right false b h = h
+
+pub or_rest : (a b : Bool) → (a || b) ≡ true → a ≡ false → b ≡ true
+or_rest true b h k = clash true refl k
+or_rest false b h k = h
 
 -- ---- what is in a list
 pub out_differs : (n m : ℕ) (ms : List ℕ) → is_in n ms ≡ false → is_in m ms ≡ true → m ≡ n → ⊥
@@ -198,6 +203,21 @@ in-minus k n (m ∷ ms) d =
         (λ j. sym (ap (λ t. not t) (differ k n (λ h. e (j ∙ h)))))
         (λ _. in-minus k n ms (snd_true _ _ d)))
 
+pub in-others : (n k : ℕ) (ns : List ℕ) → (n ≡ k → ⊥) → is_in n ns ≡ true → is_in n (minus ns k) ≡ true
+in-others n k [] ne h = h
+in-others n k (m ∷ ms) ne h =
+    case_eq m k (λ t. is_in n (if t then ms else m ∷ minus ms k) ≡ true)
+    (λ e. or_rest (m == n) (is_in n ms) h (differ m n (λ j. ne (sym j ∙ e))))
+    (λ _. case_eq m n (λ t. (t || is_in n (minus ms k)) ≡ true) (λ _. refl) (λ j. in-others n k ms ne (or_rest (m == n) (is_in n ms) h (differ m n j))))
+
+-- a number in both lists, where they are not apart
+pub in-both : (ns ms : List ℕ) → apart ns ms ≡ false → (n : ℕ) × (is_in n ns ≡ true) × (is_in n ms ≡ true)
+in-both [] ms e = clash true refl e
+in-both (n ∷ ns) ms e =
+    by_bool (is_in n ms)
+    (λ h. (n, ap (λ t. t || is_in n ns) (same n), h))
+    (λ h. let r = in-both ns ms (sym (ap (λ t. not t && apart ns ms) h) ∙ e) in (r.0, or_right (n == r.0) (is_in r.0 ns) r.1, r.2))
+
 pub bytes-without : (fs : List Frame) (k n : ℕ) → (k ≡ n → ⊥) → bytes_of (without fs n) k ≡ bytes_of fs k
 bytes-without [] k n ne = refl
 bytes-without (f ∷ fs) k n ne =
@@ -334,3 +354,7 @@ linked-minus (m ∷ k ∷ ks) f free d h =
         ap (λ (fs : List Frame). (m, word k) ∷ fs) (linked-minus (k ∷ ks) f no' d' i) ∙
         ap (λ (n : ℕ). (m, word n) ∷ linked (minus (k ∷ ks) f)) (sym (ap (λ v. first_of (if v then ks else k ∷ minus ks f)) u))) ∙
         sym (ap (λ u. linked (if u then k ∷ ks else m ∷ minus (k ∷ ks) f)) t))
+
+pub held-in : (fs : List Frame) (n s : ℕ) → length (bytes_of fs n) ≡ s → 0 < s → is_in n (numbers fs) ≡ true
+held-in [] n s l pos = absurd (not-suc-le-zero (subst (λ k. 0 < k) (sym l) pos))
+held-in (f ∷ fs) n s l pos = elim (f.0 == n) as (λ t. length (if t then f.1 else bytes_of fs n) ≡ s → (t || is_in n (numbers fs)) ≡ true) [ true ↦ λ _. refl | false ↦ λ l. held-in fs n s l pos ] l

@@ -3,7 +3,7 @@
 ghost use Rattle.std.specs.Prelude.{◌≡◌, ◌*◌, ◌^◌, ◌<◌, ◌++◌, List, [], ◌∷◌, length, true, IsTrue};
 ghost use Rattle.std.specs.Borrow.{sem};
 ghost use Rattle.hg_raw.specs.Frames.{Frame, bytes_of, numbers, is_in, without, with_bytes, apart, Sized, word};
-ghost use Rattle.hg_raw.specs.Memory.{parts_own, parts_lent};
+ghost use Rattle.hg_raw.specs.Memory.{slots_own, slots_lent};
 
 use std::marker::Model;
 use std::slice::{from_raw_parts, from_raw_parts_mut};
@@ -15,9 +15,9 @@ pub(crate) struct Slots {
 }
 
 impl Model for Slots {
-    ghost also_owns = { λ s. parts_own s.base s.size s.held };
+    ghost also_owns = { λ s. slots_own s.base s.size s.held };
 
-    ghost also_shares = { λ s _ κ. parts_lent s.base s.size s.held κ };
+    ghost also_shares = { λ s _ κ. slots_lent s.base s.size s.held κ };
 }
 
 impl Slots {
@@ -31,7 +31,8 @@ impl Slots {
         ensures value { result.now ≡ bytes_of self.now.held n }
         ensures len { length result.now ≡ self.now.size }
     {
-        unsafe { from_raw_parts(self.base.add(n * self.size), self.size) }
+        let size = self.size;
+        unsafe { from_raw_parts(self.base.add(n * size), size) }
     }
 
     pub(crate) fn get_mut(&mut self, n: usize) -> &mut [u8]
@@ -43,7 +44,8 @@ impl Slots {
         ensures value { result.now ≡ bytes_of self.old.held n }
         ensures len { length result.now ≡ self.old.size }
     {
-        unsafe { from_raw_parts_mut(self.base.add(n * self.size), self.size) }
+        let size = self.size;
+        unsafe { from_raw_parts_mut(self.base.add(n * size), size) }
     }
 
     /// Takes part `n` out.
