@@ -57,8 +57,8 @@ chain-taken r v e f lt h ws ps ew ep =
     (λ i. record { region = (e i).region; frames = (f, sym (home-bytes r v e f lt h) i) ∷ [] })
 
 pub taken-is : (r : Inside) → IsRegion r → (f : ℕ) → f < r.frames → (e : Inside) → e.words ≡ record { base = r.words.base; size = r.words.size; held = without r.words.held f }
-    → e.pages ≡ record { base = r.pages.base; size = r.pages.size; held = without r.pages.held f } → e.frames ≡ r.frames → e.home.items ≡ slice_set r.home.items f false → e.lease ≡ r.lease → e.alloc ≡ r.alloc → IsRegion e
-taken-is r is f lt e ew ep ef eh el ea =
+    → e.pages ≡ record { base = r.pages.base; size = r.pages.size; held = without r.pages.held f } → e.frames ≡ r.frames → e.home.items ≡ slice_set r.home.items f false → e.shell ≡ r.shell → IsRegion e
+taken-is r is f lt e ew ep ef eh el =
     let ns : List ℕ = numbers r.pages.held in
     let wheld : e.words.held ≡ without r.words.held f = ap (λ (s : Slots). s.held) ew in
     let held : e.pages.held ≡ without r.pages.held f = ap (λ (s : Slots). s.held) ep in
@@ -75,8 +75,8 @@ taken-is r is f lt e ew ep ef eh el ea =
       few = subst (λ n. n < 2 ^ 32) (sym ef) is.few;
       distinct = ap distinct all ∙ distinct-minus ns f is.distinct;
       home = eh ∙ ap (λ (hs : List Bool). slice_set hs f false) is.home ∙ sym (flags-minus ns r.frames f lt is.distinct) ∙ (λ i. flags (sym all i) (sym ef i));
-      lease = (ap (λ l. l.base) el ∙ is.lease.0 ∙ sym wbase, base ∙ is.lease.1 ∙ (λ i. sym wbase i +ₚ (4 * sym ef i)), ap (λ l. l.frames) el ∙ is.lease.2 ∙ sym ef,
-        subst (λ n. 4100 * n ≤ e.lease.capacity) (sym ef) (subst (λ l. 4100 * r.frames ≤ l.capacity) (sym el) is.lease.3), ap (λ l. l.alloc) el ∙ is.lease.4 ∙ sym ea);
+      shell = el ∙ is.shell ∙ (λ i. record { base = sym wbase i; frames = sym ef i });
+      pages = base ∙ is.pages ∙ (λ i. sym wbase i +ₚ (4 * sym ef i));
     }
 
 pub seen-taken : (r : Inside) → IsRegion r → (v : RegionSeen) → region_seen r ≡ v → (f : ℕ) → f < r.frames → (e : Inside) → e.words.base ≡ r.words.base
@@ -88,8 +88,8 @@ seen-taken r is v ev f lt e ew ep ef =
 -- ---- a chain given back
 pub back-is : (r : Inside) (c : Parts) → IsRegion r → IsChain c → (chain_seen c).region ≡ (region_seen r).region → apart (numbers r.pages.held) (numbers c.pages.held) ≡ true
     → (e : Inside) → e.words ≡ record { base = r.words.base; size = r.words.size; held = r.words.held ++ c.words.held } → e.pages ≡ record { base = r.pages.base; size = r.pages.size; held = r.pages.held ++ c.pages.held }
-    → e.frames ≡ r.frames → e.home.items ≡ marked r.home.items (numbers c.pages.held) → e.lease ≡ r.lease → e.alloc ≡ r.alloc → IsRegion e
-back-is r c is it same_region far e ew ep ef eh el ea =
+    → e.frames ≡ r.frames → e.home.items ≡ marked r.home.items (numbers c.pages.held) → e.shell ≡ r.shell → IsRegion e
+back-is r c is it same_region far e ew ep ef eh el =
     let ns : List ℕ = numbers r.pages.held in let ms : List ℕ = numbers c.pages.held in
     let wheld : e.words.held ≡ r.words.held ++ c.words.held = ap (λ (s : Slots). s.held) ew in
     let held : e.pages.held ≡ r.pages.held ++ c.pages.held = ap (λ (s : Slots). s.held) ep in
@@ -107,8 +107,8 @@ back-is r c is it same_region far e ew ep ef eh el ea =
       few = subst (λ n. n < 2 ^ 32) (sym ef) is.few;
       distinct = ap distinct all ∙ distinct-append ns ms is.distinct it.distinct far;
       home = eh ∙ ap (λ (hs : List Bool). marked hs ms) is.home ∙ sym (flags-back ns ms r.frames small) ∙ (λ i. flags (sym all i) (sym ef i));
-      lease = (ap (λ l. l.base) el ∙ is.lease.0 ∙ sym wbase, base ∙ is.lease.1 ∙ (λ i. sym wbase i +ₚ (4 * sym ef i)), ap (λ l. l.frames) el ∙ is.lease.2 ∙ sym ef,
-        subst (λ n. 4100 * n ≤ e.lease.capacity) (sym ef) (subst (λ l. 4100 * r.frames ≤ l.capacity) (sym el) is.lease.3), ap (λ l. l.alloc) el ∙ is.lease.4 ∙ sym ea);
+      shell = el ∙ is.shell ∙ (λ i. record { base = sym wbase i; frames = sym ef i });
+      pages = base ∙ is.pages ∙ (λ i. sym wbase i +ₚ (4 * sym ef i));
     }
 
 pub seen-back : (r : Inside) (c : Parts) → IsChain c → (v : RegionSeen) (w : ChainSeen) → region_seen r ≡ v → chain_seen c ≡ w → (chain_seen c).region ≡ (region_seen r).region → apart (numbers r.pages.held) (numbers c.pages.held) ≡ true
@@ -120,8 +120,8 @@ seen-back r c it v w ev ew' same_region far e ew ep ef =
 
 -- ---- a new region
 pub new-is : (e : Inside) → (p : Ptr) → e.words ≡ record { base = p; size = 4; held = zeros 4 e.frames } → e.pages ≡ record { base = p +ₚ (4 * e.frames); size = 4096; held = zeros 4096 e.frames } → e.frames < 2 ^ 32
-    → e.home.items ≡ replicate e.frames true → e.lease.base ≡ p → e.lease.frames ≡ e.frames → 4100 * e.frames ≤ e.lease.capacity → e.lease.alloc ≡ e.alloc → IsRegion e
-new-is e p ew ep few eh lb lf lc la =
+    → e.home.items ≡ replicate e.frames true → e.shell ≡ record { base = p; frames = e.frames } → IsRegion e
+new-is e p ew ep few eh es =
     let wheld : e.words.held ≡ zeros 4 e.frames = ap (λ (s : Slots). s.held) ew in
     let held : e.pages.held ≡ zeros 4096 e.frames = ap (λ (s : Slots). s.held) ep in
     let wbase : e.words.base ≡ p = ap (λ (s : Slots). s.base) ew in
@@ -135,7 +135,8 @@ new-is e p ew ep few eh lb lf lc la =
       few = few;
       distinct = ap (λ (fs : List Frame). distinct (numbers fs)) held ∙ zeros-distinct 4096 e.frames;
       home = eh ∙ sym (fresh-flags e.frames) ∙ ap (λ (fs : List Frame). flags (numbers fs) e.frames) (sym held);
-      lease = (lb ∙ sym wbase, ap (λ (s : Slots). s.base) ep ∙ ap (λ (q : Ptr). q +ₚ (4 * e.frames)) (sym wbase), lf, lc, la);
+      shell = es ∙ ap (λ (q : Ptr). record { base = q; frames = e.frames }) (sym wbase);
+      pages = ap (λ (s : Slots). s.base) ep ∙ ap (λ (q : Ptr). q +ₚ (4 * e.frames)) (sym wbase);
     }
 
 pub new-home : (ps : Slots) (q : Ptr) (n : ℕ) → ps ≡ record { base = q; size = 4096; held = zeros 4096 n } → at_home ps.held n ≡ fresh_home n

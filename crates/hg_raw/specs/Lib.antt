@@ -3,3 +3,4 @@ pub mod Frames
 pub mod Lending
 pub mod Memory
 pub mod RegionParts
+pub mod Shells

@@ -1,5 +1,5 @@
 -- A region's fields, as contracts see them, and what is true of them.
-use Rattle.std.specs.Prelude.{◌≡◌, ◌+◌, ◌*◌, ◌<◌, ◌≤◌, ◌^◌, true}
+use Rattle.std.specs.Prelude.{◌≡◌, ◌*◌, ◌<◌, ◌^◌, true}
 use denote.RawPtr.{◌+ₚ◌}
 use Rattle.hg_raw.specs.Frames.{RegionSeen, numbers, distinct, Sized, Below, at_home, flags}
 use Rattle.hg_raw.specs.declared.region.Region.TheInside.{Inside}
@@ -17,4 +17,5 @@ pub record IsRegion (r : Inside) : Type 0 where
   pub few : r.frames < 2 ^ 32
   pub distinct : distinct (numbers r.pages.held) ≡ true
   pub home : r.home.items ≡ flags (numbers r.pages.held) r.frames
-  pub lease : (r.lease.base ≡ r.words.base) × (r.pages.base ≡ r.words.base +ₚ (4 * r.frames)) × (r.lease.frames ≡ r.frames) × (4100 * r.frames ≤ r.lease.capacity) × (r.lease.alloc ≡ r.alloc)
+  pub shell : r.shell ≡ record { base = r.words.base; frames = r.frames }
+  pub pages : r.pages.base ≡ r.words.base +ₚ (4 * r.frames)

@@ -7,8 +7,8 @@
 #![tactic(auto)]
 
 mod chain;
-mod lease;
 mod region;
+mod shell;
 mod slots;
 
 pub use chain::Chain;

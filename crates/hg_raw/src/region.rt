@@ -3,7 +3,7 @@ ghost use Rattle.std.specs.Prelude.{◌≡◌, ◌<◌, IfOk, IsTrue, [], ◌∷
 ghost use Rattle.hg_raw.specs.Frames.{Frame, is_home, home_bytes, taken, given_back, fresh_home, AllHome};
 
 use crate::chain::{Chain, NIL, set_word};
-use crate::lease::{Lease, open};
+use crate::shell::{Shell, open};
 use crate::slots::Slots;
 use hg_base::{FrameNo, NoMemory};
 use std::alloc::Global;
@@ -16,8 +16,7 @@ pub struct Region {
     pages: Slots,
     frames: u32,
     home: Vec<bool>,
-    alloc: Global,
-    lease: Lease<Global>,
+    shell: Shell,
 }
 
 impl Model for Region {
@@ -49,17 +48,14 @@ impl Region {
         if block.resize(bytes, 0).is_err() {
             return Err(NoMemory);
         }
-        let capacity = block.capacity();
-        let alloc = *block.allocator();
         let base = block.as_mut_ptr();
-        let (words, (pages, lease)) = open(block, base, capacity, count);
+        let (words, (pages, shell)) = open(block, base, count);
         Ok(Region {
             words,
             pages,
             frames,
             home,
-            alloc,
-            lease,
+            shell,
         })
     }
 
@@ -116,9 +112,8 @@ impl Region {
             pages,
             frames: _,
             home: _,
-            alloc,
-            lease,
+            shell,
         } = self;
-        lease.close(words, pages, &alloc);
+        drop(shell.close(words, pages));
     }
 }

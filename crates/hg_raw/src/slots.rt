@@ -1,4 +1,4 @@
-// Parts of one raw block, all of the same size and counted from a base. Only this file and `lease`
+// Parts of one raw block, all of the same size and counted from a base. Only this file and `shell`
 // have functions with a pointer, and none of these has a loop.
 ghost use Rattle.std.specs.Prelude.{◌≡◌, ◌*◌, ◌^◌, ◌<◌, ◌++◌, List, [], ◌∷◌, length, true, IsTrue};
 ghost use Rattle.std.specs.Borrow.{sem};

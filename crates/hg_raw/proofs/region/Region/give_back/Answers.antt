@@ -17,11 +17,11 @@ invariant_of-self c =
     let region = ap (λ (v : ChainSeen). v.region) c.c.view_is ∙ c.requires ∙ sym (ap (λ (v : RegionSeen). v.region) c.self.view_is) in
     let marks = c.mark.ensures ∙ (λ i. marked (c.deref_mut.ensures.value i) (numbers (sym c.c.view_is i).frames)) in
     back-is c.self.inside c.c.inside c.self.invariant c.c.invariant region c.append-2.ensures.apart _ c.append.ensures.all c.append-2.ensures.all refl
-    (refitted c.self.inside.home c.mark.new.flags (numbers c.c.inside.pages.held) marks) refl refl
+    (refitted c.self.inside.home c.mark.new.flags (numbers c.c.inside.pages.held) marks) refl
 
 pub returns : goal.returns
 returns c =
     let region = ap (λ (v : ChainSeen). v.region) c.c.view_is ∙ c.requires ∙ sym (ap (λ (v : RegionSeen). v.region) c.self.view_is) in
     seen-back c.self.inside c.c.inside c.c.invariant c.args.self.now c.args.c c.self.view_is c.c.view_is region c.append-2.ensures.apart
-    (record { words = c.append.new.self; pages = c.append-2.new.self; frames = c.self.inside.frames; home = c.self.inside.home; alloc = c.self.inside.alloc; lease = c.self.inside.lease })
+    (record { words = c.append.new.self; pages = c.append-2.new.self; frames = c.self.inside.frames; home = c.self.inside.home; shell = c.self.inside.shell })
     (ap (λ (s : Slots). s.base) c.append.ensures.all) c.append-2.ensures.all refl

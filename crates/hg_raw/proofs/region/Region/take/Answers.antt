@@ -18,7 +18,7 @@ pub cut-pages-requires : goal.cut-pages-requires
 cut-pages-requires c = (home-in c.self.inside c.args.self.now c.self.view_is c.args.f.0 c.requires).1
 
 pub invariant_of-self : goal.invariant_of-self
-invariant_of-self c = taken-is c.self.inside c.self.invariant c.args.f.0 (home-in c.self.inside c.args.self.now c.self.view_is c.args.f.0 c.requires).0 _ c.cut-words.ensures.others c.cut-pages.ensures.others refl refl refl refl
+invariant_of-self c = taken-is c.self.inside c.self.invariant c.args.f.0 (home-in c.self.inside c.args.self.now c.self.view_is c.args.f.0 c.requires).0 _ c.cut-words.ensures.others c.cut-pages.ensures.others refl refl refl
 
 pub invariant_of-result : goal.invariant_of-result
 invariant_of-result c =
@@ -42,5 +42,5 @@ returns-clause-len c =
 pub returns-clause-out : goal.returns-clause-out
 returns-clause-out c =
     seen-taken c.self.inside c.self.invariant c.args.self.now c.self.view_is c.args.f.0 (home-in c.self.inside c.args.self.now c.self.view_is c.args.f.0 c.requires).0
-    (record { words = c.cut-words.new.self; pages = c.cut-pages.new.self; frames = c.self.inside.frames; home = c.self.inside.home; alloc = c.self.inside.alloc; lease = c.self.inside.lease })
+    (record { words = c.cut-words.new.self; pages = c.cut-pages.new.self; frames = c.self.inside.frames; home = c.self.inside.home; shell = c.self.inside.shell })
     (ap (λ (s : Slots). s.base) c.cut-words.ensures.others) c.cut-pages.ensures.others refl

@@ -1,4 +1,0 @@
-use Rattle.hg_raw.proofs.lease.Lease.close.Statement.{statement}
-
-pub close_spec : {M : Type 1} → statement M
-close_spec 𝓤 𝓛 𝓜 𝓡 w = ?
