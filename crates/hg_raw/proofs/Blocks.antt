@@ -5,7 +5,7 @@ use mathlib.Core.List.{List, [], ◌∷◌, ◌++◌}
 use Prim.Native.Nat.{ℕ, zero, suc, ◌+◌, ◌-◌, ◌*◌, ◌≤◌, ◌<◌}
 use native.Mathlib.Omega.{arith}
 use lib.Dec.{T, eqb, eqb→eq}
-use lib.ListN.{length, replicate, length-replicate}
+use lib.ListN.{length, replicate, length-replicate, length-append}
 use seplogic.Ra.Ura.{Ura}
 use mir.Syntax.{Ty, w8, ty_int, ty_array}
 use base.Fraction.{full_share}
@@ -24,15 +24,30 @@ use denote.RawPtr.Room.{room_glue, past, past_bytes}
 use Rattle.hg_raw.specs.Frames.{Frame, numbers, is_in, apart, bytes_of, without, with_bytes, Sized, zeros}
 use Rattle.hg_raw.specs.Memory.{part_own, parts_own, part_lent, parts_lent}
 use Rattle.std.proofs.Common.{◌==◌, if◌then◌else◌}
-use Rattle.hg_raw.proofs.Lists.{clash, or_rest, sized-at, sized-without, numbers-without, in-others, in-both}
+use Rattle.hg_raw.proofs.Lists.{clash, or_rest, sized-at, sized-without, numbers-without, bytes-without, in-others, in-both}
 use Rattle.hg_raw.proofs.Parts.{by_test, part_out}
 
 lt_not : (n k : ℕ) → n < k → n ≡ k → ⊥
 lt_not n k lt e = omega (arith, lt, e)
 
-replicate-add : {X : Type 0} → (m n : ℕ) (x : X) → replicate (m + n) x ≡ replicate m x ++ replicate n x
+pub replicate-add : {X : Type 0} → (m n : ℕ) (x : X) → replicate (m + n) x ≡ replicate m x ++ replicate n x
 replicate-add zero n x = let e : zero + n ≡ n = omega arith in ap (λ (k : ℕ). replicate k x) e
 replicate-add (suc m) n x = let e : suc m + n ≡ suc (m + n) = omega arith in ap (λ (k : ℕ). replicate k x) e ∙ ap (λ xs. x ∷ xs) (replicate-add m n x)
+
+-- the bytes of parts 0 to k - 1
+abbrev pub gathered : List Frame → ℕ → List ℕ
+gathered fs zero = []
+gathered fs (suc k) = gathered fs k ++ bytes_of fs k
+
+gathered-without : (fs : List Frame) (n k : ℕ) → k ≤ n → gathered (without fs n) k ≡ gathered fs k
+gathered-without fs n zero le = refl
+gathered-without fs n (suc k) le = λ i. gathered-without fs n k (omega (arith, le)) i ++ bytes-without fs k n (lt_not k n (omega (arith, le))) i
+
+pub length-gathered : (s : ℕ) (fs : List Frame) (k : ℕ) → Sized s fs → ((n : ℕ) → n < k → is_in n (numbers fs) ≡ true) → length (gathered fs k) ≡ k * s
+length-gathered s fs zero z all = omega arith
+length-gathered s fs (suc k) z all =
+    let e : k * s + s ≡ suc k * s = omega arith in
+    length-append (gathered fs k) (bytes_of fs k) ∙ (λ i. length-gathered s fs k z (λ n lt. all n (omega (arith, lt))) i + sized-at s fs k z (all k (omega arith)) i) ∙ e
 
 module _ {M : Type 1} {𝓤 : Ura M} (𝓛 : Logic 𝓤) (b o s : ℕ) where
   open 𝓛 use {H}
@@ -85,14 +100,16 @@ module _ {M : Type 1} {𝓤 : Ura M} (𝓛 : Logic 𝓤) (b o s : ℕ) where
       use1 𝓛 (‵ (parts_own p s (zeros s k))) (cut_up k) $ rewrite ! 1 (λ (n : ℕ). ‵ (bytes full_share (replicate s 0) b (o + n))) (length-replicate (k * s) 0) refl $ move ! (1 ∷ []) $
       feq_i ! ℕ (length (replicate s 0)) (length (replicate s 0)) refl $ fjoin ! $ use1 𝓛 (‵ (part_own p s (k, replicate s 0))) (bytes_whole 𝓛 full_share (length (replicate s 0)) (replicate s 0) b (o + k * s)) $ fjoin ! $ done !
 
-  -- and parts 0 to k - 1 are room for as many bytes
-  pub put_together : (k : ℕ) (fs : List Frame) → Sized s fs → ((n : ℕ) → n < k → is_in n (numbers fs) ≡ true) → ⟦ parts_own p s fs ⟧ ⊢ rm (k * s) o
-  put_together zero fs z all = qed 𝓛 (‵ (parts_own p s fs) ∷ []) ∵ drop ! $ use0 𝓛 (raw (rm zero o)) (𝓛.laws.room_nil (ty_int w8) b o) $ rewrite ! 0 (λ (n : ℕ). raw (rm n o)) (omega arith) refl $ done !
+  -- and parts 0 to k - 1 are their bytes, side by side
+  pub put_together : (k : ℕ) (fs : List Frame) → Sized s fs → ((n : ℕ) → n < k → is_in n (numbers fs) ≡ true) → ⟦ parts_own p s fs ⟧ ⊢ ⟦ bytes full_share (gathered fs k) b o ⟧
+  put_together zero fs z all = qed 𝓛 (‵ (parts_own p s fs) ∷ []) ∵ drop ! $ use0 𝓛 (‵ ftrue) (id⊢ 𝓤 (emp 𝓤)) $ done !
   put_together (suc k) fs z all =
-      let h : is_in k (numbers fs) ≡ true = all k (omega arith) in
-      let rest : (n : ℕ) → n < k → is_in n (numbers (without fs k)) ≡ true = λ n lt. ap (is_in n) (numbers-without fs k) ∙ in-others n k (numbers fs) (λ e. absurd (lt_not n k lt e)) (all n (omega (arith, lt))) in
-      qed 𝓛 (‵ (parts_own p s fs) ∷ []) ∵ use1 𝓛 (‵ (part_own p s (k, bytes_of fs k)) ⊛ ‵ (parts_own p s (without fs k))) (part_out 𝓛 p s fs k h) $ split ! $
-      use1 𝓛 (raw (rm (length (bytes_of fs k)) (o + k * s))) (room_of (k, bytes_of fs k)) $ rewrite ! 0 (λ (n : ℕ). raw (rm n (o + k * s))) (sized-at s fs k z h) refl $
-      rewrite ! 0 (λ (n : ℕ). raw (rm s n)) (sym (past_bytes (k * s) o)) refl $ move ! (1 ∷ []) $
-      use1 𝓛 (raw (rm (k * s) o)) (put_together k (without fs k) (sized-without s fs k z) rest) $ move ! (0 ∷ 1 ∷ []) $
-      use2 𝓛 (raw (rm (k * s + s) o)) (room_glue 𝓛 (ty_int w8) (k * s) s b o) $ rewrite ! 0 (λ (n : ℕ). raw (rm n o)) (omega arith) refl $ done !
+      let h : is_in k (numbers fs) ≡ true = all k (omega arith) in let x : List ℕ = bytes_of fs k in
+      let rest : (n : ℕ) → n < k → is_in n (numbers (without fs k)) ≡ true = λ n lt. ap (is_in n) (numbers-without fs k) ∙ in-others n k (numbers fs) (lt_not n k lt) (all n (omega (arith, lt))) in
+      let same : gathered (without fs k) k ≡ gathered fs k = gathered-without fs k k (omega arith) in
+      let far : k * s ≡ length (gathered fs k) = sym (length-gathered s fs k z (λ n lt. all n (omega (arith, lt)))) in
+      qed 𝓛 (‵ (parts_own p s fs) ∷ []) ∵ use1 𝓛 (‵ (part_own p s (k, x)) ⊛ ‵ (parts_own p s (without fs k))) (part_out 𝓛 p s fs k h) $ split ! $
+      use1 𝓛 (‵ (fsep (feq ℕ (length x) (length x)) (bytes full_share x b (o + k * s)))) (bytes_apart 𝓛 full_share (length x) x b (o + k * s)) $ fsplit ! $ drop ! $
+      rewrite ! 0 (λ (n : ℕ). ‵ (bytes full_share x b (o + n))) far refl $ move ! (1 ∷ []) $
+      use1 𝓛 (‵ (bytes full_share (gathered (without fs k) k) b o)) (put_together k (without fs k) (sized-without s fs k z) rest) $
+      rewrite ! 0 (λ (xs : List ℕ). ‵ (bytes full_share xs b o)) same refl $ by ! (bytes_glue 𝓛 full_share (gathered fs k) x b o)

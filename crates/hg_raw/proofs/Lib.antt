@@ -7,3 +7,4 @@ pub mod Lists
 pub mod Opens
 pub mod Parts
 pub mod Regions
+pub mod Vectors

@@ -36,4 +36,4 @@ slots_lent p s fs = beside (said (in_block p ftrue)) (parts_lent p s fs)
 
 -- what is left of a block of c bytes at p when its first n bytes are given out: the room behind them, and the right, t's, to free it
 abbrev pub lease_own : (Ty → Ptr → Fml) → Ptr → ℕ → ℕ → Fml
-lease_own t p n c = fsep (room_for (array_of u8 (c - n)) (p +ₚ n)) (t (array_of u8 c) p)
+lease_own t p n c = fsep (room_for (array_of u8 (c - n)) (p +ₚ n * 1)) (t (array_of u8 c) p)
