@@ -13,3 +13,6 @@ mod slots;
 
 pub use chain::Chain;
 pub use region::Region;
+
+#[cfg(test)]
+mod tests;
