@@ -1,30 +1,25 @@
 -- The parts of one block: no part has two owners, and a block is cut into parts and put together again. Assumes `Logic`.
 use mathlib.Core.Path.{◌≡◌, refl, sym, ap, subst, ◌∙◌}
-use mathlib.Core.Bool.{Bool, true, false, not, ◌&&◌, ◌||◌}
+use mathlib.Core.Bool.{true}
 use mathlib.Core.List.{List, [], ◌∷◌, ◌++◌}
-use Prim.Native.Nat.{ℕ, zero, suc, ◌+◌, ◌-◌, ◌*◌, ◌≤◌, ◌<◌}
+use Prim.Native.Nat.{ℕ, zero, suc, ◌+◌, ◌*◌, ◌≤◌, ◌<◌}
 use native.Mathlib.Omega.{arith}
-use lib.Dec.{T, eqb, eqb→eq}
 use lib.ListN.{length, replicate, length-replicate, length-append}
 use seplogic.Ra.Ura.{Ura}
-use mir.Syntax.{Ty, w8, ty_int, ty_array}
+use mir.Syntax.{w8, ty_int, ty_array}
 use base.Fraction.{full_share}
-use base.Logic.{SProp, ent, sep, emp, never, via, fst∗, snd∗, id⊢, assoc', mono_r, never_e}
-use base.Fml.{Lft, Fml, ftrue, fsep, feq, froom}
+use base.Logic.{SProp, ent, sep, emp, never, id⊢, never_e}
+use base.Fml.{Fml, ftrue, fsep, feq}
 use prog.Model.{Model}
 use types.Logic.{Logic, sem}
-use types.Kit.{‵, raw, ◌⊛◌, ◌$◌, ◌∵◌, !, qed, by, move, keep, drop, use0, use1, use2, split, join, fsplit, fjoin, feq_i, feq_l, frame, rewrite, done}
+use types.Kit.{‵, raw, ◌⊛◌, ◌$◌, ◌∵◌, !, qed, by, move, keep, drop, use0, use1, use2, split, fsplit, fjoin, feq_i, rewrite, done}
 use contract.Monad.{fact, fact_i}
-use denote.Builtin.{u8}
-use denote.Array.{Array}
-use denote.Memory.{part_at}
 use denote.RawPtr.{Ptr, block_ptr}
 use denote.RawPtr.Bytes.{bytes, bytes_cut, bytes_glue, bytes_apart, bytes_whole, bytes-room}
-use denote.RawPtr.Room.{room_glue, past, past_bytes}
-use Rattle.hg_raw.specs.Frames.{Frame, numbers, is_in, apart, bytes_of, without, with_bytes, Sized, zeros}
-use Rattle.hg_raw.specs.Memory.{part_own, parts_own, part_lent, parts_lent}
-use Rattle.std.proofs.Common.{◌==◌, if◌then◌else◌}
-use Rattle.hg_raw.proofs.Lists.{clash, or_rest, sized-at, sized-without, numbers-without, bytes-without, in-others, in-both}
+use Rattle.hg_raw.specs.Frames.{Frame, numbers, is_in, apart, bytes_of, without}
+use Rattle.hg_raw.specs.Links.{Sized, zeros}
+use Rattle.hg_raw.specs.Memory.{part_own, parts_own}
+use Rattle.hg_raw.proofs.Lists.{sized-at, sized-without, numbers-without, bytes-without, in-others, in-both}
 use Rattle.hg_raw.proofs.Parts.{by_test, part_out}
 
 lt_not : (n k : ℕ) → n < k → n ≡ k → ⊥

@@ -1,14 +1,15 @@
 -- What a chain's fields say of its frames.
-use Rattle.std.proofs.Common.{◌≡◌, ℕ, ◌+◌, ◌<◌, ◌≤◌, ◌^◌, Bool, true, false, ◌||◌, ◌==◌, if◌then◌else◌, List, [], ◌∷◌, ◌++◌, length, take, drop, slice_set, refl, sym, ap, subst, ◌∙◌, arith, w32, lit<}
-use Rattle.std.specs.Int.{from_le_bytes, to_le_bytes}
+use Rattle.std.proofs.Common.{◌≡◌, ℕ, ◌<◌, ◌^◌, Bool, true, false, ◌||◌, ◌==◌, if◌then◌else◌, List, [], ◌∷◌, ◌++◌, length, slice_set, refl, sym, ap, subst, ◌∙◌, arith, w32, lit<}
+use Rattle.std.specs.Int.{from_le_bytes}
 use Rattle.std.proofs.lemmas.Nat.{from_le_bytes-to_le_bytes_4}
 use Rattle.core.specs.List.{length_refill}
 use denote.RawPtr.{Ptr}
 use Rattle.hg_raw.specs.declared.slots.Slots.{Slots}
 use Rattle.hg_raw.specs.declared.chain.Chain.TheInside.{Inside}
 use Rattle.hg_raw.specs.ChainParts.{IsChain, chain_seen}
-use Rattle.hg_raw.specs.Frames.{Frame, RegionId, ChainSeen, numbers, is_in, distinct, apart, bytes_of, without, with_bytes, refit, first_of, last_of, nil, word, linked, from, behind, before, marked, Sized, Below}
-use Rattle.hg_raw.proofs.Lists.{minus, linked-numbers, linked-sized, sized-at, linked-next, from-next, below-at, no_nil, last-in, linked-join, first-append, last-append, numbers-append, sized-append, below-append, distinct-append, linked-minus, numbers-without, sized-without, below-minus, distinct-minus, first-minus, last-minus, sized-with, numbers-with, from-first, before-first, before-next, from-in, from-behind, or_false, clash, same, by_bool, first-nil, differ, with-none, before-in, or_rest}
+use Rattle.hg_raw.specs.Frames.{Frame, RegionId, ChainSeen, numbers, is_in, distinct, apart, bytes_of, without, with_bytes, refit}
+use Rattle.hg_raw.specs.Links.{first_of, last_of, nil, word, linked, from, behind, before, marked, Sized, Below}
+use Rattle.hg_raw.proofs.Lists.{minus, linked-numbers, linked-sized, sized-at, linked-next, from-next, below-at, no_nil, last-in, linked-join, first-append, last-append, numbers-append, sized-append, below-append, distinct-append, linked-minus, numbers-without, sized-without, below-minus, distinct-minus, first-minus, last-minus, sized-with, numbers-with, from-first, before-next, from-in, from-behind, or_false, clash, same, by_bool, differ, with-none, before-in, or_rest}
 
 pub first-small : (N : ℕ) (ns : List ℕ) → N < 2 ^ 32 → Below N ns → first_of ns < 2 ^ 32
 first-small N [] small b = lit< tt
@@ -85,8 +86,8 @@ joined c d is it same_region far e ew ep ef first last =
       word_size = ap (λ (s : Slots). s.size) ew;
       page_size = ap (λ (s : Slots). s.size) ep ∙ is.page_size;
       words = ap (λ (s : Slots). s.held) ew ∙ ap (λ (fs : List Frame). with_bytes fs c.last (word d.first) ++ d.words.held) is.words ∙ ap (λ (n : ℕ). with_bytes (linked ns) n (word d.first) ++ d.words.held) is.last
-        ∙ ap (λ (n : ℕ). with_bytes (linked ns) (last_of ns) (word n) ++ d.words.held) it.first ∙ ap (λ (fs : List Frame). with_bytes (linked ns) (last_of ns) (word (first_of ms)) ++ fs) it.words
-        ∙ linked-join ns ms is.distinct ∙ ap linked (sym all);
+          ∙ ap (λ (n : ℕ). with_bytes (linked ns) (last_of ns) (word n) ++ d.words.held) it.first ∙ ap (λ (fs : List Frame). with_bytes (linked ns) (last_of ns) (word (first_of ms)) ++ fs) it.words
+          ∙ linked-join ns ms is.distinct ∙ ap linked (sym all);
       sized = subst (Sized 4096) (sym held) (sized-append 4096 c.pages.held d.pages.held is.sized it.sized);
       below = subst (λ n. Below n (numbers e.pages.held)) (sym ef) (subst (Below c.frames) (sym all) (below-append c.frames ns ms is.below (subst (λ n. Below n ms) few it.below)));
       few = subst (λ n. n < 2 ^ 32) (sym ef) is.few;

@@ -1,6 +1,5 @@
 -- What a `&` to a `Slots` shows: its two words, that its base is not null, and a `&` to the bytes of each part. Assumes `Logic`.
-use mathlib.Core.Path.{refl}
-use mathlib.Core.List.{List, [], ◌∷◌}
+use mathlib.Core.List.{[], ◌∷◌}
 use Prim.Native.Nat.{ℕ, ◌+◌}
 use seplogic.Ra.Ura.{Ura}
 use base.Logic.{ent, sep}

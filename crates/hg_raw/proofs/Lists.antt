@@ -1,11 +1,11 @@
 -- Lists of frames: what is in them, their links, and one frame taken out.
-use Rattle.std.proofs.Common.{◌≡◌, ℕ, zero, suc, ◌+◌, ◌-◌, ◌<◌, ◌≤◌, ◌^◌, Bool, true, false, not, ◌&&◌, ◌||◌, ◌==◌, if◌then◌else◌, IsTrue, T, List, [], ◌∷◌, ◌++◌, length, refl, sym, ap, subst, ◌∙◌, arith, lit<}
-use lib.Dec.{eqb, eqb→eq, eqb_refl}
+use Rattle.std.proofs.Common.{◌≡◌, ℕ, ◌<◌, ◌^◌, Bool, true, false, not, ◌&&◌, ◌||◌, ◌==◌, if◌then◌else◌, T, List, [], ◌∷◌, ◌++◌, length, refl, sym, ap, subst, ◌∙◌, arith}
+use lib.Dec.{eqb→eq, eqb_refl}
 use Rattle.std.proofs.Math.Bool.{and-true}
 use Rattle.std.proofs.Common.{append-nil}
 use native.Mathlib.Nat.{not-suc-le-zero}
-use Rattle.std.specs.Int.{to_le_bytes}
-use Rattle.hg_raw.specs.Frames.{Frame, numbers, is_in, distinct, apart, bytes_of, without, with_bytes, first_of, last_of, nil, word, linked, from, behind, before, Sized, Below}
+use Rattle.hg_raw.specs.Frames.{Frame, numbers, is_in, distinct, apart, bytes_of, without, with_bytes}
+use Rattle.hg_raw.specs.Links.{first_of, last_of, nil, word, linked, from, behind, before, Sized, Below}
 
 -- the numbers but n
 abbrev pub minus : List ℕ → ℕ → List ℕ
@@ -23,7 +23,7 @@ clash false h k = absurd (subst T (sym h) tt)
 pub case_eq : (m n : ℕ) (P : Bool → Type 0) → (m ≡ n → P true) → ((m ≡ n → ⊥) → P false) → P (m == n)
 case_eq m n P eq ne =
     let go : (t : Bool) → (m == n) ≡ t → P t = λ t. elim t as (λ t. (m == n) ≡ t → P t) [
-      true ↦ λ e. eq (eqb→eq m n (subst T (sym e) tt))
+      | true ↦ λ e. eq (eqb→eq m n (subst T (sym e) tt))
       | false ↦ λ e. ne (λ h. clash (m == n) (subst (λ k. (m == k) ≡ true) h (same m)) e)
     ] in go (m == n) refl
 
@@ -138,7 +138,7 @@ pub next-other : (k n : ℕ) (ns : List ℕ) → is_in k ns ≡ false → (k ≡
 next-other k n [] out real = differ k nil real
 next-other k n (m ∷ ms) out real =
     elim (m == n) as (λ t. (k == first_of (if t then ms else behind n ms)) ≡ false) [
-      true ↦ first-other k ms (or_false _ _ out).1 real
+      | true ↦ first-other k ms (or_false _ _ out).1 real
       | false ↦ next-other k n ms (or_false _ _ out).1 real
     ]
 
@@ -149,7 +149,7 @@ from-next N n (m ∷ ms) small b d h =
     let real : m ≡ nil → ⊥ = λ e. clash (m == nil) (subst (λ k. (m == k) ≡ true) e (same m)) (or_false _ _ (no_nil N (m ∷ ms) small b)).0 in
     let out : is_in m ms ≡ false = not_true _ (fst_true _ _ d) in
     elim (m == n) as (λ t. (t || is_in n ms) ≡ true → from (first_of (if t then ms else behind n ms)) (m ∷ ms) ≡ (if t then ms else behind n ms)) [
-      true ↦ λ _. ap (λ t. if t then m ∷ ms else from (first_of ms) ms) (first-other m ms out real) ∙ from-first ms
+      | true ↦ λ _. ap (λ t. if t then m ∷ ms else from (first_of ms) ms) (first-other m ms out real) ∙ from-first ms
       | false ↦ λ i. ap (λ t. if t then m ∷ ms else from (first_of (behind n ms)) ms) (next-other m n ms out real) ∙ from-next N n ms small b.1 (snd_true _ _ d) i
     ] h
 
@@ -187,7 +187,7 @@ out-minus k n (m ∷ ms) h = elim (m == n) as (λ t. is_in k (if t then ms else 
 pub distinct-minus : (ns : List ℕ) (n : ℕ) → distinct ns ≡ true → distinct (minus ns n) ≡ true
 distinct-minus [] n d = refl
 distinct-minus (m ∷ ms) n d = elim (m == n) as (λ t. distinct (if t then ms else m ∷ minus ms n) ≡ true) [
-  true ↦ snd_true _ _ d
+  | true ↦ snd_true _ _ d
   | false ↦ ap (λ t. not t && distinct (minus ms n)) (out-minus m n ms (not_true _ (fst_true _ _ d))) ∙ distinct-minus ms n (snd_true _ _ d)
 ]
 
@@ -197,11 +197,11 @@ in-minus k n (m ∷ ms) d =
     let out : is_in m ms ≡ false = not_true _ (fst_true _ _ d) in
     case_eq m n (λ t. is_in k (if t then ms else m ∷ minus ms n) ≡ (((m == k) || is_in k ms) && not (k == n)))
     (λ e. case_eq m k (λ t. is_in k ms ≡ ((t || is_in k ms) && not (k == n)))
-        (λ j. subst (λ i. is_in i ms ≡ false) j out ∙ sym (ap (λ t. not t) (subst (λ i. (i == n) ≡ true) j (subst (λ i. (m == i) ≡ true) e (same m)))))
-        (λ j. sym (ap (λ t. is_in k ms && not t) (differ k n (λ h. j (e ∙ sym h))) ∙ and-true (is_in k ms))))
+    (λ j. subst (λ i. is_in i ms ≡ false) j out ∙ sym (ap (λ t. not t) (subst (λ i. (i == n) ≡ true) j (subst (λ i. (m == i) ≡ true) e (same m)))))
+    (λ j. sym (ap (λ t. is_in k ms && not t) (differ k n (λ h. j (e ∙ sym h))) ∙ and-true (is_in k ms))))
     (λ e. case_eq m k (λ t. (t || is_in k (minus ms n)) ≡ ((t || is_in k ms) && not (k == n)))
-        (λ j. sym (ap (λ t. not t) (differ k n (λ h. e (j ∙ h)))))
-        (λ _. in-minus k n ms (snd_true _ _ d)))
+    (λ j. sym (ap (λ t. not t) (differ k n (λ h. e (j ∙ h)))))
+    (λ _. in-minus k n ms (snd_true _ _ d)))
 
 pub in-others : (n k : ℕ) (ns : List ℕ) → (n ≡ k → ⊥) → is_in n ns ≡ true → is_in n (minus ns k) ≡ true
 in-others n k [] ne h = h
@@ -262,15 +262,14 @@ last-minus (m ∷ k ∷ ks) f no_nil d h =
     let out' : is_in k ks ≡ false = not_true _ (fst_true _ _ d') in
     by_bool (m == f)
     (λ t. let e : m ≡ f = eqb→eq m f (subst T (sym t) tt) in
-        ap (λ u. last_of (if u then k ∷ ks else m ∷ minus (k ∷ ks) f)) t ∙
-        sym (ap (λ u. if u then before nil (m ∷ k ∷ ks) f else last_of (k ∷ ks)) (differ (last_of (k ∷ ks)) f (λ g. clash (is_in m (k ∷ ks)) (subst (λ j. is_in j (k ∷ ks) ≡ true) (g ∙ sym e) (last-in k ks)) out))))
+    ap (λ u. last_of (if u then k ∷ ks else m ∷ minus (k ∷ ks) f)) t ∙
+    sym (ap (λ u. if u then before nil (m ∷ k ∷ ks) f else last_of (k ∷ ks)) (differ (last_of (k ∷ ks)) f (λ g. clash (is_in m (k ∷ ks)) (subst (λ j. is_in j (k ∷ ks) ≡ true) (g ∙ sym e) (last-in k ks)) out))))
     (λ t. let i : is_in f (k ∷ ks) ≡ true = subst (λ (u : Bool). (u || is_in f (k ∷ ks)) ≡ true) t h in
-        ap (λ u. last_of (if u then k ∷ ks else m ∷ minus (k ∷ ks) f)) t ∙
-        by_bool (k == f)
-        (λ u. ap (λ v. last_of (m ∷ (if v then ks else k ∷ minus ks f))) u ∙ last-second m k ks f t u out' ∙ sym (ap (λ (b : ℕ). if last_of (k ∷ ks) == f then b else last_of (k ∷ ks)) (ap (λ v. if v then nil else before m (k ∷ ks) f) t ∙ ap (λ v. if v then m else before k ks f) u)))
-        (λ u. ap (λ v. last_of (m ∷ (if v then ks else k ∷ minus ks f))) u ∙ sym (ap (λ v. last_of (if v then ks else k ∷ minus ks f)) u) ∙ last-minus (k ∷ ks) f (or_false _ _ no_nil).1 d' i ∙
-            ap (λ (b : ℕ). if last_of (k ∷ ks) == f then b else last_of (k ∷ ks)) (before-skips nil m k ks f u ∙ sym (ap (λ v. if v then nil else before m (k ∷ ks) f) t))))
-
+    ap (λ u. last_of (if u then k ∷ ks else m ∷ minus (k ∷ ks) f)) t ∙
+    by_bool (k == f)
+    (λ u. ap (λ v. last_of (m ∷ (if v then ks else k ∷ minus ks f))) u ∙ last-second m k ks f t u out' ∙ sym (ap (λ (b : ℕ). if last_of (k ∷ ks) == f then b else last_of (k ∷ ks)) (ap (λ v. if v then nil else before m (k ∷ ks) f) t ∙ ap (λ v. if v then m else before k ks f) u)))
+    (λ u. ap (λ v. last_of (m ∷ (if v then ks else k ∷ minus ks f))) u ∙ sym (ap (λ v. last_of (if v then ks else k ∷ minus ks f)) u) ∙ last-minus (k ∷ ks) f (or_false _ _ no_nil).1 d' i ∙
+    ap (λ (b : ℕ). if last_of (k ∷ ks) == f then b else last_of (k ∷ ks)) (before-skips nil m k ks f u ∙ sym (ap (λ v. if v then nil else before m (k ∷ ks) f) t))))
 
 -- ---- a frame written
 pub with-none : (fs : List Frame) (n : ℕ) (w : List ℕ) → is_in n (numbers fs) ≡ false → with_bytes fs n w ≡ fs
@@ -318,7 +317,7 @@ linked-minus [] f free d h = clash false h refl
 linked-minus (m ∷ []) f free d h =
     by_bool (m == f)
     (λ t. ap (λ (fs : List Frame). without fs f) (with-none (linked (m ∷ [])) (before nil (m ∷ []) f) (word (first_of (behind f (m ∷ [])))) (ap (λ (b : ℕ). is_in b (m ∷ [])) (ap (λ u. if u then nil else nil) t) ∙ free)) ∙
-        ap (λ u. if u then [] else (m, word nil) ∷ []) t ∙ sym (ap (λ u. linked (if u then [] else m ∷ [])) t))
+    ap (λ u. if u then [] else (m, word nil) ∷ []) t ∙ sym (ap (λ u. linked (if u then [] else m ∷ [])) t))
     (λ t. clash (m == f || false) h (ap (λ u. u || false) t))
 linked-minus (m ∷ k ∷ ks) f free d h =
     let out : is_in m (k ∷ ks) ≡ false = not_true _ (fst_true _ _ d) in
@@ -327,33 +326,33 @@ linked-minus (m ∷ k ∷ ks) f free d h =
     let d' : distinct (k ∷ ks) ≡ true = snd_true _ _ d in
     by_bool (m == f)
     (λ t. ap (λ (b : ℕ). relinked (m ∷ k ∷ ks) f b) (ap (λ u. if u then nil else before m (k ∷ ks) f) t) ∙
-        ap (λ (fs : List Frame). without fs f) (with-none (linked (m ∷ k ∷ ks)) nil (word (first_of (behind f (m ∷ k ∷ ks)))) (ap (λ (ns : List ℕ). is_in nil (m ∷ ns)) (linked-numbers (k ∷ ks)) ∙ free)) ∙
-        ap (λ u. if u then linked (k ∷ ks) else (m, word k) ∷ without (linked (k ∷ ks)) f) t ∙ sym (ap (λ u. linked (if u then k ∷ ks else m ∷ minus (k ∷ ks) f)) t))
+    ap (λ (fs : List Frame). without fs f) (with-none (linked (m ∷ k ∷ ks)) nil (word (first_of (behind f (m ∷ k ∷ ks)))) (ap (λ (ns : List ℕ). is_in nil (m ∷ ns)) (linked-numbers (k ∷ ks)) ∙ free)) ∙
+    ap (λ u. if u then linked (k ∷ ks) else (m, word k) ∷ without (linked (k ∷ ks)) f) t ∙ sym (ap (λ u. linked (if u then k ∷ ks else m ∷ minus (k ∷ ks) f)) t))
     (λ t. let i : is_in f (k ∷ ks) ≡ true = subst (λ (u : Bool). (u || is_in f (k ∷ ks)) ≡ true) t h in
-        let w : List ℕ = word (first_of (behind f (k ∷ ks))) in
-        let start : relinked (m ∷ k ∷ ks) f (before nil (m ∷ k ∷ ks) f) ≡ without (with_bytes (linked (m ∷ k ∷ ks)) (before m (k ∷ ks) f) w) f
-            = ap (λ (b : ℕ). relinked (m ∷ k ∷ ks) f b) (ap (λ u. if u then nil else before m (k ∷ ks) f) t) ∙ ap (λ u. without (with_bytes (linked (m ∷ k ∷ ks)) (before m (k ∷ ks) f) (word (first_of (if u then k ∷ ks else behind f (k ∷ ks))))) f) t in
-        start ∙
-        by_bool (k == f)
-        (λ u.
-        let w' : List ℕ = word (first_of ks) in
-        let L : List Frame = linked (k ∷ ks) in
-        ap (λ (b : ℕ). without (with_bytes (linked (m ∷ k ∷ ks)) b w) f) (ap (λ v. if v then m else before k ks f) u) ∙
-        ap (λ v. without (with_bytes (linked (m ∷ k ∷ ks)) m (word (first_of (if v then ks else behind f ks)))) f) u ∙
-        ap (λ v. without (if v then (m, w') ∷ L else (m, word k) ∷ with_bytes L m w') f) (same m) ∙
-        ap (λ v. if v then L else (m, w') ∷ without L f) t ∙
-        ap (λ v. (m, w') ∷ (if v then linked ks else (k, word (first_of ks)) ∷ without (linked ks) f)) u ∙
-        sym (ap (λ v. linked (m ∷ (if v then ks else k ∷ minus ks f))) u))
-        (λ u.
-        let L : List Frame = linked (k ∷ ks) in
-        let b : ℕ = before nil (k ∷ ks) f in
-        let far : (m == b) ≡ false = differ m b (λ e. clash (is_in m (k ∷ ks)) (subst (λ j. is_in j (k ∷ ks) ≡ true) (sym e) (before-in nil k ks f u (subst (λ (v : Bool). (v || is_in f ks) ≡ true) u i))) out) in
-        ap (λ (c : ℕ). without (with_bytes (linked (m ∷ k ∷ ks)) c w) f) (before-skips m nil k ks f u) ∙
-        ap (λ v. without (if v then (m, w) ∷ L else (m, word k) ∷ with_bytes L b w) f) far ∙
-        ap (λ v. if v then with_bytes L b w else (m, word k) ∷ without (with_bytes L b w) f) t ∙
-        ap (λ (fs : List Frame). (m, word k) ∷ fs) (linked-minus (k ∷ ks) f no' d' i) ∙
-        ap (λ (n : ℕ). (m, word n) ∷ linked (minus (k ∷ ks) f)) (sym (ap (λ v. first_of (if v then ks else k ∷ minus ks f)) u))) ∙
-        sym (ap (λ u. linked (if u then k ∷ ks else m ∷ minus (k ∷ ks) f)) t))
+    let w : List ℕ = word (first_of (behind f (k ∷ ks))) in
+    let start : relinked (m ∷ k ∷ ks) f (before nil (m ∷ k ∷ ks) f) ≡ without (with_bytes (linked (m ∷ k ∷ ks)) (before m (k ∷ ks) f) w) f
+    = ap (λ (b : ℕ). relinked (m ∷ k ∷ ks) f b) (ap (λ u. if u then nil else before m (k ∷ ks) f) t) ∙ ap (λ u. without (with_bytes (linked (m ∷ k ∷ ks)) (before m (k ∷ ks) f) (word (first_of (if u then k ∷ ks else behind f (k ∷ ks))))) f) t in
+    start ∙
+    by_bool (k == f)
+    (λ u.
+    let w' : List ℕ = word (first_of ks) in
+    let L : List Frame = linked (k ∷ ks) in
+    ap (λ (b : ℕ). without (with_bytes (linked (m ∷ k ∷ ks)) b w) f) (ap (λ v. if v then m else before k ks f) u) ∙
+    ap (λ v. without (with_bytes (linked (m ∷ k ∷ ks)) m (word (first_of (if v then ks else behind f ks)))) f) u ∙
+    ap (λ v. without (if v then (m, w') ∷ L else (m, word k) ∷ with_bytes L m w') f) (same m) ∙
+    ap (λ v. if v then L else (m, w') ∷ without L f) t ∙
+    ap (λ v. (m, w') ∷ (if v then linked ks else (k, word (first_of ks)) ∷ without (linked ks) f)) u ∙
+    sym (ap (λ v. linked (m ∷ (if v then ks else k ∷ minus ks f))) u))
+    (λ u.
+    let L : List Frame = linked (k ∷ ks) in
+    let b : ℕ = before nil (k ∷ ks) f in
+    let far : (m == b) ≡ false = differ m b (λ e. clash (is_in m (k ∷ ks)) (subst (λ j. is_in j (k ∷ ks) ≡ true) (sym e) (before-in nil k ks f u (subst (λ (v : Bool). (v || is_in f ks) ≡ true) u i))) out) in
+    ap (λ (c : ℕ). without (with_bytes (linked (m ∷ k ∷ ks)) c w) f) (before-skips m nil k ks f u) ∙
+    ap (λ v. without (if v then (m, w) ∷ L else (m, word k) ∷ with_bytes L b w) f) far ∙
+    ap (λ v. if v then with_bytes L b w else (m, word k) ∷ without (with_bytes L b w) f) t ∙
+    ap (λ (fs : List Frame). (m, word k) ∷ fs) (linked-minus (k ∷ ks) f no' d' i) ∙
+    ap (λ (n : ℕ). (m, word n) ∷ linked (minus (k ∷ ks) f)) (sym (ap (λ v. first_of (if v then ks else k ∷ minus ks f)) u))) ∙
+    sym (ap (λ u. linked (if u then k ∷ ks else m ∷ minus (k ∷ ks) f)) t))
 
 pub held-in : (fs : List Frame) (n s : ℕ) → length (bytes_of fs n) ≡ s → 0 < s → is_in n (numbers fs) ≡ true
 held-in [] n s l pos = absurd (not-suc-le-zero (subst (λ k. 0 < k) (sym l) pos))

@@ -1,30 +1,19 @@
 -- Parts in memory: one is taken out and put back, and two lists of them are joined. Assumes `Logic`.
-use mathlib.Core.Path.{◌≡◌, refl, sym, ap, subst, ◌∙◌}
-use mathlib.Core.Bool.{Bool, true, false, not, ◌&&◌, ◌||◌}
+use mathlib.Core.Path.{◌≡◌, refl, sym, subst}
+use mathlib.Core.Bool.{Bool, true, false}
 use mathlib.Core.List.{List, [], ◌∷◌, ◌++◌}
-use Prim.Native.Nat.{ℕ, zero, suc, ◌+◌, ◌-◌, ◌*◌, ◌≤◌, ◌<◌}
-use native.Mathlib.Omega.{arith}
-use lib.Dec.{T, eqb, eqb→eq}
-use lib.ListN.{length, replicate, length-replicate}
+use Prim.Native.Nat.{ℕ}
+use lib.Dec.{T, eqb→eq}
 use seplogic.Ra.Ura.{Ura}
-use mir.Syntax.{Ty, w8, ty_int, ty_array}
-use base.Fraction.{full_share}
-use base.Logic.{SProp, ent, sep, emp, never, via, fst∗, snd∗, id⊢, assoc', mono_r, never_e}
-use base.Fml.{Lft, Fml, ftrue, fsep, feq, froom}
-use prog.Model.{Model}
+use base.Logic.{SProp, ent, sep, emp, snd∗}
+use base.Fml.{Lft, Fml}
 use types.Logic.{Logic, sem}
-use types.Kit.{‵, raw, ◌⊛◌, ◌$◌, ◌∵◌, !, qed, by, move, keep, drop, use0, use1, use2, split, join, fsplit, fjoin, feq_i, feq_l, frame, rewrite, done}
-use contract.Monad.{fact, fact_i}
-use denote.Builtin.{u8}
-use denote.Array.{Array}
-use denote.Memory.{part_at}
-use denote.RawPtr.{Ptr, block_ptr}
-use denote.RawPtr.Bytes.{bytes, bytes_cut, bytes_glue, bytes_apart, bytes_whole, bytes-room}
-use denote.RawPtr.Room.{room_glue, past, past_bytes}
-use Rattle.hg_raw.specs.Frames.{Frame, numbers, is_in, apart, bytes_of, without, with_bytes, Sized, zeros}
+use types.Kit.{‵, ◌⊛◌, ◌$◌, ◌∵◌, !, qed, by, move, keep, drop, use1, use2, split, fsplit, fjoin, frame, rewrite, done}
+use denote.RawPtr.{Ptr}
+use Rattle.hg_raw.specs.Frames.{Frame, numbers, is_in, bytes_of, without, with_bytes}
 use Rattle.hg_raw.specs.Memory.{part_own, parts_own, part_lent, parts_lent}
 use Rattle.std.proofs.Common.{◌==◌, if◌then◌else◌}
-use Rattle.hg_raw.proofs.Lists.{clash, or_rest, sized-at, sized-without, numbers-without, in-others, in-both}
+use Rattle.hg_raw.proofs.Lists.{clash, or_rest}
 
 pub by_test : {X : Type 1} (t : Bool) → (t ≡ true → X) → (t ≡ false → X) → X
 by_test true y n = y refl
@@ -51,7 +40,7 @@ module _ {M : Type 1} {𝓤 : Ura M} (𝓛 : Logic 𝓤) (p : Ptr) (s : ℕ) whe
       by_test (f.0 == n)
       (λ e. subst Goal (sym e) (qed 𝓛 (‵ (parts_own p s (f ∷ fs)) ∷ []) ∵ fsplit ! $ rewrite ! 0 (λ (k : ℕ). ‵ (part_own p s (k, f.1))) (eqb→eq f.0 n (subst T (sym e) tt)) refl $ done !))
       (λ e. subst Goal (sym e) (qed 𝓛 (‵ (parts_own p s (f ∷ fs)) ∷ []) ∵ fsplit ! $ move ! (1 ∷ []) $
-          use1 𝓛 (‵ (part_own p s (n, bytes_of fs n)) ⊛ ‵ (parts_own p s (without fs n))) (part_out fs n (or_rest (f.0 == n) (is_in n (numbers fs)) h e)) $ split ! $ frame ! $ move ! (1 ∷ 0 ∷ []) $ fjoin ! $ done !))
+      use1 𝓛 (‵ (part_own p s (n, bytes_of fs n)) ⊛ ‵ (parts_own p s (without fs n))) (part_out fs n (or_rest (f.0 == n) (is_in n (numbers fs)) h e)) $ split ! $ frame ! $ move ! (1 ∷ 0 ∷ []) $ fjoin ! $ done !))
 
   pub part_in : (fs : List Frame) (n : ℕ) (w : List ℕ) → is_in n (numbers fs) ≡ true → ⟦ part_own p s (n, w) ⟧ ∗ ⟦ parts_own p s (without fs n) ⟧ ⊢ ⟦ parts_own p s (with_bytes fs n w) ⟧
   part_in [] n w h = let no : ⊥ = clash false h refl in absurd no
@@ -60,7 +49,7 @@ module _ {M : Type 1} {𝓤 : Ura M} (𝓛 : Logic 𝓤) (p : Ptr) (s : ℕ) whe
       by_test (f.0 == n)
       (λ e. subst Goal (sym e) (qed 𝓛 (‵ (part_own p s (n, w)) ∷ ‵ (parts_own p s fs) ∷ []) ∵ rewrite ! 0 (λ (k : ℕ). ‵ (part_own p s (k, w))) (sym (eqb→eq f.0 n (subst T (sym e) tt))) refl $ fjoin ! $ done !))
       (λ e. subst Goal (sym e) (qed 𝓛 (‵ (part_own p s (n, w)) ∷ ‵ (parts_own p s (f ∷ without fs n)) ∷ []) ∵ move ! (1 ∷ []) $ fsplit ! $ move ! (2 ∷ 1 ∷ []) $
-          use2 𝓛 (‵ (parts_own p s (with_bytes fs n w))) (part_in fs n w (or_rest (f.0 == n) (is_in n (numbers fs)) h e)) $ move ! (1 ∷ 0 ∷ []) $ fjoin ! $ done !))
+      use2 𝓛 (‵ (parts_own p s (with_bytes fs n w))) (part_in fs n w (or_rest (f.0 == n) (is_in n (numbers fs)) h e)) $ move ! (1 ∷ 0 ∷ []) $ fjoin ! $ done !))
 
   pub parts_joined : (fs gs : List Frame) → ⟦ parts_own p s fs ⟧ ∗ ⟦ parts_own p s gs ⟧ ⊢ ⟦ parts_own p s (fs ++ gs) ⟧
   parts_joined [] gs = snd∗ 𝓤 (emp 𝓤) ⟦ parts_own p s gs ⟧
@@ -75,4 +64,3 @@ module _ {M : Type 1} {𝓤 : Ura M} (𝓛 : Logic 𝓤) (p : Ptr) (s : ℕ) whe
       by_test (f.0 == n)
       (λ e. subst Goal (sym e) (qed 𝓛 (‵ (parts_lent p s (f ∷ fs) κ) ∷ []) ∵ fsplit ! $ rewrite ! 0 (λ (k : ℕ). ‵ (part_lent p s (k, f.1) κ)) (eqb→eq f.0 n (subst T (sym e) tt)) refl $ keep ! (0 ∷ []) $ done !))
       (λ e. subst Goal (sym e) (qed 𝓛 (‵ (parts_lent p s (f ∷ fs) κ) ∷ []) ∵ fsplit ! $ drop ! $ by ! (part_shown κ fs n (or_rest (f.0 == n) (is_in n (numbers fs)) h e))))
-

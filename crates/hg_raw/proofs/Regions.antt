@@ -1,5 +1,5 @@
 -- What a region's fields say of the frames at home.
-use Rattle.std.proofs.Common.{◌≡◌, ℕ, ◌+◌, ◌*◌, ◌<◌, ◌≤◌, ◌^◌, Bool, true, false, ◌==◌, if◌then◌else◌, List, [], ◌∷◌, ◌++◌, length, replicate, get_or, slice_set, Option, None, Some, is_some, refl, sym, ap, subst, ◌∙◌, arith, ltb-true, ltb-false}
+use Rattle.std.proofs.Common.{◌≡◌, ℕ, ◌*◌, ◌<◌, ◌≤◌, ◌^◌, Bool, true, false, if◌then◌else◌, List, [], ◌∷◌, ◌++◌, length, replicate, get_or, slice_set, Option, None, Some, is_some, refl, sym, ap, subst, ◌∙◌, arith, ltb-true, ltb-false}
 use lib.Dec.{ltb}
 use Rattle.std.proofs.Math.ListN.{get_or-eq_default}
 use Rattle.std.proofs.lemmas.List.FromFn.{length-map-range_with_len}
@@ -13,8 +13,9 @@ use Rattle.hg_raw.specs.declared.region.Region.TheInside.{Inside}
 use Rattle.hg_raw.specs.declared.chain.Chain.TheInside.{Inside as Parts}
 use Rattle.hg_raw.specs.RegionParts.{IsRegion, region_seen}
 use Rattle.hg_raw.specs.ChainParts.{IsChain, chain_seen}
-use Rattle.hg_raw.specs.Frames.{Frame, RegionId, RegionSeen, ChainSeen, numbers, is_in, distinct, apart, bytes_of, without, Sized, Below, home_of, at_home, flags, marked, put_home, is_home, home_bytes, bytes_or_none, taken, given_back, zeros, AllHome, fresh_home}
-use Rattle.hg_raw.proofs.Lists.{by_bool, clash, minus, sized-at, numbers-without, sized-without, below-minus, distinct-minus, numbers-append, sized-append, below-append, distinct-append}
+use Rattle.hg_raw.specs.Frames.{Frame, RegionId, RegionSeen, ChainSeen, numbers, is_in, distinct, apart, bytes_of, without, is_home, home_bytes, bytes_or_none, taken, given_back, fresh_home}
+use Rattle.hg_raw.specs.Links.{Sized, Below, home_of, at_home, flags, marked, zeros}
+use Rattle.hg_raw.proofs.Lists.{by_bool, clash, minus, numbers-without, sized-without, below-minus, distinct-minus, numbers-append, sized-append, below-append, distinct-append}
 use Rattle.hg_raw.proofs.Homes.{home-at, home-taken, flags-minus, home-back, flags-back, zeros-numbers, zeros-sized, zeros-below, zeros-distinct, fresh, fresh-flags, length-flags, flag-at, length-marked}
 use Rattle.hg_raw.proofs.Chains.{word_numbers, words-sized}
 
@@ -30,7 +31,7 @@ home-in r v e n h =
     let h' : is_some (get_or (at_home r.pages.held r.frames) n None) ≡ true = subst (λ (v : RegionSeen). is_home v n ≡ true) (sym e) h in
     by_bool (ltb n r.frames)
     (λ t. let lt : n < r.frames = ltb-true n r.frames t in
-        (lt, sym (some_if (is_in n (numbers r.pages.held)) (bytes_of r.pages.held n)) ∙ ap is_some (sym (home-at r.pages.held r.frames n lt)) ∙ h'))
+    (lt, sym (some_if (is_in n (numbers r.pages.held)) (bytes_of r.pages.held n)) ∙ ap is_some (sym (home-at r.pages.held r.frames n lt)) ∙ h'))
     (λ t. clash (is_some (get_or (at_home r.pages.held r.frames) n None)) h' (ap is_some (none-outside r.pages.held r.frames n (ltb-false n r.frames t))))
 
 pub is-home : (r : Inside) → IsRegion r → (v : RegionSeen) → region_seen r ≡ v → (n : ℕ) (d : Bool) → n < r.frames → get_or r.home.items n d ≡ is_home v n

@@ -1,6 +1,7 @@
 -- A chain's fields, as contracts see them, and what is true of them.
 use Rattle.std.specs.Prelude.{◌≡◌, ◌<◌, ◌^◌, true}
-use Rattle.hg_raw.specs.Frames.{ChainSeen, numbers, linked, distinct, Sized, Below, first_of, last_of}
+use Rattle.hg_raw.specs.Frames.{ChainSeen, numbers, distinct}
+use Rattle.hg_raw.specs.Links.{linked, Sized, Below, first_of, last_of}
 use Rattle.hg_raw.specs.declared.chain.Chain.TheInside.{Inside}
 
 abbrev pub chain_seen : Inside → ChainSeen

@@ -1,5 +1,5 @@
 -- What the raw parts of a region own and lend.
-use Rattle.std.specs.Prelude.{ℕ, ◌+◌, ◌-◌, ◌*◌, List, [], ◌∷◌, length}
+use Rattle.std.specs.Prelude.{ℕ, ◌-◌, ◌*◌, List, [], ◌∷◌, length}
 use base.Fraction.{full_share}
 use base.Fml.{Lft, Fml, ftrue, fsep}
 use mir.Syntax.{Ty}

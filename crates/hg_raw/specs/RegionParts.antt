@@ -1,7 +1,8 @@
 -- A region's fields, as contracts see them, and what is true of them.
 use Rattle.std.specs.Prelude.{◌≡◌, ◌*◌, ◌<◌, ◌^◌, true}
 use denote.RawPtr.{◌+ₚ◌}
-use Rattle.hg_raw.specs.Frames.{RegionSeen, numbers, distinct, Sized, Below, at_home, flags}
+use Rattle.hg_raw.specs.Frames.{RegionSeen, numbers, distinct}
+use Rattle.hg_raw.specs.Links.{Sized, Below, at_home, flags}
 use Rattle.hg_raw.specs.declared.region.Region.TheInside.{Inside}
 
 abbrev pub region_seen : Inside → RegionSeen

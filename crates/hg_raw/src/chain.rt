@@ -1,7 +1,8 @@
 // Frames that are out of their region, in an order of their own.
 ghost use Rattle.std.specs.Prelude.{◌≡◌, ◌<◌, ◌++◌, ◌==◌, if◌then◌else◌, List, [], ◌∷◌, length, true, false, IsTrue};
 ghost use Rattle.std.specs.Borrow.{sem};
-ghost use Rattle.hg_raw.specs.Frames.{ChainSeen, Has, bytes_of, numbers, is_in, distinct, without, with_bytes, first_of, from, behind, before, nil, word, marked, Sized};
+ghost use Rattle.hg_raw.specs.Frames.{ChainSeen, Has, bytes_of, numbers, is_in, distinct, without, with_bytes};
+ghost use Rattle.hg_raw.specs.Links.{first_of, from, behind, before, nil, word, marked, Sized};
 
 use crate::slots::Slots;
 use hg_base::FrameNo;

@@ -3,13 +3,15 @@ ghost use Rattle.std.specs.Prelude.{◌≡◌, ℕ, ◌*◌, ◌^◌, ◌<◌, r
 ghost use denote.RawPtr.{◌+ₚ◌};
 ghost use denote.Sharing.{nothing};
 ghost use Rattle.std_alloc.specs.Vec.{vec_ptr, vec_capacity};
-ghost use Rattle.hg_raw.specs.Frames.{numbers, is_in, Sized, zeros};
+ghost use Rattle.hg_raw.specs.Frames.{numbers, is_in};
+ghost use Rattle.hg_raw.specs.Links.{Sized, zeros};
 ghost use Rattle.hg_raw.specs.Shells.{ShellSeen, shell_own};
 
 use crate::slots::Slots;
 use std::marker::{Move, Owns};
 
 const WORD: usize = 4;
+
 const PAGE: usize = 4096;
 
 // What is left of the vector meanwhile: its words, its spare room and the right to free it. Its bytes

@@ -2,7 +2,8 @@
 // have functions with a pointer, and none of these has a loop.
 ghost use Rattle.std.specs.Prelude.{◌≡◌, ◌*◌, ◌^◌, ◌<◌, ◌++◌, List, [], ◌∷◌, length, true, IsTrue};
 ghost use Rattle.std.specs.Borrow.{sem};
-ghost use Rattle.hg_raw.specs.Frames.{Frame, bytes_of, numbers, is_in, without, with_bytes, apart, Sized, word};
+ghost use Rattle.hg_raw.specs.Frames.{Frame, bytes_of, numbers, is_in, without, with_bytes, apart};
+ghost use Rattle.hg_raw.specs.Links.{Sized, word};
 ghost use Rattle.hg_raw.specs.Memory.{slots_own, slots_lent};
 
 use std::marker::Model;

@@ -1,4 +1,4 @@
-use Rattle.hg_raw.specs.Frames.{word}
+use Rattle.hg_raw.specs.Links.{word}
 use Rattle.hg_raw.proofs.Chains.{unlinked}
 use Rattle.hg_raw.proofs.chain.link.Goals as goal
 

@@ -3,10 +3,10 @@ use Rattle.std.proofs.Common.{◌≡◌, ℕ, ◌+◌, ◌*◌, ◌^◌, ◌<◌
 use base.Fraction.{full_share}
 use lib.ListN.{length-replicate}
 use mir.Syntax.{int_big}
-use mir.Val.{Val, vint, vptr, vstruct, vcons, vnil, of_list, WT, Fits}
+use mir.Val.{Val, vint, vptr, Fits}
 use seplogic.Ra.Ura.{Ura}
 use base.Logic.{SProp, emp, id⊢, never, via, guard_i}
-use base.Fml.{Fml, fsep, fex, feq, flt, ftrue}
+use base.Fml.{fsep, fex, feq, ftrue}
 use prog.Wp.{Env, WpFn}
 use contract.Monad.{fact, fact_i}
 use contract.Running.{tables}
@@ -16,10 +16,8 @@ use types.Part.{agg}
 use types.Run.{Opd, lit, of_opd, bin, no_more, and_then, first, blocks, exec, returns, enter}
 use types.ByLocal.{alloc_all, pass_all, free_all, look_at, get, sets, sets_last, is, env}
 use denote.Exit.{yes}
-use denote.RattleType.{RattleType, owns}
-use denote.Array.{Array}
+use denote.RattleType.{owns}
 use denote.Builtin.{u8, usize}
-use denote.Memory.{part_at}
 use denote.RawPtr.{Ptr, RawPtr, block_ptr, ptr_val, in_block, in_a_block, ◌+ₚ◌}
 use denote.RawPtr.Bytes.{bytes, bytes_cut, bytes_apart}
 use denote.Signature.{plain, types_at}
@@ -35,14 +33,11 @@ use Rattle.std_alloc.specs.declared.vec.Vec.{Vec}
 use Rattle.std_alloc.specs.Vec.Ownership.{has_block, owns_if}
 use Rattle.std_alloc.proofs.Pairs.{pair_of, pair_val}
 use Rattle.std_alloc.proofs.VecSteps.Opens.{is_live}
-use Rattle.std_heap.proofs.Handle.{heap_val, heap_Tells}
 use Rattle.std.specs.declared.alloc.Global.{Global}
-use Rattle.std.specs.contracts.alloc.Global as global
 use Rattle.std.specs.contracts.impls.GlobalAllocator.TheImpl.{ghosts}
-use Rattle.std_alloc.specs.contracts.vec.Vec as vec
-use Rattle.hg_raw.specs.Frames.{Frame, zeros}
+use Rattle.hg_raw.specs.Links.{zeros}
 use Rattle.hg_raw.specs.Memory.{parts_own, lease_own}
-use Rattle.hg_raw.specs.Shells.{ShellSeen, IsShell, VecWords, words_own, shell_val, left_own, shell_own}
+use Rattle.hg_raw.specs.Shells.{ShellSeen, IsShell, words_own, shell_val, left_own}
 use Rattle.hg_raw.specs.declared.slots.Slots.{Slots}
 use Rattle.hg_raw.specs.contracts.shell.Shell as shell
 use Rattle.hg_raw.specs.contracts.shell.Shell.TheInside as inside

@@ -1,5 +1,6 @@
 use Rattle.std.proofs.Common.{◌≡◌, ◌∙◌, true, sym, ap, subst}
-use Rattle.hg_raw.specs.Frames.{numbers, is_in, first_of}
+use Rattle.hg_raw.specs.Frames.{numbers, is_in}
+use Rattle.hg_raw.specs.Links.{first_of}
 use Rattle.hg_raw.proofs.Chains.{real-in, rest-smaller, seen-from-first, seen-first}
 use Rattle.hg_raw.proofs.tests.has.Goals as goal
 

@@ -1,4 +1,3 @@
-use Rattle.std.proofs.Common.{◌≡◌, ℕ, true}
 use Rattle.hg_raw.specs.Frames.{numbers}
 use Rattle.hg_raw.proofs.Lists.{from-in}
 use Rattle.hg_raw.proofs.Chains.{rest-smaller, step-ahead, step-behind}

@@ -1,5 +1,6 @@
-use Rattle.std.proofs.Common.{◌≡◌, ℕ, true, List, length}
-use Rattle.hg_raw.specs.Frames.{numbers, is_in, from, before, nil}
+use Rattle.std.proofs.Common.{◌≡◌, true, length}
+use Rattle.hg_raw.specs.Frames.{numbers, is_in}
+use Rattle.hg_raw.specs.Links.{from, before, nil}
 use Rattle.hg_raw.proofs.chain.Chain.before.Given as goal
 
 abbrev pub invariant-loop-at : goal.invariant-loop-at

@@ -1,7 +1,7 @@
-use Rattle.std.proofs.Common.{ℕ, ◌≡◌, ◌++◌, ◌∙◌, refl, sym, ap, subst}
+use Rattle.std.proofs.Common.{ℕ, ◌++◌, ◌∙◌, refl, sym, ap, subst}
 use Rattle.hg_raw.specs.declared.slots.Slots.{Slots}
-use Rattle.hg_raw.specs.Frames.{ChainSeen, RegionId, Sized, numbers, distinct}
-use Rattle.hg_raw.specs.ChainParts.{IsChain}
+use Rattle.hg_raw.specs.Frames.{ChainSeen}
+use Rattle.hg_raw.specs.Links.{Sized}
 use Rattle.hg_raw.proofs.Chains.{last-there, words-no-nil, words-sized, linked-now, joined}
 use Rattle.hg_raw.proofs.chain.Chain.join.Goals as goal
 

@@ -1,5 +1,6 @@
-use Rattle.std.proofs.Common.{◌≡◌, ◌∙◌, sym, ap}
-use Rattle.hg_raw.specs.Frames.{numbers, from, first_of, marked}
+use Rattle.std.proofs.Common.{◌∙◌, sym, ap}
+use Rattle.hg_raw.specs.Frames.{numbers}
+use Rattle.hg_raw.specs.Links.{first_of, marked}
 use Rattle.hg_raw.proofs.Chains.{real-in, rest-smaller, seen-from-nil, seen-from-first, seen-first, marks-next}
 use Rattle.hg_raw.proofs.chain.Chain.mark.Goals as goal
 

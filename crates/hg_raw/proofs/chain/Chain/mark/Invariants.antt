@@ -1,5 +1,6 @@
-use Rattle.std.proofs.Common.{◌≡◌, ℕ, List, length}
-use Rattle.hg_raw.specs.Frames.{numbers, from, first_of, marked}
+use Rattle.std.proofs.Common.{◌≡◌, length}
+use Rattle.hg_raw.specs.Frames.{numbers}
+use Rattle.hg_raw.specs.Links.{from, first_of, marked}
 use Rattle.hg_raw.proofs.chain.Chain.mark.Given as goal
 
 abbrev pub invariant-loop-at : goal.invariant-loop-at

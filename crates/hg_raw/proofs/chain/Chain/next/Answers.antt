@@ -1,5 +1,6 @@
-use Rattle.std.proofs.Common.{rules, ℕ, ◌≡◌, ◌<◌, true, sym, ap, subst}
-use Rattle.hg_raw.specs.Frames.{ChainSeen, numbers, is_in, from, behind, first_of}
+use Rattle.std.proofs.Common.{◌≡◌, ◌<◌, true, sym, subst}
+use Rattle.hg_raw.specs.Frames.{ChainSeen, numbers, is_in}
+use Rattle.hg_raw.specs.Links.{from, behind, first_of}
 use Rattle.hg_raw.proofs.Chains.{word-there, next-is, rest-is, is-below}
 use Rattle.hg_raw.proofs.chain.Chain.next.Goals as goal
 

@@ -1,6 +1,7 @@
-use Rattle.std.proofs.Common.{ℕ, List, [], ◌∷◌, ◌≡◌, ◌∙◌, true, refl, sym, ap, subst}
+use Rattle.std.proofs.Common.{ℕ, [], ◌∷◌, ◌≡◌, ◌∙◌, refl, sym, ap, subst}
 use Rattle.hg_raw.specs.declared.slots.Slots.{Slots}
-use Rattle.hg_raw.specs.Frames.{ChainSeen, numbers, is_in, bytes_of, before, behind, first_of, nil, without, word, with_bytes}
+use Rattle.hg_raw.specs.Frames.{ChainSeen, numbers, bytes_of, without, with_bytes}
+use Rattle.hg_raw.specs.Links.{before, behind, first_of, nil, word}
 use Rattle.hg_raw.proofs.Lists.{sized-at}
 use Rattle.hg_raw.proofs.Chains.{before-there, words-no-nil, still-in, cut-there, linked-now, splits, single, in-seen, is-below, page-there}
 use Rattle.hg_raw.proofs.chain.Chain.split.Goals as goal

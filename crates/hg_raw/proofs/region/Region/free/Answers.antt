@@ -1,5 +1,5 @@
-use Rattle.std.proofs.Common.{ℕ, ◌<◌, ◌∙◌, sym, ap, subst}
-use Rattle.hg_raw.specs.Frames.{RegionSeen, is_in, AllHome}
+use Rattle.std.proofs.Common.{◌<◌, ◌∙◌, ap, subst}
+use Rattle.hg_raw.specs.Frames.{RegionSeen, is_in}
 use Rattle.hg_raw.specs.Shells.{ShellSeen}
 use Rattle.hg_raw.proofs.Regions.{home-in}
 use Rattle.hg_raw.proofs.region.Region.free.Goals as goal

@@ -1,6 +1,7 @@
-use Rattle.std.proofs.Common.{ℕ, Bool, List, ◌++◌, ◌≡◌, ◌∙◌, length, refl, sym, ap, subst}
+use Rattle.std.proofs.Common.{Bool, List, ◌∙◌, length, refl, sym, ap, subst}
 use Rattle.hg_raw.specs.declared.slots.Slots.{Slots}
-use Rattle.hg_raw.specs.Frames.{RegionId, RegionSeen, ChainSeen, Sized, numbers, marked}
+use Rattle.hg_raw.specs.Frames.{RegionId, RegionSeen, ChainSeen, numbers}
+use Rattle.hg_raw.specs.Links.{Sized, marked}
 use Rattle.hg_raw.proofs.Chains.{words-sized}
 use Rattle.hg_raw.proofs.Regions.{count-home, back-is, seen-back, refitted}
 use Rattle.hg_raw.proofs.region.Region.give_back.Goals as goal

@@ -1,6 +1,7 @@
-use Rattle.std.proofs.Common.{ℕ, List, [], ◌∷◌, ◌≡◌, ◌∙◌, refl, sym, ap}
+use Rattle.std.proofs.Common.{ℕ, List, [], ◌∷◌, ◌∙◌, refl, ap}
 use Rattle.hg_raw.specs.declared.slots.Slots.{Slots}
-use Rattle.hg_raw.specs.Frames.{bytes_of, is_in, nil, word, with_bytes}
+use Rattle.hg_raw.specs.Frames.{bytes_of, is_in, with_bytes}
+use Rattle.hg_raw.specs.Links.{nil, word}
 use Rattle.hg_raw.proofs.Lists.{sized-at}
 use Rattle.hg_raw.proofs.Chains.{cut-there, single}
 use Rattle.hg_raw.proofs.Regions.{home-in, home-bytes, chain-taken, taken-is, seen-taken}

@@ -1,10 +1,10 @@
 -- `close` puts the parts together again, as the bytes of the vector whose words it has. Assumes `Logic`.
-use Rattle.std.proofs.Common.{◌≡◌, ℕ, ◌+◌, ◌*◌, ◌^◌, ◌<◌, Bool, true, List, [], ◌∷◌, ◌++◌, length, refl, sym, ap, ◌∙◌, arith, w64}
+use Rattle.std.proofs.Common.{◌≡◌, ℕ, ◌+◌, ◌*◌, ◌^◌, ◌<◌, Bool, true, List, [], ◌∷◌, ◌++◌, length, refl, sym, ap, ◌∙◌, arith}
 use base.Fraction.{full_share}
 use lib.ListN.{length-append}
-use mir.Val.{Val, vint, vptr, vstruct, of_list}
-use base.Logic.{SProp, id⊢}
-use base.Fml.{Fml, fsep, feq, flt}
+use mir.Val.{Val, vstruct, of_list}
+use base.Logic.{SProp}
+use base.Fml.{fsep, flt}
 use prog.Wp.{WpFn}
 use contract.Monad.{fact}
 use contract.Running.{tables}
@@ -13,7 +13,7 @@ use types.Part.{whole, sub}
 use types.Run.{stop, fld, of_opd, returns, enter}
 use types.ByLocal.{alloc_all, pass_all, free_all, look_at, get, get_in, sets}
 use denote.Exit.{yes}
-use denote.RattleType.{RattleType, owns}
+use denote.RattleType.{owns}
 use denote.Array.{Array}
 use denote.Builtin.{u8}
 use denote.Laws.{Is, shows}
@@ -30,18 +30,18 @@ use Rattle.std.proofs.raw_atomic.Walks.{proved_at, leaves}
 use Rattle.std_alloc.specs.declared.vec.Vec.{Vec}
 use Rattle.std_alloc.specs.Vec.Ownership.{has_block, owns_if}
 use Rattle.std_alloc.proofs.VecSteps.Opens.{is_live}
-use Rattle.std_heap.proofs.Handle.{heap_Tells}
 use Rattle.std.specs.declared.alloc.Global.{Global}
 use Rattle.std.specs.contracts.impls.GlobalAllocator.TheImpl.{ghosts}
-use Rattle.hg_raw.specs.Frames.{Frame, numbers, is_in, Sized}
+use Rattle.hg_raw.specs.Frames.{numbers, is_in}
+use Rattle.hg_raw.specs.Links.{Sized}
 use Rattle.hg_raw.specs.Memory.{parts_own, lease_own}
-use Rattle.hg_raw.specs.Shells.{ShellSeen, IsShell, VecWords, words_own, shell_val, left_own}
+use Rattle.hg_raw.specs.Shells.{ShellSeen, VecWords, words_own, shell_val}
 use Rattle.hg_raw.specs.declared.slots.Slots.{Slots}
 use Rattle.hg_raw.specs.contracts.shell.Shell as shell
 use Rattle.hg_raw.specs.contracts.shell.Shell.close as f
 use Rattle.hg_raw.proofs.Blocks.{gathered, length-gathered, put_together}
 use Rattle.hg_raw.proofs.Opens.{Sr, slots_val, slots_had}
-use Rattle.hg_raw.proofs.Vectors.{Vr, vec_val, vec_WT, vec_told}
+use Rattle.hg_raw.proofs.Vectors.{vec_val, vec_WT, vec_told}
 use Rattle.hg_raw.proofs.shell.Shell.close.Statement.{statement}
 use Rattle.hg_raw.proofs.shell.Shell.close.Code as code
 

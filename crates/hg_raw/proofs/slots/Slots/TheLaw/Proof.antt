@@ -1,5 +1,4 @@
 -- A `&` to a `Slots` is made where one to the bytes of each of its parts is. Assumes `Logic`.
-use mathlib.Core.Path.{subst, sym, refl}
 use mathlib.Core.List.{List, [], ◌∷◌}
 use lib.ListN.{length}
 use Prim.Native.Nat.{ℕ, ◌*◌}

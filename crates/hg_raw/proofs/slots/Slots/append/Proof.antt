@@ -1,8 +1,8 @@
 -- `append` joins the other's parts to its own, and they are apart since both are owned. Assumes `Logic`.
-use Rattle.std.proofs.Common.{◌≡◌, ℕ, ◌^◌, ◌<◌, Bool, true, List, [], ◌∷◌, ◌++◌, refl, sym, ◌∙◌, w64}
-use mir.Val.{Val, vunit, vint, vptr}
+use Rattle.std.proofs.Common.{◌≡◌, ℕ, ◌<◌, true, List, [], ◌∷◌, ◌++◌, refl, sym, ◌∙◌}
+use mir.Val.{Val, vunit, vptr}
 use base.Logic.{SProp, emp, id⊢}
-use base.Fml.{Fml, ftrue, flft}
+use base.Fml.{ftrue, flft}
 use prog.Wp.{WpFn}
 use contract.Monad.{fact, fact_i}
 use contract.Running.{tables}
@@ -18,7 +18,8 @@ use denote.Triple.Entry.{alive}
 use denote.Triple.Walked.{Stays, stay_dropped, stay_ref, walk_of, Goes-ref}
 use Rattle.core.proofs.alloc.Calls.{Goes-blank}
 use Rattle.std.proofs.raw_atomic.Walks.{proved_at, leaves}
-use Rattle.hg_raw.specs.Frames.{Frame, numbers, apart, Sized}
+use Rattle.hg_raw.specs.Frames.{numbers, apart}
+use Rattle.hg_raw.specs.Links.{Sized}
 use Rattle.hg_raw.specs.Memory.{parts_own}
 use Rattle.hg_raw.specs.declared.slots.Slots.{Slots}
 use Rattle.hg_raw.specs.contracts.slots.Slots.append as f

@@ -1,11 +1,10 @@
 -- `cut` moves one part to a `Slots` of its own. Assumes `Logic`.
-use Rattle.std.proofs.Common.{◌≡◌, ℕ, ◌^◌, ◌<◌, List, [], ◌∷◌, true, refl, w64}
+use Rattle.std.proofs.Common.{◌≡◌, ℕ, List, [], ◌∷◌, true, refl, w64}
 use mir.Syntax.{named}
-use mir.Val.{Val, vint, vptr}
-use base.Logic.{SProp, emp}
-use base.Fml.{Fml, ftrue, flft}
+use mir.Val.{Val, vptr}
+use base.Logic.{emp}
+use base.Fml.{ftrue, flft}
 use contract.Monad.{fact, fact_i}
-use contract.Running.{tables}
 use types.Kit.{‵, raw, ◌⊛◌, ◌$◌, ◌∵◌, !, qed, by, move, keep, use0, use1, split, join, fsplit, fsplit3, fjoin, fjoin3, feq_i}
 use types.Part.{whole, sub, agg, look_in}
 use types.Run.{stop, fld, load, of_opd, no_more, and_then, returns, enter}
@@ -20,11 +19,11 @@ use denote.Signature.{plain, types_at}
 use denote.Steps.{nothing, heard}
 use denote.Triple.Walked.{Stays, stay_dropped, stay_ref, walk_of, Goes-dropped, Goes-ref}
 use Rattle.std.proofs.raw_atomic.Walks.{proved, leaves}
-use Rattle.hg_raw.specs.Frames.{Frame, numbers, is_in, bytes_of, without}
+use Rattle.hg_raw.specs.Frames.{numbers, is_in, bytes_of, without}
 use Rattle.hg_raw.specs.Memory.{part_own, parts_own}
 use Rattle.hg_raw.specs.declared.slots.Slots.{Slots}
 use Rattle.hg_raw.specs.contracts.slots.Slots.cut as f
-use Rattle.hg_raw.proofs.Opens.{Sr, parts, slots_val, slots_made, slots_open, slots_close}
+use Rattle.hg_raw.proofs.Opens.{Sr, slots_val, slots_made, slots_open, slots_close}
 use Rattle.hg_raw.proofs.Parts.{part_out}
 use Rattle.hg_raw.proofs.slots.Slots.cut.Statement.{statement}
 use Rattle.hg_raw.proofs.slots.Slots.cut.Code as code

@@ -1,9 +1,9 @@
 -- `get` hands on the `&` to the bytes of one part that a `&` to the `Slots` holds. Assumes `Logic`.
-use Rattle.std.proofs.Common.{◌≡◌, ℕ, ◌+◌, ◌*◌, ◌^◌, ◌<◌, true, List, [], ◌∷◌, ◌++◌, length, refl, sym, ap, subst, ◌∙◌, arith, w64}
+use Rattle.std.proofs.Common.{◌≡◌, ℕ, ◌+◌, ◌*◌, ◌^◌, ◌<◌, true, List, [], ◌∷◌, length, refl, sym, ap, subst, arith, w64}
 use mir.Syntax.{named}
-use mir.Val.{Val, vint, vptr}
-use base.Logic.{SProp, emp, id⊢}
-use base.Fml.{Fml, ftrue, fhide, flft}
+use mir.Val.{Val, vptr}
+use base.Logic.{SProp, emp}
+use base.Fml.{ftrue, flft}
 use prog.Wp.{Env}
 use contract.Monad.{fact, fact_i}
 use contract.Running.{tables}
@@ -13,21 +13,21 @@ use types.Run.{stop, fld, load, look, of_opd, bin, no_more, and_then, first, blo
 use types.ByLocal.{alloc_all, pass_all, free_all, look_at, get, through, sets, sets_last, is, env}
 use denote.Exit.{yes}
 use denote.RattleType.{owns}
-use denote.Builtin.{u8, usize, RefOf}
+use denote.Builtin.{usize, RefOf}
 use denote.Memory.{hidden_shr}
 use denote.Opens.{hide}
 use denote.Plain.{uint_vals, uint_Tells}
 use denote.RawPtr.{Ptr, RawPtr, block_ptr, block_of, count_of, at_block, in_block, InBlock}
 use denote.Ref.{shr_vals, shr_Tells}
 use denote.Signature.{plain, types_at}
-use denote.Slice.{slice_val, elements_shared}
+use denote.Slice.{slice_val}
 use denote.Steps.{nothing, heard}
 use denote.Struct.Lending.{in_block_says}
 use denote.Triple.Walked.{Stays, stay_dropped, walk_of, Goes-dropped}
 use Rattle.core.proofs.slots.Bodies.{after}
 use Rattle.core.proofs.slots.Lent.{word_in, word_out, pointer_in, pointer_out}
 use Rattle.std.proofs.raw_atomic.Walks.{proved, leaves}
-use Rattle.hg_raw.specs.Frames.{Frame, numbers, is_in, bytes_of}
+use Rattle.hg_raw.specs.Frames.{numbers, is_in, bytes_of}
 use Rattle.hg_raw.specs.Memory.{part_lent, parts_lent}
 use Rattle.hg_raw.specs.declared.slots.Slots.{Slots}
 use Rattle.hg_raw.specs.contracts.slots.Slots.get as f

@@ -1,9 +1,9 @@
 -- `get_mut` lends the bytes of one part, and the `Slots` follows them. Assumes `Logic`.
-use Rattle.std.proofs.Common.{◌≡◌, ℕ, ◌+◌, ◌*◌, ◌^◌, ◌<◌, true, List, [], ◌∷◌, ◌++◌, length, take, drop, refl, sym, ap, subst, ◌∙◌, arith, w64}
+use Rattle.std.proofs.Common.{◌≡◌, ℕ, ◌+◌, ◌*◌, ◌^◌, ◌<◌, true, List, [], ◌∷◌, ◌++◌, length, take, drop, refl, sym, ap, subst, arith, w64}
 use Rattle.std.proofs.Math.Seq.{take-append_seam}
 use base.Fraction.{full_share}
 use mir.Syntax.{named}
-use mir.Val.{Val, vint, vptr}
+use mir.Val.{Val, vptr}
 use seplogic.Ra.Ura.{Ura}
 use base.Logic.{SProp, ent, sep, emp, id⊢}
 use base.Fml.{GName, Fml, ftrue, fsep, feq, flft}
@@ -22,7 +22,7 @@ use denote.Array.{Array}
 use denote.Builtin.{u8, usize, RefMutOf}
 use denote.Follow.{follows}
 use denote.FollowSlice.{Elements, lends_Elements}
-use denote.Index.{row, whole_in, whole_out}
+use denote.Index.{whole_in, whole_out}
 use denote.Memory.{cell_at, part_of, mem}
 use denote.Plain.{uint_vals, uint_Tells}
 use denote.RawPtr.{Ptr, block_ptr}
@@ -34,13 +34,13 @@ use denote.Steps.{nothing, heard}
 use denote.Triple.Walked.{Stays, stay_dropped, walk_of, Goes-dropped, Goes-spent_ref}
 use Rattle.core.proofs.slots.Bodies.{after}
 use Rattle.std.proofs.raw_atomic.Walks.{proved, leaves}
-use Rattle.hg_raw.specs.Frames.{Frame, numbers, is_in, bytes_of, without, with_bytes, refit}
+use Rattle.hg_raw.specs.Frames.{numbers, is_in, bytes_of, without, with_bytes, refit}
 use Rattle.hg_raw.specs.Lending.{with_part}
 use Rattle.hg_raw.specs.Memory.{part_own, parts_own}
 use Rattle.hg_raw.specs.declared.slots.Slots.{Slots}
 use Rattle.hg_raw.specs.contracts.slots.Slots.get_mut as f
 use Rattle.hg_raw.proofs.Lists.{held-in}
-use Rattle.hg_raw.proofs.Opens.{Sr, parts, slots_val, slots_made, slots_open}
+use Rattle.hg_raw.proofs.Opens.{Sr, slots_val, slots_made, slots_open}
 use Rattle.hg_raw.proofs.Parts.{part_out, part_in}
 use Rattle.hg_raw.proofs.slots.Slots.get_mut.Statement.{statement}
 use Rattle.hg_raw.proofs.slots.Slots.get_mut.Code as code
