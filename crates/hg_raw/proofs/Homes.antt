@@ -61,7 +61,7 @@ or-true : (b : Bool) → (b || true) ≡ true
 or-true true = refl
 or-true false = refl
 
-bytes-append : (fs gs : List Frame) (k : ℕ) → bytes_of (fs ++ gs) k ≡ (if is_in k (numbers fs) then bytes_of fs k else bytes_of gs k)
+pub bytes-append : (fs gs : List Frame) (k : ℕ) → bytes_of (fs ++ gs) k ≡ (if is_in k (numbers fs) then bytes_of fs k else bytes_of gs k)
 bytes-append [] gs k = refl
 bytes-append (f ∷ fs) gs k = elim (f.0 == k) as (λ t. (if t then f.1 else bytes_of (fs ++ gs) k) ≡ (if t || is_in k (numbers fs) then (if t then f.1 else bytes_of fs k) else bytes_of gs k)) [ true ↦ refl | false ↦ bytes-append fs gs k ]
 
@@ -151,3 +151,8 @@ fresh-flags n =
     let l : length (flags (numbers (zeros 4096 n)) n) ≡ n = length-flags (numbers (zeros 4096 n)) n in
     ext_get_or false _ _ (l ∙ sym (length-replicate n true)) (λ i below. let lt : i < n = subst (λ k. i < k) l below in
     flag-at (numbers (zeros 4096 n)) n i false lt ∙ zeros-in 4096 n i lt ∙ sym (get_or-replicate n i true false lt))
+
+pub apart-out : (ns ms : List ℕ) (k : ℕ) → apart ns ms ≡ true → is_in k ms ≡ true → is_in k ns ≡ false
+apart-out [] ms k a h = refl
+apart-out (n ∷ ns) ms k a h =
+    ap (λ t. t || is_in k ns) (differ n k (λ e. clash (is_in n ms) (subst (λ j. is_in j ms ≡ true) (sym e) h) (not_true _ (fst_true _ _ a)))) ∙ apart-out ns ms k (snd_true _ _ a) h

@@ -1,4 +1,5 @@
 pub mod Blocks
+pub mod CallerLemmas
 pub mod Chains
 pub mod Facts
 pub mod Homes

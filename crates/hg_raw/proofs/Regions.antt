@@ -16,7 +16,7 @@ use Rattle.hg_raw.specs.ChainParts.{IsChain, chain_seen}
 use Rattle.hg_raw.specs.Frames.{Frame, RegionId, RegionSeen, ChainSeen, numbers, is_in, distinct, apart, bytes_of, without, is_home, home_bytes, bytes_or_none, taken, given_back, fresh_home}
 use Rattle.hg_raw.specs.Links.{Sized, Below, home_of, at_home, flags, marked, zeros}
 use Rattle.hg_raw.proofs.Lists.{by_bool, clash, minus, numbers-without, sized-without, below-minus, distinct-minus, numbers-append, sized-append, below-append, distinct-append}
-use Rattle.hg_raw.proofs.Homes.{home-at, home-taken, flags-minus, home-back, flags-back, zeros-numbers, zeros-sized, zeros-below, zeros-distinct, fresh, fresh-flags, length-flags, flag-at, length-marked}
+use Rattle.hg_raw.proofs.Homes.{home-at, home-taken, flags-minus, home-back, flags-back, zeros-numbers, zeros-sized, zeros-below, zeros-distinct, fresh, fresh-flags, length-flags, flag-at, length-marked, apart-out}
 use Rattle.hg_raw.proofs.Chains.{word_numbers, words-sized}
 
 some_if : {X : Type 0} (b : Bool) (x : X) → is_some (if b then Some x else None) ≡ b
@@ -160,3 +160,11 @@ not-below r v e n le = by_bool (ltb n r.frames) (λ t. absurd (absurd_lt n r.fra
 
 pub within : (r : Inside) → IsRegion r → (n : ℕ) → n < r.frames → n < r.home.len
 within r is n lt = subst (λ k. n < k) (sym (r.home.ok.0 ∙ count-home r is)) lt
+
+pub was-out : (r : Inside) (c : Parts) (v : RegionSeen) (w : ChainSeen) → region_seen r ≡ v → chain_seen c ≡ w → apart (numbers r.pages.held) (numbers c.pages.held) ≡ true → (n : ℕ) → is_in n (numbers w.frames) ≡ true → is_home v n ≡ false
+was-out r c v w ev ew far n h =
+    let out : is_in n (numbers r.pages.held) ≡ false = apart-out (numbers r.pages.held) (numbers c.pages.held) n far (subst (λ (w : ChainSeen). is_in n (numbers w.frames) ≡ true) (sym ew) h) in
+    by_bool (is_home v n) (λ t. clash (is_in n (numbers r.pages.held)) (home-in r v ev n t).1 out) (λ t. t)
+
+pub length-home : (r : Inside) (v : RegionSeen) → region_seen r ≡ v → length v.home ≡ v.region.frames
+length-home r v e = subst (λ (v : RegionSeen). length v.home ≡ v.region.frames) e (length-map-range_with_len (home_of r.pages.held) 0 r.frames)

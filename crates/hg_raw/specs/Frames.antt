@@ -1,8 +1,5 @@
 -- Frames with their bytes, as contracts see them. Our own rules.
-use Rattle.std.specs.Prelude.{◌≡◌, ℕ, zero, suc, ◌<◌, Bool, true, false, not, ◌&&◌, ◌||◌, ◌==◌, if◌then◌else◌, IsTrue, List, [], ◌∷◌, ◌++◌, Option, None, Some, length, take, drop, slice_set, is_some, slice_index_or, replicate, map}
-use Rattle.std.specs.Int.{to_le_bytes}
-use Rattle.std.specs.List.{range_with_len}
-use mir.Syntax.{w32}
+use Rattle.std.specs.Prelude.{ℕ, ◌<◌, Bool, true, false, not, ◌&&◌, ◌||◌, ◌==◌, if◌then◌else◌, IsTrue, List, [], ◌∷◌, ◌++◌, Option, None, Some, length, take, drop, slice_set, is_some, slice_index_or, replicate}
 use denote.RawPtr.{Ptr}
 
 -- a frame: its number and its bytes

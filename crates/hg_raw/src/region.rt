@@ -1,6 +1,6 @@
 // The frames that are at home.
-ghost use Rattle.std.specs.Prelude.{◌≡◌, ◌<◌, IfOk, IsTrue, [], ◌∷◌, length};
-ghost use Rattle.hg_raw.specs.Frames.{Frame, is_home, home_bytes, taken, given_back, fresh_home, AllHome};
+ghost use Rattle.std.specs.Prelude.{◌≡◌, ℕ, IfOk, IsTrue, false, [], ◌∷◌, length};
+ghost use Rattle.hg_raw.specs.Frames.{Frame, Has, is_home, home_bytes, taken, given_back, fresh_home, AllHome};
 
 use crate::chain::{Chain, NIL, set_word};
 use crate::shell::{Shell, open};
@@ -79,10 +79,12 @@ impl Region {
         }
     }
 
-    /// Takes the frames of `c` home, with their bytes.
+    /// Takes the frames of `c` home, with their bytes. None of them was at home: a frame has one
+    /// owner.
     pub fn give_back(&mut self, c: Chain)
         requires { c.region ≡ self.old.region }
-        ensures { self.new ≡ given_back self.old c.frames }
+        ensures home { self.new ≡ given_back self.old c.frames }
+        ensures were_out { (n : ℕ) → Has c n → is_home self.old n ≡ false }
     {
         c.mark(&mut self.home);
         let Chain {
@@ -98,7 +100,8 @@ impl Region {
 
     /// Whether frame `f` is at home.
     pub fn is_home(&self, f: FrameNo) -> bool
-        ensures { result ≡ is_home self.now f.0 }
+        ensures home { result ≡ is_home self.now f.0 }
+        ensures frames { length self.now.home ≡ self.now.region.frames }
     {
         f.0 < self.frames && self.home[f.0 as usize]
     }

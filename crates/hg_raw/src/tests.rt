@@ -1,7 +1,7 @@
 // Every frame of a region is written with a pattern of its own, and read back through chains of
 // every length, while they grow, while they shrink, and after a stay at home.
-ghost use Rattle.std.specs.Prelude.{◌≡◌, ◌<◌, IsTrue};
-ghost use Rattle.hg_raw.specs.Frames.{Has, AllHome};
+ghost use Rattle.std.specs.Prelude.{◌≡◌, ℕ, ◌<◌, IsTrue, slice_set};
+ghost use Rattle.hg_raw.specs.Frames.{Has, AllHome, bytes_of, numbers};
 
 use crate::chain::{Chain, NIL};
 use crate::region::Region;
@@ -89,6 +89,19 @@ fn take(rt: &impl Abort, region: &mut Region, f: FrameNo) -> Chain
     one
 }
 
+// What a caller sees of a write: one byte of one frame.
+fn put(chain: &mut Chain, f: FrameNo, i: usize, byte: u8)
+    requires has { Has chain.old f.0 }
+    requires within { i < 4096 }
+    ensures written { bytes_of chain.new.frames f.0 ≡ slice_set (bytes_of chain.old.frames f.0) i byte }
+    ensures others { (k : ℕ) → (k ≡ f.0 → ⊥) → bytes_of chain.new.frames k ≡ bytes_of chain.old.frames k }
+    ensures region { chain.new.region ≡ chain.old.region }
+    ensures same_frames { numbers chain.new.frames ≡ numbers chain.old.frames }
+{
+    let page = chain.page_mut(f);
+    page[i] = byte;
+}
+
 // All frames in one chain, each with its pattern.
 fn take_all(rt: &impl Abort, region: &mut Region) -> Chain
     ensures of_region { result.region ≡ region.old.region }
@@ -110,6 +123,11 @@ fn write_all(rt: &impl Abort, all: &mut Chain)
         let page = all.page_mut(f);
         assert!(rt; is_blank(page));
         fill(page, f);
+        assert!(rt; has(all, f));
+        put(all, f, 100, 7);
+        assert!(rt; has(all, f));
+        assert_eq!(rt; all.page(f)[100], 7);
+        put(all, f, 100, pattern(f, 100));
     }
 }
 

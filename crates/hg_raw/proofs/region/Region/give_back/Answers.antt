@@ -3,7 +3,7 @@ use Rattle.hg_raw.specs.declared.slots.Slots.{Slots}
 use Rattle.hg_raw.specs.Frames.{RegionId, RegionSeen, ChainSeen, numbers}
 use Rattle.hg_raw.specs.Links.{Sized, marked}
 use Rattle.hg_raw.proofs.Chains.{words-sized}
-use Rattle.hg_raw.proofs.Regions.{count-home, back-is, seen-back, refitted}
+use Rattle.hg_raw.proofs.Regions.{count-home, back-is, seen-back, refitted, was-out}
 use Rattle.hg_raw.proofs.region.Region.give_back.Goals as goal
 
 pub mark-requires : goal.mark-requires
@@ -20,9 +20,12 @@ invariant_of-self c =
     back-is c.self.inside c.c.inside c.self.invariant c.c.invariant region c.append-2.ensures.apart _ c.append.ensures.all c.append-2.ensures.all refl
     (refitted c.self.inside.home c.mark.new.flags (numbers c.c.inside.pages.held) marks) refl
 
-pub returns : goal.returns
-returns c =
+pub returns-clause-home : goal.returns-clause-home
+returns-clause-home c =
     let region = ap (λ (v : ChainSeen). v.region) c.c.view_is ∙ c.requires ∙ sym (ap (λ (v : RegionSeen). v.region) c.self.view_is) in
     seen-back c.self.inside c.c.inside c.c.invariant c.args.self.now c.args.c c.self.view_is c.c.view_is region c.append-2.ensures.apart
     (record { words = c.append.new.self; pages = c.append-2.new.self; frames = c.self.inside.frames; home = c.self.inside.home; shell = c.self.inside.shell })
     (ap (λ (s : Slots). s.base) c.append.ensures.all) c.append-2.ensures.all refl
+
+pub returns-clause-were_out : goal.returns-clause-were_out
+returns-clause-were_out c = was-out c.self.inside c.c.inside c.args.self.now c.args.c c.self.view_is c.c.view_is c.append-2.ensures.apart
