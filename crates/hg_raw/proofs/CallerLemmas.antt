@@ -3,8 +3,7 @@ use Rattle.std.proofs.Common.{◌≡◌, ℕ, true, false, not, ◌&&◌, ◌||�
 use Rattle.std.proofs.Math.Seq.{take-append_seam}
 use Rattle.hg_raw.specs.Frames.{Frame, ChainSeen, numbers, is_in, distinct, bytes_of, without, with_bytes, refit, with_page}
 use Rattle.hg_raw.proofs.Lists.{case_eq, clash, differ, numbers-with, numbers-without, in-minus}
-pub use Rattle.hg_raw.proofs.Lists.{numbers-append, in-append, bytes-without}
-pub use Rattle.hg_raw.proofs.Homes.{bytes-append}
+pub use Rattle.hg_raw.proofs.Lists.{numbers-append, in-append, bytes-append, bytes-without}
 
 -- a slice keeps its length, so what is written to it is what is left behind it
 pub refit-same : (xs ws : List ℕ) → length ws ≡ length xs → refit xs ws ≡ ws

@@ -1,5 +1,5 @@
 -- What a chain's fields say of its frames.
-use Rattle.std.proofs.Common.{◌≡◌, ℕ, ◌<◌, ◌^◌, Bool, true, false, ◌||◌, ◌==◌, if◌then◌else◌, List, [], ◌∷◌, ◌++◌, length, slice_set, refl, sym, ap, subst, ◌∙◌, arith, w32, lit<}
+use Rattle.std.proofs.Common.{◌≡◌, ℕ, ◌<◌, ◌^◌, Bool, true, false, ◌||◌, ◌&&◌, not, ◌==◌, if◌then◌else◌, List, [], ◌∷◌, ◌++◌, length, slice_set, refl, sym, ap, subst, ◌∙◌, arith, w32, lit<}
 use Rattle.std.specs.Int.{from_le_bytes}
 use Rattle.std.proofs.lemmas.Nat.{from_le_bytes-to_le_bytes_4}
 use Rattle.core.specs.List.{length_refill}
@@ -9,7 +9,7 @@ use Rattle.hg_raw.specs.declared.chain.Chain.TheInside.{Inside}
 use Rattle.hg_raw.specs.ChainParts.{IsChain, chain_seen}
 use Rattle.hg_raw.specs.Frames.{Frame, RegionId, ChainSeen, numbers, is_in, distinct, apart, bytes_of, without, with_bytes, refit}
 use Rattle.hg_raw.specs.Links.{first_of, last_of, nil, word, linked, from, behind, before, marked, Sized, Below}
-use Rattle.hg_raw.proofs.Lists.{minus, linked-numbers, linked-sized, sized-at, linked-next, from-next, below-at, no_nil, last-in, linked-join, first-append, last-append, numbers-append, sized-append, below-append, distinct-append, linked-minus, numbers-without, sized-without, below-minus, distinct-minus, first-minus, last-minus, sized-with, numbers-with, from-first, before-next, from-in, from-behind, or_false, clash, same, by_bool, differ, with-none, before-in, or_rest}
+use Rattle.hg_raw.proofs.Lists.{minus, linked-numbers, linked-sized, sized-at, linked-next, from-next, below-at, no_nil, last-in, linked-join, first-append, last-append, numbers-append, sized-append, below-append, distinct-append, linked-minus, numbers-without, sized-without, below-minus, distinct-minus, first-minus, last-minus, sized-with, numbers-with, from-first, before-next, from-in, from-behind, or_false, clash, same, by_bool, differ, with-none, before-in, or_rest, in-append, in-minus, bytes-without, bytes-append}
 
 pub first-small : (N : ℕ) (ns : List ℕ) → N < 2 ^ 32 → Below N ns → first_of ns < 2 ^ 32
 first-small N [] small b = lit< tt
@@ -213,3 +213,27 @@ seen-first c is v e = subst (λ (v : ChainSeen). c.first ≡ first_of (numbers v
 
 pub marks-next : (flags : List Bool) (ns : List ℕ) (n r : ℕ) → is_in n ns ≡ true → from r ns ≡ behind n ns → marked (slice_set flags n true) (from r ns) ≡ marked flags (from n ns)
 marks-next flags ns n r h rest = ap (marked (slice_set flags n true)) rest ∙ sym (ap (marked flags) (from-behind n ns h))
+
+-- ---- what a caller sees of a join and a split
+pub seen-joined : (c d : Inside) (v w : ChainSeen) → chain_seen c ≡ v → chain_seen d ≡ w → (s : Slots) → s ≡ record { base = c.pages.base; size = c.pages.size; held = c.pages.held ++ d.pages.held } → s.held ≡ v.frames ++ w.frames
+seen-joined c d v w ev ew s e = ap (λ (s : Slots). s.held) e ∙ (λ i. (ev i).frames ++ (ew i).frames)
+
+pub has-joined : (fs gs hs : List Frame) → hs ≡ fs ++ gs → (k : ℕ) → is_in k (numbers hs) ≡ (is_in k (numbers fs) || is_in k (numbers gs))
+has-joined fs gs hs e k = ap (λ (xs : List Frame). is_in k (numbers xs)) e ∙ ap (is_in k) (numbers-append fs gs) ∙ in-append k (numbers fs) (numbers gs)
+
+pub bytes-joined : (fs gs hs : List Frame) → hs ≡ fs ++ gs → (k : ℕ) → bytes_of hs k ≡ (if is_in k (numbers fs) then bytes_of fs k else bytes_of gs k)
+bytes-joined fs gs hs e k = ap (λ (xs : List Frame). bytes_of xs k) e ∙ bytes-append fs gs k
+
+pub seen-left : (c : Inside) (v : ChainSeen) → chain_seen c ≡ v → (f : ℕ) (s : Slots) → s ≡ record { base = c.pages.base; size = c.pages.size; held = without c.pages.held f } → s.held ≡ without v.frames f
+seen-left c v ev f s e = ap (λ (s : Slots). s.held) e ∙ ap (λ (v : ChainSeen). without v.frames f) ev
+
+pub has-left : (c : Inside) → IsChain c → (v : ChainSeen) → chain_seen c ≡ v → (f : ℕ) (hs : List Frame) → hs ≡ without v.frames f → (k : ℕ) → is_in k (numbers hs) ≡ (is_in k (numbers v.frames) && not (k == f))
+has-left c is v ev f hs e k =
+    let d : distinct (numbers v.frames) ≡ true = subst (λ (v : ChainSeen). distinct (numbers v.frames) ≡ true) ev is.distinct in
+    ap (λ (xs : List Frame). is_in k (numbers xs)) e ∙ ap (is_in k) (numbers-without v.frames f) ∙ in-minus k f (numbers v.frames) d
+
+pub bytes-left : (fs hs : List Frame) (f : ℕ) → hs ≡ without fs f → (k : ℕ) → (k ≡ f → ⊥) → bytes_of hs k ≡ bytes_of fs k
+bytes-left fs hs f e k ne = ap (λ (xs : List Frame). bytes_of xs k) e ∙ bytes-without fs k f ne
+
+pub one-has : (s : Slots) (p : Ptr) (n f : ℕ) (b : List ℕ) → s ≡ record { base = p; size = n; held = (f, b) ∷ [] } → (is_in f (numbers s.held) ≡ true) × (bytes_of s.held f ≡ b)
+one-has s p n f b e = (ap (λ (s : Slots). is_in f (numbers s.held)) e ∙ ap (λ t. t || false) (same f), ap (λ (s : Slots). bytes_of s.held f) e ∙ ap (λ t. if t then b else []) (same f))

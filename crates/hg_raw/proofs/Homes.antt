@@ -7,7 +7,7 @@ use Rattle.std.proofs.lemmas.List.FromFn.{length-map-range_with_len, get_or-map-
 use Rattle.std.specs.List.{range_with_len}
 use Rattle.hg_raw.specs.Frames.{Frame, numbers, is_in, distinct, apart, bytes_of, without, put_home, fresh_home}
 use Rattle.hg_raw.specs.Links.{Sized, Below, zeros, home_of, at_home, flags, marked}
-use Rattle.hg_raw.proofs.Lists.{same, clash, case_eq, differ, fst_true, snd_true, not_true, or_false, minus, in-minus, numbers-without, bytes-without, in-append, numbers-append}
+use Rattle.hg_raw.proofs.Lists.{same, clash, case_eq, differ, fst_true, snd_true, not_true, or_false, minus, in-minus, numbers-without, bytes-without, bytes-append, in-append, numbers-append}
 
 -- a list by number, with one of its values changed
 pub changed : {X : Type 0} → (f g : ℕ → X) (N n : ℕ) (v d : X) → n < N → g n ≡ v → ((i : ℕ) → (i ≡ n → ⊥) → g i ≡ f i) → map g (range_with_len 0 N) ≡ slice_set (map f (range_with_len 0 N)) n v
@@ -60,10 +60,6 @@ or-false false = refl
 or-true : (b : Bool) → (b || true) ≡ true
 or-true true = refl
 or-true false = refl
-
-pub bytes-append : (fs gs : List Frame) (k : ℕ) → bytes_of (fs ++ gs) k ≡ (if is_in k (numbers fs) then bytes_of fs k else bytes_of gs k)
-bytes-append [] gs k = refl
-bytes-append (f ∷ fs) gs k = elim (f.0 == k) as (λ t. (if t then f.1 else bytes_of (fs ++ gs) k) ≡ (if t || is_in k (numbers fs) then (if t then f.1 else bytes_of fs k) else bytes_of gs k)) [ true ↦ refl | false ↦ bytes-append fs gs k ]
 
 home-one : (fs : List Frame) (g : Frame) (N : ℕ) → g.0 < N → is_in g.0 (numbers fs) ≡ false → at_home (fs ++ g ∷ []) N ≡ slice_set (at_home fs N) g.0 (Some g.1)
 home-one fs g N small out =

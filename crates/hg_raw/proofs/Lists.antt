@@ -357,3 +357,7 @@ linked-minus (m ∷ k ∷ ks) f free d h =
 pub held-in : (fs : List Frame) (n s : ℕ) → length (bytes_of fs n) ≡ s → 0 < s → is_in n (numbers fs) ≡ true
 held-in [] n s l pos = absurd (not-suc-le-zero (subst (λ k. 0 < k) (sym l) pos))
 held-in (f ∷ fs) n s l pos = elim (f.0 == n) as (λ t. length (if t then f.1 else bytes_of fs n) ≡ s → (t || is_in n (numbers fs)) ≡ true) [ true ↦ λ _. refl | false ↦ λ l. held-in fs n s l pos ] l
+
+pub bytes-append : (fs gs : List Frame) (k : ℕ) → bytes_of (fs ++ gs) k ≡ (if is_in k (numbers fs) then bytes_of fs k else bytes_of gs k)
+bytes-append [] gs k = refl
+bytes-append (f ∷ fs) gs k = elim (f.0 == k) as (λ t. (if t then f.1 else bytes_of (fs ++ gs) k) ≡ (if t || is_in k (numbers fs) then (if t then f.1 else bytes_of fs k) else bytes_of gs k)) [ true ↦ refl | false ↦ bytes-append fs gs k ]

@@ -1,5 +1,5 @@
 -- What a region's fields say of the frames at home.
-use Rattle.std.proofs.Common.{◌≡◌, ℕ, ◌*◌, ◌<◌, ◌≤◌, ◌^◌, Bool, true, false, if◌then◌else◌, List, [], ◌∷◌, ◌++◌, length, replicate, get_or, slice_set, Option, None, Some, is_some, refl, sym, ap, subst, ◌∙◌, arith, ltb-true, ltb-false}
+use Rattle.std.proofs.Common.{◌≡◌, ℕ, ◌*◌, ◌<◌, ◌≤◌, ◌^◌, Bool, true, false, if◌then◌else◌, List, [], ◌∷◌, ◌++◌, length, replicate, get_or, slice_set, Option, None, Some, ◌||◌, is_some, refl, sym, ap, subst, ◌∙◌, arith, ltb-true, ltb-false}
 use lib.Dec.{ltb}
 use Rattle.std.proofs.Math.ListN.{get_or-eq_default}
 use Rattle.std.proofs.lemmas.List.FromFn.{length-map-range_with_len}
@@ -15,7 +15,7 @@ use Rattle.hg_raw.specs.RegionParts.{IsRegion, region_seen}
 use Rattle.hg_raw.specs.ChainParts.{IsChain, chain_seen}
 use Rattle.hg_raw.specs.Frames.{Frame, RegionId, RegionSeen, ChainSeen, numbers, is_in, distinct, apart, bytes_of, without, is_home, home_bytes, bytes_or_none, taken, given_back, fresh_home}
 use Rattle.hg_raw.specs.Links.{Sized, Below, home_of, at_home, flags, marked, zeros}
-use Rattle.hg_raw.proofs.Lists.{by_bool, clash, minus, numbers-without, sized-without, below-minus, distinct-minus, numbers-append, sized-append, below-append, distinct-append}
+use Rattle.hg_raw.proofs.Lists.{by_bool, clash, minus, numbers-without, sized-without, below-minus, distinct-minus, numbers-append, sized-append, below-append, distinct-append, below-at, in-append, bytes-append}
 use Rattle.hg_raw.proofs.Homes.{home-at, home-taken, flags-minus, home-back, flags-back, zeros-numbers, zeros-sized, zeros-below, zeros-distinct, fresh, fresh-flags, length-flags, flag-at, length-marked, apart-out}
 use Rattle.hg_raw.proofs.Chains.{word_numbers, words-sized}
 
@@ -168,3 +168,28 @@ was-out r c v w ev ew far n h =
 
 pub length-home : (r : Inside) (v : RegionSeen) → region_seen r ≡ v → length v.home ≡ v.region.frames
 length-home r v e = subst (λ (v : RegionSeen). length v.home ≡ v.region.frames) e (length-map-range_with_len (home_of r.pages.held) 0 r.frames)
+
+-- ---- what a caller sees of frames that come home
+below-out : (N : ℕ) (ns : List ℕ) (k : ℕ) → Below N ns → N ≤ k → is_in k ns ≡ false
+below-out N ns k b le = by_bool (is_in k ns) (λ t. absurd (absurd_lt k N (below-at N ns k b t) le)) (λ t. t)
+
+home-is : (r : Inside) → IsRegion r → (v : RegionSeen) → region_seen r ≡ v → (k : ℕ) → is_home v k ≡ is_in k (numbers r.pages.held)
+home-is r is v e k =
+    by_bool (ltb k r.frames)
+    (λ t. sym (is-home r is v e k false (ltb-true k r.frames t)) ∙ ap (λ (hs : List Bool). get_or hs k false) is.home ∙ flag-at (numbers r.pages.held) r.frames k false (ltb-true k r.frames t))
+    (λ t. let le : r.frames ≤ k = ltb-false k r.frames t in not-home r v e k le ∙ sym (below-out r.frames (numbers r.pages.held) k is.below le))
+
+pub back-home : (r : Inside) (c : Parts) → IsRegion r → (v : RegionSeen) (w : ChainSeen) → region_seen r ≡ v → chain_seen c ≡ w → (e : Inside) → IsRegion e → e.pages ≡ record { base = r.pages.base; size = r.pages.size; held = r.pages.held ++ c.pages.held }
+    → (k : ℕ) → is_home (region_seen e) k ≡ (is_home v k || is_in k (numbers w.frames))
+back-home r c is v w ev ew e it ep k =
+    home-is e it (region_seen e) refl k ∙ ap (λ (s : Slots). is_in k (numbers s.held)) ep ∙ ap (is_in k) (numbers-append r.pages.held c.pages.held) ∙ in-append k (numbers r.pages.held) (numbers c.pages.held)
+    ∙ (λ i. sym (home-is r is v ev k) i || is_in k (numbers (ew i).frames))
+
+pub back-bytes : (r : Inside) (c : Parts) (w : ChainSeen) → chain_seen c ≡ w → apart (numbers r.pages.held) (numbers c.pages.held) ≡ true → (e : Inside) → IsRegion e → e.pages ≡ record { base = r.pages.base; size = r.pages.size; held = r.pages.held ++ c.pages.held }
+    → (k : ℕ) → is_in k (numbers w.frames) ≡ true → home_bytes (region_seen e) k ≡ bytes_of w.frames k
+back-bytes r c w ew far e it ep k h =
+    let h' : is_in k (numbers c.pages.held) ≡ true = subst (λ (w : ChainSeen). is_in k (numbers w.frames) ≡ true) (sym ew) h in
+    let out : is_in k (numbers r.pages.held) ≡ false = apart-out (numbers r.pages.held) (numbers c.pages.held) k far h' in
+    let in_ : is_in k (numbers e.pages.held) ≡ true = ap (λ (s : Slots). is_in k (numbers s.held)) ep ∙ ap (is_in k) (numbers-append r.pages.held c.pages.held) ∙ in-append k (numbers r.pages.held) (numbers c.pages.held) ∙ (λ i. out i || h' i) in
+    home-bytes e (region_seen e) refl k (below-at e.frames (numbers e.pages.held) k it.below in_) in_ ∙ ap (λ (s : Slots). bytes_of s.held k) ep ∙ bytes-append r.pages.held c.pages.held k ∙ ap (λ t. if t then bytes_of r.pages.held k else bytes_of c.pages.held k) out
+    ∙ ap (λ (w : ChainSeen). bytes_of w.frames k) ew

@@ -1,5 +1,5 @@
 // Frames that are out of their region, in an order of their own.
-ghost use Rattle.std.specs.Prelude.{◌≡◌, ◌<◌, ◌++◌, ◌==◌, if◌then◌else◌, List, [], ◌∷◌, length, true, false, IsTrue};
+ghost use Rattle.std.specs.Prelude.{◌≡◌, ℕ, ◌<◌, ◌++◌, ◌==◌, ◌&&◌, ◌||◌, not, if◌then◌else◌, List, [], ◌∷◌, length, true, false, IsTrue};
 ghost use Rattle.std.specs.Borrow.{sem};
 ghost use Rattle.hg_raw.specs.Frames.{ChainSeen, Has, bytes_of, numbers, is_in, distinct, without, with_bytes};
 ghost use Rattle.hg_raw.specs.Links.{first_of, from, behind, before, nil, word, marked, Sized};
@@ -14,9 +14,12 @@ pub(crate) const NIL: u32 = u32::MAX;
 /// A list of frames of one region, with their bytes, 4,096 each. It is spent by
 /// `Region::give_back` or by a `join`, also where it has no frame.
 pub struct Chain {
+    // One word a frame: the number of the next one, or `NIL`.
     pub(crate) words: Slots,
     pub(crate) pages: Slots,
+    // How many frames its region has.
     pub(crate) frames: u32,
+    // `NIL` where the chain has no frame.
     pub(crate) first: u32,
     pub(crate) last: u32,
 }
@@ -60,6 +63,8 @@ impl Chain {
         requires { other.region ≡ self.old.region }
         ensures frames { self.new ≡ record { region = self.old.region; frames = self.old.frames ++ other.frames } }
         ensures distinct { distinct (numbers self.new.frames) ≡ true }
+        ensures has { (k : ℕ) → is_in k (numbers self.new.frames) ≡ (is_in k (numbers self.old.frames) || is_in k (numbers other.frames)) }
+        ensures bytes { (k : ℕ) → bytes_of self.new.frames k ≡ (if is_in k (numbers self.old.frames) then bytes_of self.old.frames k else bytes_of other.frames k) }
     {
         let Chain {
             words,
@@ -80,6 +85,9 @@ impl Chain {
         requires { Has self.old f.0 }
         ensures one { result ≡ record { region = self.old.region; frames = (f.0, bytes_of self.old.frames f.0) ∷ [] } }
         ensures others { self.new ≡ record { region = self.old.region; frames = without self.old.frames f.0 } }
+        ensures has_one { Has result f.0 × (bytes_of result.frames f.0 ≡ bytes_of self.old.frames f.0) }
+        ensures has_others { (k : ℕ) → is_in k (numbers self.new.frames) ≡ (is_in k (numbers self.old.frames) && not (k == f.0)) }
+        ensures bytes { (k : ℕ) → (k ≡ f.0 → ⊥) → bytes_of self.new.frames k ≡ bytes_of self.old.frames k }
     {
         let before = self.before(f.0);
         let next = self.next(f.0);

@@ -1,6 +1,6 @@
 // The frames that are at home.
-ghost use Rattle.std.specs.Prelude.{◌≡◌, ℕ, IfOk, IsTrue, false, [], ◌∷◌, length};
-ghost use Rattle.hg_raw.specs.Frames.{Frame, Has, is_home, home_bytes, taken, given_back, fresh_home, AllHome};
+ghost use Rattle.std.specs.Prelude.{◌≡◌, ℕ, ◌||◌, IfOk, IsTrue, false, [], ◌∷◌, length};
+ghost use Rattle.hg_raw.specs.Frames.{Frame, Has, numbers, is_in, bytes_of, is_home, home_bytes, taken, given_back, fresh_home, AllHome};
 
 use crate::chain::{Chain, NIL, set_word};
 use crate::shell::{Shell, open};
@@ -65,6 +65,7 @@ impl Region {
         ensures chain { result ≡ record { region = self.old.region; frames = (f.0, home_bytes self.old f.0) ∷ [] } }
         ensures len { length (home_bytes self.old f.0) ≡ 4096 }
         ensures out { self.new ≡ taken self.old f.0 }
+        ensures has { Has result f.0 × (bytes_of result.frames f.0 ≡ home_bytes self.old f.0) }
     {
         self.home[f.0 as usize] = false;
         let mut words = self.words.cut(f.0 as usize);
@@ -85,6 +86,8 @@ impl Region {
         requires { c.region ≡ self.old.region }
         ensures home { self.new ≡ given_back self.old c.frames }
         ensures were_out { (n : ℕ) → Has c n → is_home self.old n ≡ false }
+        ensures are_home { (n : ℕ) → is_home self.new n ≡ (is_home self.old n || is_in n (numbers c.frames)) }
+        ensures bytes { (n : ℕ) → Has c n → home_bytes self.new n ≡ bytes_of c.frames n }
     {
         c.mark(&mut self.home);
         let Chain {

@@ -2,7 +2,7 @@ use Rattle.std.proofs.Common.{ℕ, ◌++◌, ◌∙◌, refl, sym, ap, subst}
 use Rattle.hg_raw.specs.declared.slots.Slots.{Slots}
 use Rattle.hg_raw.specs.Frames.{ChainSeen}
 use Rattle.hg_raw.specs.Links.{Sized}
-use Rattle.hg_raw.proofs.Chains.{last-there, words-no-nil, words-sized, linked-now, joined}
+use Rattle.hg_raw.proofs.Chains.{last-there, words-no-nil, words-sized, linked-now, joined, seen-joined, has-joined, bytes-joined}
 use Rattle.hg_raw.proofs.chain.Chain.join.Goals as goal
 
 pub link-requires-clause-there : goal.link-requires-clause-there
@@ -28,3 +28,11 @@ invariant_of-self c =
 
 pub returns-clause-distinct : goal.returns-clause-distinct
 returns-clause-distinct c = (invariant_of-self c).distinct
+
+pub returns-clause-has : goal.returns-clause-has
+returns-clause-has c =
+    has-joined c.args.self.now.frames c.args.other.frames c.append-2.new.self.held (seen-joined c.self.inside c.other.inside c.args.self.now c.args.other c.self.view_is c.other.view_is c.append-2.new.self c.append-2.ensures.all)
+
+pub returns-clause-bytes : goal.returns-clause-bytes
+returns-clause-bytes c =
+    bytes-joined c.args.self.now.frames c.args.other.frames c.append-2.new.self.held (seen-joined c.self.inside c.other.inside c.args.self.now c.args.other c.self.view_is c.other.view_is c.append-2.new.self c.append-2.ensures.all)

@@ -3,7 +3,7 @@ use Rattle.hg_raw.specs.declared.slots.Slots.{Slots}
 use Rattle.hg_raw.specs.Frames.{ChainSeen, numbers, bytes_of, without, with_bytes}
 use Rattle.hg_raw.specs.Links.{before, behind, first_of, nil, word}
 use Rattle.hg_raw.proofs.Lists.{sized-at}
-use Rattle.hg_raw.proofs.Chains.{before-there, words-no-nil, still-in, cut-there, linked-now, splits, single, in-seen, is-below, page-there}
+use Rattle.hg_raw.proofs.Chains.{before-there, words-no-nil, still-in, cut-there, linked-now, splits, single, in-seen, is-below, page-there, one-has, has-left, seen-left, bytes-left}
 use Rattle.hg_raw.proofs.chain.Chain.split.Goals as goal
 
 pub link-requires-clause-there : goal.link-requires-clause-there
@@ -43,3 +43,16 @@ invariant_of-result c =
     (is-below c.self.inside c.self.invariant c.args.f.0 h) c.self.invariant.few (page-there c.self.inside c.self.invariant c.args.f.0 h)
     (c.set_word.ensures ∙ ap (λ (s : Slots). record { base = c.cut-words.result.base; size = 4; held = with_bytes s.held c.args.f.0 (word nil) }) c.cut-words.ensures.part)
     (c.cut-pages.ensures.part ∙ ap (λ (n : ℕ). record { base = c.self.inside.pages.base; size = n; held = (c.args.f.0, bytes_of c.self.inside.pages.held c.args.f.0) ∷ [] }) c.self.invariant.page_size)
+
+pub returns-clause-has_one : goal.returns-clause-has_one
+returns-clause-has_one c =
+    let one = one-has c.cut-pages.result c.self.inside.pages.base c.self.inside.pages.size c.args.f.0 (bytes_of c.self.inside.pages.held c.args.f.0) c.cut-pages.ensures.part in
+    (one.0, one.1 ∙ ap (λ (v : ChainSeen). bytes_of v.frames c.args.f.0) c.self.view_is)
+
+pub returns-clause-has_others : goal.returns-clause-has_others
+returns-clause-has_others c =
+    has-left c.self.inside c.self.invariant c.args.self.now c.self.view_is c.args.f.0 c.cut-pages.new.self.held (seen-left c.self.inside c.args.self.now c.self.view_is c.args.f.0 c.cut-pages.new.self c.cut-pages.ensures.others)
+
+pub returns-clause-bytes : goal.returns-clause-bytes
+returns-clause-bytes c =
+    bytes-left c.args.self.now.frames c.cut-pages.new.self.held c.args.f.0 (seen-left c.self.inside c.args.self.now c.self.view_is c.args.f.0 c.cut-pages.new.self c.cut-pages.ensures.others)

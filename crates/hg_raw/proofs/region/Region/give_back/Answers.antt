@@ -3,7 +3,7 @@ use Rattle.hg_raw.specs.declared.slots.Slots.{Slots}
 use Rattle.hg_raw.specs.Frames.{RegionId, RegionSeen, ChainSeen, numbers}
 use Rattle.hg_raw.specs.Links.{Sized, marked}
 use Rattle.hg_raw.proofs.Chains.{words-sized}
-use Rattle.hg_raw.proofs.Regions.{count-home, back-is, seen-back, refitted, was-out}
+use Rattle.hg_raw.proofs.Regions.{count-home, back-is, seen-back, refitted, was-out, back-home, back-bytes}
 use Rattle.hg_raw.proofs.region.Region.give_back.Goals as goal
 
 pub mark-requires : goal.mark-requires
@@ -29,3 +29,9 @@ returns-clause-home c =
 
 pub returns-clause-were_out : goal.returns-clause-were_out
 returns-clause-were_out c = was-out c.self.inside c.c.inside c.args.self.now c.args.c c.self.view_is c.c.view_is c.append-2.ensures.apart
+
+pub returns-clause-are_home : goal.returns-clause-are_home
+returns-clause-are_home c = back-home c.self.inside c.c.inside c.self.invariant c.args.self.now c.args.c c.self.view_is c.c.view_is _ (invariant_of-self c) c.append-2.ensures.all
+
+pub returns-clause-bytes : goal.returns-clause-bytes
+returns-clause-bytes c = back-bytes c.self.inside c.c.inside c.args.c c.c.view_is c.append-2.ensures.apart _ (invariant_of-self c) c.append-2.ensures.all

@@ -1,9 +1,9 @@
-use Rattle.std.proofs.Common.{ℕ, List, [], ◌∷◌, ◌∙◌, refl, ap}
+use Rattle.std.proofs.Common.{ℕ, List, [], ◌∷◌, ◌∙◌, refl, sym, ap}
 use Rattle.hg_raw.specs.declared.slots.Slots.{Slots}
 use Rattle.hg_raw.specs.Frames.{bytes_of, is_in, with_bytes}
 use Rattle.hg_raw.specs.Links.{nil, word}
 use Rattle.hg_raw.proofs.Lists.{sized-at}
-use Rattle.hg_raw.proofs.Chains.{cut-there, single}
+use Rattle.hg_raw.proofs.Chains.{cut-there, single, one-has}
 use Rattle.hg_raw.proofs.Regions.{home-in, home-bytes, chain-taken, taken-is, seen-taken}
 use Rattle.hg_raw.proofs.region.Region.take.Goals as goal
 
@@ -45,3 +45,9 @@ returns-clause-out c =
     seen-taken c.self.inside c.self.invariant c.args.self.now c.self.view_is c.args.f.0 (home-in c.self.inside c.args.self.now c.self.view_is c.args.f.0 c.requires).0
     (record { words = c.cut-words.new.self; pages = c.cut-pages.new.self; frames = c.self.inside.frames; home = c.self.inside.home; shell = c.self.inside.shell })
     (ap (λ (s : Slots). s.base) c.cut-words.ensures.others) c.cut-pages.ensures.others refl
+
+pub returns-clause-has : goal.returns-clause-has
+returns-clause-has c =
+    let h = home-in c.self.inside c.args.self.now c.self.view_is c.args.f.0 c.requires in
+    let one = one-has c.cut-pages.result c.self.inside.pages.base c.self.inside.pages.size c.args.f.0 (bytes_of c.self.inside.pages.held c.args.f.0) c.cut-pages.ensures.part in
+    (one.0, one.1 ∙ sym (home-bytes c.self.inside c.args.self.now c.self.view_is c.args.f.0 h.0 h.1))
