@@ -1,0 +1,11 @@
+pub mod Blocks
+pub mod CallerLemmas
+pub mod Chains
+pub mod Facts
+pub mod Homes
+pub mod Lent
+pub mod Lists
+pub mod Opens
+pub mod Parts
+pub mod Regions
+pub mod Vectors

@@ -1,0 +1,69 @@
+-- How chains and regions lie in memory, and what their flags say. Our own rules.
+use Rattle.std.specs.Prelude.{◌≡◌, ℕ, zero, suc, ◌<◌, Bool, ◌==◌, true, if◌then◌else◌, List, [], ◌∷◌, length, slice_set, replicate, map, Option, None, Some}
+use Rattle.std.specs.Int.{to_le_bytes}
+use Rattle.std.specs.List.{range_with_len}
+use mir.Syntax.{w32}
+use Rattle.hg_raw.specs.Frames.{Frame, numbers, is_in, bytes_of}
+
+-- The word of each frame of a chain holds the number of the next one, or `nil` where there is none.
+abbrev pub nil : ℕ
+nil = 4294967295
+
+abbrev pub first_of : List ℕ → ℕ
+first_of [] = nil
+first_of (n ∷ ns) = n
+
+abbrev pub last_of : List ℕ → ℕ
+last_of [] = nil
+last_of (n ∷ []) = n
+last_of (n ∷ m ∷ ns) = last_of (m ∷ ns)
+
+abbrev pub word : ℕ → List ℕ
+word n = to_le_bytes w32 n
+
+abbrev pub linked : List ℕ → List Frame
+linked [] = []
+linked (n ∷ ns) = (n, word (first_of ns)) ∷ linked ns
+
+-- from n on
+abbrev pub from : ℕ → List ℕ → List ℕ
+from n [] = []
+from n (m ∷ ms) = if m == n then m ∷ ms else from n ms
+
+-- behind n
+abbrev pub behind : ℕ → List ℕ → List ℕ
+behind n [] = []
+behind n (m ∷ ms) = if m == n then ms else behind n ms
+
+-- the one before n, or p where n is the first
+abbrev pub before : ℕ → List ℕ → ℕ → ℕ
+before p [] n = nil
+before p (m ∷ ms) n = if m == n then p else before m ms n
+
+-- each part has s bytes
+abbrev pub Sized : ℕ → List Frame → Type 0
+Sized s [] = Unit {0}
+Sized s (f ∷ fs) = (length f.1 ≡ s) × Sized s fs
+
+abbrev pub Below : ℕ → List ℕ → Type 0
+Below n [] = Unit {0}
+Below n (m ∷ ms) = (m < n) × Below n ms
+
+-- parts 0 to n - 1, of s zero bytes each
+abbrev pub zeros : ℕ → ℕ → List Frame
+zeros s zero = []
+zeros s (suc n) = (n, replicate s 0) ∷ zeros s n
+
+-- what is at home, by number
+abbrev pub home_of : List Frame → ℕ → Option (List ℕ)
+home_of fs n = if is_in n (numbers fs) then Some (bytes_of fs n) else None
+
+abbrev pub at_home : List Frame → ℕ → List (Option (List ℕ))
+at_home fs n = map (home_of fs) (range_with_len 0 n)
+
+abbrev pub flags : List ℕ → ℕ → List Bool
+flags ns n = map (λ k. is_in k ns) (range_with_len 0 n)
+
+abbrev pub marked : List Bool → List ℕ → List Bool
+marked flags [] = flags
+marked flags (n ∷ ns) = marked (slice_set flags n true) ns
