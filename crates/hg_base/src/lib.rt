@@ -6,9 +6,12 @@
 
 mod addr;
 mod bytes;
+mod pages;
+pub mod trial;
 
 pub use addr::Addr;
 pub use bytes::{get_u16, get_u32, get_u64, put_u16, put_u32, put_u64};
+pub use pages::{PageFault, Pages};
 
 use std::marker::Model;
 
