@@ -1,6 +1,8 @@
 -- What a space of pages is: a finite map from the pages that are taken to their bytes, the pins
 -- that are out, a successor for each page, and counts. Our own rule.
 use Rattle.std.specs.Prelude.{◌≡◌, ℕ, ◌+◌, ◌-◌, ◌*◌, ◌<◌, ◌≤◌, ◌==◌, zero, suc, Bool, true, false, List, Option, None, Some, if◌then◌else◌, replicate, length}
+use Rattle.std.proofs.Common.{refl, ap, ◌∙◌}
+use Rattle.std.proofs.lemmas.List.{length-replicate}
 use Rattle.hg_base.specs.Content.{Heaps}
 use Rattle.hg_base.specs.declared.File.{File}
 use Rattle.hg_base.specs.declared.File.TheVariants.{Main, Temp}
@@ -48,8 +50,16 @@ abbrev pub unpinned_bytes : Bool → Option (List ℕ) → Option (List ℕ)
 unpinned_bytes true b = b
 unpinned_bytes false b = None
 
-abbrev pub zero_page : List ℕ
+-- A page of zeros. Its 4,096 bytes are not written out in proofs; the two laws say what it is.
+unfoldable pub zero_page : List ℕ
 zero_page = replicate 4096 0
+
+pub zero_page-is : zero_page ≡ replicate 4096 0
+unfolding zero_page
+zero_page-is = refl
+
+pub length-zero_page : length zero_page ≡ 4096
+length-zero_page = ap length zero_page-is ∙ length-replicate {A = ℕ} 4096 0
 
 -- The changes of a space, each as the whole space after it.
 

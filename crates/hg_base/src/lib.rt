@@ -7,6 +7,7 @@
 mod addr;
 mod bytes;
 mod pages;
+mod plain;
 pub mod trial;
 
 pub use addr::Addr;

@@ -1,5 +1,5 @@
 //! Trial of the seam.
-ghost use Rattle.std.specs.Prelude.{◌≡◌, ◌≢◌, ℕ, ◌+◌, ◌<◌, ◌≤◌, ◌↔◌, ◌⊎◌, true, false, List, length, IsTrue, Some, None, IfOk, IfErr, OnOk, OnErr, IsErrOf, slice_index};
+ghost use Rattle.std.specs.Prelude.{◌≡◌, ◌≢◌, ℕ, ◌+◌, ◌<◌, ◌≤◌, ◌↔◌, ◌⊎◌, true, false, List, length, IsTrue, Some, None, IfOk, IfErr, OnOk, OnErr, IsErrOf, slice_index, MatchResult};
 ghost use Rattle.hg_base.specs.Space.{Space, key, NoPins, IsSame};
 ghost use Rattle.hg_base.specs.Causes.{HasCause};
 ghost use Rattle.hg_base.specs.Steadiness.{Steady, these_pages};
@@ -37,4 +37,53 @@ pub fn extend<S: Pages>(space: &mut S, last: PageId, kind: u8) -> Result<PageId,
     space.unpin(pin);
     space.set_next(last, Some(page.no));
     Ok(page)
+}
+
+pub fn walk<S: Pages>(space: &mut S, first: PageId, budget: u32) -> Result<u64, PageFault>
+    requires out { NoPins (S.state space.old) }
+    ensures kept { Steady (these_pages (λ _. ⊥)) (S.state space.old) (S.state space.new) }
+    ensures cause { HasCause (S.state space.old) (S.state space.new) result }
+{
+    let mut total: u64 = 0;
+    let mut at = first;
+    for _turn in 0..budget {
+        if !space.can_pin(at) {
+            return Ok(total);
+        }
+        let pin = space.pin(at)?;
+        let first = space.bytes(&pin)[0];
+        space.unpin(pin);
+        total = total.saturating_add(first as u64);
+        match space.next(at) {
+            None => return Ok(total),
+            Some(no) => at = PageId { file: at.file, no },
+        }
+    }
+    Ok(total)
+}
+
+pub fn two<S: Pages>(space: &mut S, file: File) -> Result<(PageId, PageId), PageFault>
+    requires out { NoPins (S.state space.old) }
+    ensures kept { MatchResult result (λ p. Steady (these_pages (λ q. (q ≡ key p.0) ⊎ (q ≡ key p.1))) (S.state space.old) (S.state space.new)) (λ _. Steady (these_pages (λ _. ⊥)) (S.state space.old) (S.state space.new)) }
+    ensures cause { HasCause (S.state space.old) (S.state space.new) result }
+{
+    let left = space.fresh(file)?;
+    let left_page = space.page_of(&left);
+    match space.fresh(file) {
+        Err(fault) => {
+            space.unpin(left);
+            space.release(left_page);
+            Err(fault)
+        }
+        Ok(right) => {
+            let right_page = space.page_of(&right);
+            let bytes = space.bytes_mut(&right);
+            bytes[0] = 1;
+            let bytes = space.bytes_mut(&left);
+            bytes[1] = 2;
+            space.unpin(left);
+            space.unpin(right);
+            Ok((left_page, right_page))
+        }
+    }
 }
