@@ -1,15 +1,16 @@
 -- What each call of a plain space does to the space that its slots show.
-use Rattle.std.specs.Prelude.{◌≡◌, ℕ, zero, suc, ◌+◌, ◌-◌, ◌*◌, ◌<◌, ◌≤◌, ◌==◌, ◌&&◌, nat_lt, Bool, true, false, List, [], ◌∷◌, ◌++◌, length, Option, None, Some, if◌then◌else◌, slice_set, slice_index_or}
-use Rattle.std.proofs.Common.{sym, ◌∙◌, ap, subst, refl, arith, add-suc, add-zero, zero-add}
+use Rattle.std.specs.Prelude.{◌≡◌, ℕ, ◌+◌, ◌-◌, ◌<◌, ◌≤◌, ◌==◌, ◌&&◌, nat_lt, Bool, true, false, List, [], ◌∷◌, ◌++◌, length, Option, None, Some, if◌then◌else◌, slice_set, slice_index_or}
+use Rattle.std.proofs.Common.{sym, ◌∙◌, ap, subst, refl, arith}
 use Rattle.std.proofs.Math.ListN.{get_or-eq_default}
 use Rattle.std.proofs.Math.Nat.{le_trans}
 use Rattle.std.proofs.lemmas.Bool.Decides.{nat_tests}
 use Rattle.std.proofs.lemmas.Grind.{common_steps}
 use Rattle.std.proofs.lemmas.Bool.{eq-eqb, eqb-true}
-use Rattle.hg_base.specs.Space.{Space, Counts, at, zero_page, length-zero_page, key_in, taken_below, with_pin, without_pin, with_new, without_page, with_next, with_counts, IsPinned, IsMade, IsUnused}
+use Rattle.hg_base.specs.Space.{Space, Counts, at, zero_page, length-zero_page, key_in, taken_below, with_pin, without_pin, with_new, without_page, with_next, IsPinned, IsUnused, NoPins}
 use Rattle.hg_base.specs.Changes.{at-same, items-push}
-use Rattle.hg_base.specs.PlainLaws.{shown_as, and-false, and-true, slots-set, slot-in}
-use Rattle.hg_base.specs.Plain.{shown, slot_at, empty_slot, is_key, is_taken, held_by, is_pinned, successor_of, page_limit}
+use Rattle.hg_base.specs.TakenLaws.{taken_below-rest}
+use Rattle.hg_base.specs.PlainLaws.{shown_as, and-false, slots-set, slot-in}
+use Rattle.hg_base.specs.Plain.{shown, slot_at, empty_slot, is_key, is_taken, held_by, is_pinned, successor_of, page_limit, plain_start}
 use Rattle.hg_base.specs.declared.File.{File}
 use Rattle.hg_base.specs.declared.File.TheVariants.{Main, Temp}
 use Rattle.hg_base.specs.declared.plain.Slot.{Slot}
@@ -92,7 +93,6 @@ shown-next f p to pins n h = shown_as f p (record (f p) { next = to }) pins n
     (at-same (λ q. is_pinned q (f q)) p (is_pinned p (f p)) refl)
     (ap (λ t. at (λ q. successor_of q (f q)) p (if t then to else None)) h)
 
-
 -- The same for one slot of a list, as the code has it: x is the slot that stands at the place i,
 -- which is the key p.
 
@@ -115,9 +115,9 @@ list-pin slots i p x pins n e v t =
       was = ap (λ t. if t then Some (slot_at slots i).page else None) h;
       counts = n;
       after =
-        ap (λ y. with_slot slots i (record y { pinned = true }) (pins + 1) n) (slot-here slots i x v h)
-        ∙ ap (λ g. shown g (pins + 1) n) (slots-set slots i (record (slot_at slots i) { pinned = true }) (slot-in slots i h))
-        ∙ shown-pin (slot_at slots) i pins n h
+          ap (λ y. with_slot slots i (record y { pinned = true }) (pins + 1) n) (slot-here slots i x v h)
+          ∙ ap (λ g. shown g (pins + 1) n) (slots-set slots i (record (slot_at slots i) { pinned = true }) (slot-in slots i h))
+          ∙ shown-pin (slot_at slots) i pins n h;
     }) t
 
 pub list-unpin : (slots : List Slot) (i p : ℕ) (x : Slot) (pins : ℕ) (n : Counts) → i ≡ p → x ≡ slice_index_or slots i x → is_taken p (slot_at slots p) ≡ true
@@ -125,27 +125,27 @@ pub list-unpin : (slots : List Slot) (i p : ℕ) (x : Slot) (pins : ℕ) (n : Co
 list-unpin slots i p x pins n e v t =
     let P : ℕ → Type 0 = λ q. is_taken q (slot_at slots q) ≡ true → with_slot slots i (record x { pinned = false }) (pins - 1) n ≡ without_pin (shown (slot_at slots) pins n) q in
     subst P e (λ h.
-      ap (λ y. with_slot slots i (record y { pinned = false }) (pins - 1) n) (slot-here slots i x v h)
-      ∙ ap (λ g. shown g (pins - 1) n) (slots-set slots i (record (slot_at slots i) { pinned = false }) (slot-in slots i h))
-      ∙ shown-unpin (slot_at slots) i pins n) t
+    ap (λ y. with_slot slots i (record y { pinned = false }) (pins - 1) n) (slot-here slots i x v h)
+    ∙ ap (λ g. shown g (pins - 1) n) (slots-set slots i (record (slot_at slots i) { pinned = false }) (slot-in slots i h))
+    ∙ shown-unpin (slot_at slots) i pins n) t
 
 pub list-next : (slots : List Slot) (i p : ℕ) (x : Slot) (to : Option ℕ) (pins : ℕ) (n : Counts) → i ≡ p → x ≡ slice_index_or slots i x → is_taken p (slot_at slots p) ≡ true
     → with_slot slots i (record x { next = to }) pins n ≡ with_next (shown (slot_at slots) pins n) p to
 list-next slots i p x to pins n e v t =
     let P : ℕ → Type 0 = λ q. is_taken q (slot_at slots q) ≡ true → with_slot slots i (record x { next = to }) pins n ≡ with_next (shown (slot_at slots) pins n) q to in
     subst P e (λ h.
-      ap (λ y. with_slot slots i (record y { next = to }) pins n) (slot-here slots i x v h)
-      ∙ ap (λ g. shown g pins n) (slots-set slots i (record (slot_at slots i) { next = to }) (slot-in slots i h))
-      ∙ shown-next (slot_at slots) i to pins n h) t
+    ap (λ y. with_slot slots i (record y { next = to }) pins n) (slot-here slots i x v h)
+    ∙ ap (λ g. shown g pins n) (slots-set slots i (record (slot_at slots i) { next = to }) (slot-in slots i h))
+    ∙ shown-next (slot_at slots) i to pins n h) t
 
 pub list-release : (slots : List Slot) (i p : ℕ) (x : Slot) (pins : ℕ) (n : Counts) → i ≡ p → x ≡ empty_slot → is_taken p (slot_at slots p) ≡ true → is_pinned p (slot_at slots p) ≡ false
     → with_slot slots i x pins n ≡ without_page (shown (slot_at slots) pins n) p
 list-release slots i p x pins n e v t o =
     let P : ℕ → Type 0 = λ q. is_taken q (slot_at slots q) ≡ true → is_pinned q (slot_at slots q) ≡ false → with_slot slots i x pins n ≡ without_page (shown (slot_at slots) pins n) q in
     subst P e (λ h out.
-      ap (λ y. with_slot slots i y pins n) v
-      ∙ ap (λ g. shown g pins n) (slots-set slots i empty_slot (slot-in slots i h))
-      ∙ shown-release (slot_at slots) i pins n out) t o
+    ap (λ y. with_slot slots i y pins n) v
+    ∙ ap (λ g. shown g pins n) (slots-set slots i empty_slot (slot-in slots i h))
+    ∙ shown-release (slot_at slots) i pins n out) t o
 
 pub list-new : (slots : List Slot) (i pins : ℕ) (n : Counts) (page : List ℕ) → page ≡ zero_page → i < length slots → is_key i ≡ true
     → with_slot slots i (record { page = page; pinned = true; next = None }) (pins + 1) n ≡ with_new (shown (slot_at slots) pins n) i
@@ -170,7 +170,7 @@ unused-slot f p pins n h = record {
   no_bytes = ap (λ t. if t then Some (f p).page else None) h;
   not_pinned = ap (λ t. t && (f p).pinned) h;
   no_next = ap (λ t. if t then (f p).next else None) h;
-  no_heap = refl
+  no_heap = refl;
 }
 
 -- the key of a page is one exactly below the limit of its file
@@ -186,21 +186,6 @@ held-of p x b t e = ap (λ t. if t then Some x.page else None) t ∙ ap Some (sy
 pub size-of : (p : ℕ) (x : Slot) → is_taken p x ≡ true → length x.page ≡ 4096
 size-of p x t = eqb-true (length x.page) 4096 (and-right (is_key p) (length x.page == 4096) t)
 
--- no more pages are taken below a number than that number
-pub taken_below-le : (taken : ℕ → Bool) (file : File) (n : ℕ) → taken_below taken file n ≤ n
-taken_below-le taken file zero = omega arith
-taken_below-le taken file (suc n) =
-    elim (taken (key_in file n)) as (λ b. (if b then 1 else 0) + taken_below taken file n ≤ suc n) [
-      true ↦ omega (arith, taken_below-le taken file n)
-    | false ↦ omega (arith, taken_below-le taken file n)
-    ]
-
--- where no page from n on is taken, as many are taken below n as below any number above
-pub taken_below-rest : (taken : ℕ → Bool) (file : File) (n k : ℕ) → ((m : ℕ) → n ≤ m → taken (key_in file m) ≡ false)
-    → taken_below taken file (n + k) ≡ taken_below taken file n
-taken_below-rest taken file n zero none = ap (taken_below taken file) (add-zero n)
-taken_below-rest taken file n (suc k) none = rw (add-suc, none (n + k) (omega arith), zero-add) (taken_below-rest taken file n k none)
-
 -- no slot, no page: from a place behind the slots on
 pub not_taken-behind : (slots : List Slot) (p : ℕ) → length slots ≤ p → is_taken p (slot_at slots p) ≡ false
 not_taken-behind slots p h = rw (get_or-eq_default slots empty_slot h) (and-false (is_key p))
@@ -214,7 +199,7 @@ pub count-rest : (slots : List Slot) (file : File) (n count limit pins : ℕ) (c
     → n < limit → length slots ≤ key_in file n → count ≡ taken_below (shown (slot_at slots) pins c).taken file limit
 count-rest slots file n count limit pins c e h behind =
     let none : (m : ℕ) → n ≤ m → is_taken (key_in file m) (slot_at slots (key_in file m)) ≡ false =
-      λ m l. not_taken-behind slots (key_in file m) (le_trans behind (key_in-le file n m l)) in
+    λ m l. not_taken-behind slots (key_in file m) (le_trans behind (key_in-le file n m l)) in
     let sum : n + (limit - n) ≡ limit = omega arith in
     e ∙ sym (taken_below-rest (λ q. is_taken q (slot_at slots q)) file n (limit - n) none)
     ∙ ap (λ k. taken_below (λ q. is_taken q (slot_at slots q)) file k) sum
@@ -224,3 +209,23 @@ pub list-pushed : (slots : List Slot) (x : Slot) (now : List Slot) (pins : ℕ) 
     → shown (slot_at now) pins n ≡ shown (slot_at slots) pins n
 list-pushed slots x now pins n e h =
     ap (λ l. shown (slot_at l) pins n) h ∙ ap (λ y. shown (slot_at (slots ++ y ∷ [])) pins n) e ∙ list-push slots pins n
+
+empty_not_taken : (q : ℕ) → is_taken q empty_slot ≡ false
+empty_not_taken q = and-false (is_key q)
+
+-- with no slots no page is taken
+pub shown-start : shown (λ _. empty_slot) 0 (record { main = 0; temp = 0; main_full = 0; temp_full = 0 }) ≡ plain_start
+shown-start = λ i. record plain_start {
+  taken = λ q. empty_not_taken q i;
+  bytes = λ q. if empty_not_taken q i then Some [] else None;
+  pinned = λ q. (ap (λ t. t && false) (empty_not_taken q)) i;
+  next = λ q. if empty_not_taken q i then None else None;
+}
+
+-- a list of no slots
+pub list-start : (slots : List Slot) → slots ≡ [] → shown (slot_at slots) 0 (record { main = 0; temp = 0; main_full = 0; temp_full = 0 }) ≡ plain_start
+list-start slots e = ap (λ l. shown (slot_at l) 0 (record { main = 0; temp = 0; main_full = 0; temp_full = 0 })) e ∙ shown-start
+
+pub start-no_pins : (s : Space) → s ≡ plain_start → NoPins s
+start-no_pins s e =
+    let P : Space → Type 0 = λ t. NoPins t in subst P (sym e) (record { none_out = refl; not_pinned = λ q. refl })

@@ -2,8 +2,8 @@
 -- each from a place on with a length; these laws say what a write does to each of them.
 -- `take n (drop m b)` are the n bytes from m on, and `put_mid at k b x` is b with x in the place of
 -- the k bytes from `at` on.
-use Rattle.std.specs.Prelude.{◌≡◌, ℕ, ◌+◌, ◌<◌, ◌≤◌, zero, suc, List, [], ◌∷◌, ◌++◌, length, take, drop, slice_set, slice_index}
-use Rattle.std.proofs.Common.{sym, ◌∙◌, ap, refl, arith, length-take, length-append, length-drop}
+use Rattle.std.specs.Prelude.{◌≡◌, ℕ, ◌+◌, ◌<◌, ◌≤◌, zero, suc, List, [], ◌∷◌, ◌++◌, length, take, drop, slice_set}
+use Rattle.std.proofs.Common.{sym, ◌∙◌, ap, refl, arith, length-take, length-drop}
 use Rattle.std.proofs.lemmas.Slice.{take-put_mid_below, take-put_mid, drop-put_mid}
 use Rattle.std.proofs.lemmas.List.{drop-take, drop-drop}
 use Rattle.std.proofs.Math.Seq.{take-add, drop-append_seam}

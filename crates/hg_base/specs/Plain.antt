@@ -1,6 +1,6 @@
 -- What a plain space shows: a page is taken where its slot holds a whole page of bytes, so that no
 -- mark beside the bytes can disagree with them.
-use Rattle.std.specs.Prelude.{◌≡◌, ℕ, ◌+◌, ◌*◌, ◌%◌, ◌<◌, ◌==◌, ◌&&◌, ◌||◌, nat_lt, Bool, true, false, List, [], length, Option, None, Some, if◌then◌else◌, slice_index_or}
+use Rattle.std.specs.Prelude.{ℕ, ◌%◌, ◌==◌, ◌&&◌, ◌||◌, nat_lt, Bool, true, false, List, [], length, Option, None, Some, if◌then◌else◌, slice_index_or}
 use Rattle.hg_base.specs.Content.{Heaps}
 use Rattle.hg_base.specs.Space.{Space, Counts}
 use Rattle.hg_base.specs.declared.File.{File}
@@ -50,5 +50,20 @@ shown f pins n = record {
   next = λ q. successor_of q (f q);
   of_heap = λ _. false;
   heaps = no_heaps;
-  counts = n
+  counts = n;
+}
+
+-- a space in which no page is taken
+abbrev pub plain_start : Space
+plain_start = record {
+  told = true;
+  limit = page_limit;
+  taken = λ _. false;
+  bytes = λ _. None;
+  pinned = λ _. false;
+  pins = 0;
+  next = λ _. None;
+  of_heap = λ _. false;
+  heaps = no_heaps;
+  counts = record { main = 0; temp = 0; main_full = 0; temp_full = 0 };
 }

@@ -1,17 +1,14 @@
 -- What a change of one slot is of the space that the slots show.
-use Rattle.std.specs.Prelude.{◌≡◌, ℕ, ◌+◌, ◌-◌, ◌*◌, ◌<◌, ◌≤◌, ◌==◌, ◌&&◌, nat_lt, Bool, true, false, List, [], ◌++◌, length, take, drop, Option, None, Some, if◌then◌else◌, slice_set}
+use Rattle.std.specs.Prelude.{◌≡◌, ℕ, ◌<◌, ◌==◌, ◌&&◌, Bool, true, false, List, length, Option, None, Some, if◌then◌else◌, slice_set}
 use Rattle.std.proofs.Common.{sym, ◌∙◌, ap, refl, arith}
 use Rattle.std.proofs.lemmas.Bool.Decides.{nat_tests}
 use Rattle.std.proofs.lemmas.Grind.{common_steps}
-use Rattle.std.proofs.lemmas.Bool.{eq-eqb}
 use Rattle.std.specs.Vec.{with_item}
-use Rattle.hg_base.specs.Space.{Space, Counts, at, zero_page, key_in, with_pin, without_pin, with_new, without_page, with_bytes, with_next, with_counts, IsPinned, IsMade, IsUnused}
+use Rattle.hg_base.specs.Space.{Space, Counts, at, with_bytes}
 use Rattle.hg_base.specs.Changes.{at-same, after-at, items-set}
 use Rattle.hg_base.specs.Lending.{refit}
-use Rattle.hg_base.specs.Plain.{shown, slot_at, empty_slot, is_key, is_taken, held_by, is_pinned, successor_of, page_limit}
+use Rattle.hg_base.specs.Plain.{shown, slot_at, empty_slot, is_key, is_taken, held_by, is_pinned, successor_of}
 use Rattle.hg_base.specs.PlainSpaces.{state_of, counts_of}
-use Rattle.hg_base.specs.declared.File.{File}
-use Rattle.hg_base.specs.declared.File.TheVariants.{Main, Temp}
 use Rattle.hg_base.specs.declared.plain.Slot.{Slot}
 use Rattle.hg_base.specs.declared.plain.PlainSpace.{PlainSpace}
 
@@ -21,7 +18,7 @@ put s p x = record s {
   taken = at s.taken p (is_taken p x);
   bytes = at s.bytes p (held_by p x);
   pinned = at s.pinned p (is_pinned p x);
-  next = at s.next p (successor_of p x)
+  next = at s.next p (successor_of p x);
 }
 
 -- two spaces that are shown by slots and agree in each part are one
@@ -30,7 +27,7 @@ shown-at f p x pins n = λ i. record (shown f pins n) {
   taken = after-at is_taken f p x i;
   bytes = after-at held_by f p x i;
   pinned = after-at is_pinned f p x i;
-  next = after-at successor_of f p x i
+  next = after-at successor_of f p x i;
 }
 
 -- the space after a change of one slot, each part of it said in another way
@@ -45,7 +42,7 @@ shown_as f p x pins n taken bytes pinned next t b d s = shown-at f p x pins n �
   taken = t i;
   bytes = b i;
   pinned = d i;
-  next = s i
+  next = s i;
 })
 
 pub and-false : (t : Bool) → (t && false) ≡ false

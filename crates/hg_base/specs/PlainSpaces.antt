@@ -1,5 +1,4 @@
 -- The state of a plain space.
-use Rattle.std.specs.Prelude.{◌≡◌, ℕ, List}
 use Rattle.hg_base.specs.Space.{Space, Counts}
 use Rattle.hg_base.specs.Plain.{shown, slot_at}
 use Rattle.hg_base.specs.declared.plain.PlainSpace.{PlainSpace}

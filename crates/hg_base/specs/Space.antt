@@ -1,6 +1,6 @@
 -- What a space of pages is: a finite map from the pages that are taken to their bytes, the pins
 -- that are out, a successor for each page, and counts. Our own rule.
-use Rattle.std.specs.Prelude.{◌≡◌, ℕ, ◌+◌, ◌-◌, ◌*◌, ◌<◌, ◌≤◌, ◌==◌, zero, suc, Bool, true, false, List, Option, None, Some, if◌then◌else◌, replicate, length}
+use Rattle.std.specs.Prelude.{◌≡◌, ℕ, ◌+◌, ◌-◌, ◌*◌, ◌<◌, ◌==◌, zero, suc, Bool, true, false, List, Option, None, Some, if◌then◌else◌, replicate, length}
 use Rattle.std.proofs.Common.{refl, ap, ◌∙◌}
 use Rattle.std.proofs.lemmas.List.{length-replicate}
 use Rattle.hg_base.specs.Content.{Heaps}

@@ -8,12 +8,13 @@ mod addr;
 mod bytes;
 mod pages;
 mod plain;
-pub mod trial;
+#[cfg(test)]
+mod tests;
 
 pub use addr::Addr;
 pub use bytes::{get_u16, get_u32, get_u64, put_u16, put_u32, put_u64};
 pub use pages::{PageFault, Pages};
-
+pub use plain::{PlainPin, PlainSpace};
 use std::marker::Model;
 
 /// The number of a frame of the pool, counted from 0. A frame has 4,096 bytes.

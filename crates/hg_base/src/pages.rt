@@ -1,6 +1,5 @@
 //! The seam between the buffer pool and everything that is kept on pages.
 
-
 use crate::{Check, File, PageId};
 
 /// Why a call over pages failed.

@@ -1,7 +1,6 @@
 //! A space of pages in memory, for tests of what stands on pages.
 
 ghost use Rattle.std.specs.Prelude.{◌≡◌, ◌+◌, ◌*◌, ◌<◌, ◌≤◌, ◌↔◌, ◌++◌, true, false, [], ◌∷◌, length, IsTrue, Some, None, IfOk, IfSome, OnOk, OnErr, IfNone, slice_index_or, vec_len};
-
 ghost use Rattle.hg_base.specs.Space.{key};
 ghost use Rattle.hg_base.specs.Plain.{page_limit};
 
@@ -10,6 +9,7 @@ use std::alloc::{AllocError, Global};
 use std::marker::Model;
 
 const MAIN_PAGES: u32 = 65_536;
+
 const TEMP_PAGES: u32 = 1_048_576;
 
 /// The bytes of a page, or none. Contracts see the list of its bytes.
@@ -134,14 +134,15 @@ pub struct PlainPin {
 
 impl PlainSpace {
     ghost use Rattle.std.specs.Prelude.{◌≡◌, ◌+◌, ◌<◌, true, false, OnOk, OnErr, IfSome, IfNone, vec_len};
-    ghost use Rattle.hg_base.specs.Space.{key, key_in, IsFull, IsSame, with_new, taken_in};
+    ghost use Rattle.hg_base.specs.Space.{key, key_in, IsFull, IsSame, NoPins, with_new, taken_in};
     ghost use Rattle.hg_base.specs.Causes.{FreshFault, Later, Licensed, full_fault};
-    ghost use Rattle.hg_base.specs.Plain.{shown, empty_slot, page_limit, is_key};
+    ghost use Rattle.hg_base.specs.Plain.{plain_start, page_limit, is_key};
     ghost use Rattle.hg_base.specs.PlainSpaces.{state_of};
 
     /// A space in which no page is taken. It takes memory as pages are made.
     pub fn new(alloc: Global) -> PlainSpace
-        ensures { state_of result ≡ shown (λ _. empty_slot) 0 (record { main = 0; temp = 0; main_full = 0; temp_full = 0 }) }
+        ensures start { ⟦<PlainSpace as Pages>⟧.state result ≡ plain_start }
+        ensures no_pins { NoPins (⟦<PlainSpace as Pages>⟧.state result) }
     {
         PlainSpace {
             alloc,
@@ -333,9 +334,7 @@ impl Pages for PlainSpace {
     }
 
     fn can_pin(&self, page: PageId) -> bool {
-        page.no < pages_of(page.file)
-            && self.is_taken(page)
-            && !self.slots[place_of(page)].pinned
+        page.no < pages_of(page.file) && self.is_taken(page) && !self.slots[place_of(page)].pinned
     }
 
     fn fulls(&self, file: File) -> u64 {

@@ -1,8 +1,8 @@
-use Rattle.std.proofs.Common.{rules, refl, arith, sym, ◌∙◌, ap, ◌≡◌, ℕ, ◌+◌, ◌-◌, ◌<◌, ◌≤◌, true, false, Some, length, vec_len}
-use Rattle.hg_base.specs.Space.{key, key_in, taken_below, with_new}
-use Rattle.hg_base.specs.Plain.{slot_at, is_taken, is_pinned, shown, page_limit}
+use Rattle.std.proofs.Common.{arith}
+use Rattle.hg_base.specs.Plain.{page_limit}
 use Rattle.hg_base.specs.PlainSpaces.{counts_of, state_of}
-use Rattle.hg_base.proofs.PlainSteps.{count-rest, taken_below-le}
+use Rattle.hg_base.proofs.PlainSteps.{count-rest}
+use Rattle.hg_base.specs.TakenLaws.{taken_below-le}
 use Rattle.hg_base.proofs.plain.PlainSpace.count_taken.Goals as goal
 
 pub returns-then-place_of-len : goal.returns-then-place_of-len

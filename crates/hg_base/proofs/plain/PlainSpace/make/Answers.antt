@@ -1,7 +1,6 @@
-use Rattle.std.proofs.Common.{rules, refl, arith, sym, ◌∙◌, ap, ◌≡◌, ℕ, ◌+◌, ◌-◌, ◌<◌, ◌≤◌, true, false, Some, length, vec_len}
-use Rattle.hg_base.specs.Space.{key, key_in, taken_below, with_new}
-use Rattle.hg_base.specs.Plain.{slot_at, is_taken, is_pinned, shown, page_limit}
-use Rattle.hg_base.specs.PlainSpaces.{counts_of, state_of}
+use Rattle.std.proofs.Common.{rules, ◌∙◌, ap}
+use Rattle.hg_base.specs.Space.{with_new}
+use Rattle.hg_base.specs.PlainSpaces.{counts_of}
 use Rattle.hg_base.proofs.PlainSteps.{list-new}
 use Rattle.hg_base.proofs.plain.PlainSpace.make.Goals as goal
 

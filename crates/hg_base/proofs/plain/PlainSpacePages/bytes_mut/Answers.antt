@@ -1,7 +1,6 @@
-use Rattle.std.proofs.Common.{rules, refl, arith, sym, ◌∙◌, ap, ◌≡◌, ℕ, ◌+◌, ◌-◌, ◌<◌, ◌≤◌, true, false, Some, length, vec_len}
-use Rattle.hg_base.specs.Space.{key, key_in, taken_below}
-use Rattle.hg_base.specs.Plain.{slot_at, is_taken, is_pinned, shown, page_limit}
-use Rattle.hg_base.specs.PlainSpaces.{counts_of, state_of}
+use Rattle.std.proofs.Common.{refl, ◌∙◌, ap, ◌≡◌, ℕ, true, length}
+use Rattle.hg_base.specs.Space.{key}
+use Rattle.hg_base.specs.Plain.{slot_at, is_taken}
 use Rattle.hg_base.specs.PlainLaws.{and-true}
 use Rattle.std.specs.Vec.{with_item}
 use Rattle.hg_base.specs.Lending.{refit}
@@ -17,13 +16,17 @@ returns c =
     let i : ℕ = c.place_of.result in
     let taken : is_taken p (slot_at s.slots.items p) ≡ true = and-true (is_taken p (slot_at s.slots.items p)) (slot_at s.slots.items p).pinned c.requires in
     let here : c.index_mut-slot.result.now ≡ slot_at s.slots.items p =
-        loan-here s.slots.items i p c.index_mut-slot.result.now c.place_of.ensures c.index_mut-slot.ensures.value taken in
-    let page : c.bytes_mut.result.now ≡ (slot_at s.slots.items p).page = c.bytes_mut.ensures.value ∙ ap (λ (y : Slot). y.page) here in
-    ((refl, λ w.
-        ap (λ (y : Slot). record s { slots = with_item s.slots i (record y { page = refit y.page w }) }) here
-        ∙ ap (λ (k : ℕ). record s { slots = with_item s.slots k (record (slot_at s.slots.items p) { page = refit (slot_at s.slots.items p).page w }) }) c.place_of.ensures),
-     record {
-       lends = tt;
-       value = held-of p (slot_at s.slots.items p) c.bytes_mut.result.now taken page;
-       len = ap length page ∙ size-of p (slot_at s.slots.items p) taken
-     })
+    loan-here s.slots.items i p c.index_mut-slot.result.now c.place_of.ensures c.index_mut-slot.ensures.value taken in
+    let page : c.bytes_mut.result.now ≡ (slot_at s.slots.items p).page = c.bytes_mut.ensures.value ∙ ap (λ (y : Slot). y.page) here in (
+      (
+        refl,
+        λ w.
+            ap (λ (y : Slot). record s { slots = with_item s.slots i (record y { page = refit y.page w }) }) here
+            ∙ ap (λ (k : ℕ). record s { slots = with_item s.slots k (record (slot_at s.slots.items p) { page = refit (slot_at s.slots.items p).page w }) }) c.place_of.ensures,
+      ),
+      record {
+        lends = tt;
+        value = held-of p (slot_at s.slots.items p) c.bytes_mut.result.now taken page;
+        len = ap length page ∙ size-of p (slot_at s.slots.items p) taken;
+      },
+    )

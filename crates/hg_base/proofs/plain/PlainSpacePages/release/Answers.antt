@@ -1,4 +1,3 @@
-use Rattle.std.proofs.Common.{rules, refl, arith, sym, ◌∙◌, ap}
 use Rattle.hg_base.specs.Space.{key}
 use Rattle.hg_base.specs.PlainSpaces.{counts_of}
 use Rattle.hg_base.proofs.PlainSteps.{list-release}

@@ -1,7 +1,7 @@
-use Rattle.std.proofs.Common.{rules, refl, arith, sym, ◌∙◌, ap, ◌≡◌, ℕ, ◌+◌, ◌-◌, ◌<◌, ◌≤◌, true, false, Some, length, vec_len}
-use Rattle.hg_base.specs.Space.{key, key_in, taken_below}
-use Rattle.hg_base.specs.Plain.{slot_at, is_taken, is_pinned, shown, page_limit}
-use Rattle.hg_base.specs.PlainSpaces.{counts_of, state_of}
+use Rattle.std.proofs.Common.{◌∙◌, ap, ◌≡◌, ℕ, true, false}
+use Rattle.hg_base.specs.Space.{key}
+use Rattle.hg_base.specs.Plain.{slot_at, is_taken}
+use Rattle.hg_base.specs.PlainSpaces.{counts_of}
 use Rattle.hg_base.specs.PlainLaws.{and-true}
 use Rattle.hg_base.specs.declared.plain.PlainSpace.{PlainSpace}
 use Rattle.hg_base.proofs.PlainSteps.{list-unpin, with_slot}
