@@ -1,6 +1,6 @@
 -- What a space of pages is: a finite map from the pages that are taken to their bytes, the pins
 -- that are out, a successor for each page, and counts. Our own rule.
-use Rattle.std.specs.Prelude.{◌≡◌, ℕ, ◌+◌, ◌-◌, ◌*◌, ◌<◌, ◌==◌, zero, suc, Bool, true, false, List, Option, None, Some, if◌then◌else◌, replicate, length}
+use Rattle.std.specs.Prelude.{◌≡◌, ℕ, ◌+◌, ◌-◌, ◌*◌, ◌<◌, ◌≤◌, ◌==◌, zero, suc, Bool, true, false, List, Option, None, Some, if◌then◌else◌, replicate, length}
 use Rattle.std.proofs.Common.{refl, ap, ◌∙◌}
 use Rattle.std.proofs.lemmas.List.{length-replicate}
 use Rattle.hg_base.specs.Content.{Heaps}
@@ -104,6 +104,10 @@ pub record IsFree (s : Space) (page : PageId) : Type 0 where
 -- All pages of a file are taken.
 abbrev pub IsFull : Space → File → Type 0
 IsFull s file = (n : ℕ) → n < s.limit file → s.taken (key_in file n) ≡ true
+
+-- Taken pages have numbers below their file's limit.
+abbrev pub IsWithinLimit : Space → File → Type 0
+IsWithinLimit s file = (n : ℕ) → s.limit file ≤ n → s.taken (key_in file n) ≡ false
 
 -- how many of a file's pages below a number are taken
 abbrev pub taken_below : (ℕ → Bool) → File → ℕ → ℕ

@@ -27,7 +27,7 @@ pub trait Pages {
     ghost use Rattle.std.specs.Prelude.{◌≡◌, ◌≢◌, ℕ, ◌+◌, ◌<◌, ◌≤◌, ◌↔◌, true, false, List, length, IsTrue, Some, None, IfOk, IfErr, OnOk, OnErr, IsErrOf};
     ghost use Rattle.std.specs.Borrow.{sem};
     ghost use Rattle.hg_base.specs.Lending.{LendsBytes};
-    ghost use Rattle.hg_base.specs.Space.{Space, key, key_in, at, IsPinned, IsMade, IsSame, IsFree, IsFull, without_pin, without_page, with_bytes, with_next, full_count, taken_in};
+    ghost use Rattle.hg_base.specs.Space.{Space, key, IsPinned, IsMade, IsSame, IsFree, IsFull, IsWithinLimit, without_pin, without_page, with_bytes, with_next, full_count, taken_in};
     ghost use Rattle.hg_base.specs.Causes.{HasCause, NoneFull, PinFault, FreshFault, full_fault};
     ghost use Rattle.hg_base.specs.declared.PageId.{PageId};
 
@@ -115,7 +115,7 @@ pub trait Pages {
     /// How many pages of a file are taken.
     fn taken(&self, file: File) -> u32
         ensures count { result ≡ taken_in (state self.now) file }
-        ensures finite { (n : ℕ) → (state self.now).limit file ≤ n → (state self.now).taken (key_in file n) ≡ false };
+        ensures finite { IsWithinLimit (state self.now) file };
 
     /// Whether a page may be pinned. Ask it of a page whose number was read from a page.
     fn can_pin(&self, page: PageId) -> bool
@@ -125,5 +125,7 @@ pub trait Pages {
     fn fulls(&self, file: File) -> u64
         ensures { result ≡ full_count (state self.now).counts file };
 
-    ghost writes: { (s : Self) (p : ℕ) (b w : List ℕ) → (state s).bytes p ≡ Some b → (state s).pinned p ≡ true → length w ≡ length b → state (after_write s p w) ≡ with_bytes (state s) p w };
+    ghost writes: { (s : Self) (p : ℕ) (b w : List ℕ)
+        → (state s).bytes p ≡ Some b → (state s).pinned p ≡ true → length w ≡ length b
+        → state (after_write s p w) ≡ with_bytes (state s) p w };
 }

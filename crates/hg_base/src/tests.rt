@@ -12,7 +12,8 @@ fn first_byte<S: Pages>(space: &mut S, page: PageId) -> Result<u8, PageFault>
     requires out { NoPins (S.state space.old) }
     requires taken { (S.state space.old).taken (key page) ≡ true }
     requires no_heap { (S.state space.old).of_heap (key page) ≡ false }
-    ensures value { IfOk result (λ x. (b : List ℕ) → (S.state space.old).bytes (key page) ≡ Some b → x ≡ slice_index b 0) }
+    ensures value { IfOk result (λ x. (b : List ℕ)
+        → (S.state space.old).bytes (key page) ≡ Some b → x ≡ slice_index b 0) }
     ensures kept { Steady (these_pages (λ _. ⊥)) (S.state space.old) (S.state space.new) }
     ensures cause { HasCause (S.state space.old) (S.state space.new) result }
 {
@@ -30,7 +31,8 @@ fn extend<S: Pages>(space: &mut S, last: PageId, kind: u8) -> Result<PageId, Pag
     ensures new { IfOk result (λ p. (S.state space.old).taken (key p) ≡ false) }
     ensures taken { IfOk result (λ p. (S.state space.new).taken (key p) ≡ true) }
     ensures linked { IfOk result (λ p. (S.state space.new).next (key last) ≡ Some p.no) }
-    ensures kept { IfOk result (λ p. Steady (these_pages (λ q. (q ≡ key last) ⊎ (q ≡ key p))) (S.state space.old) (S.state space.new)) }
+    ensures kept { IfOk result (λ p. Steady (these_pages (λ q. (q ≡ key last) ⊎ (q ≡ key p)))
+        (S.state space.old) (S.state space.new)) }
     ensures err { OnErr result (IsSame (S.state space.old) (S.state space.new)) }
     ensures cause { HasCause (S.state space.old) (S.state space.new) result }
 {
@@ -70,7 +72,10 @@ fn walk<S: Pages>(space: &mut S, first: PageId, budget: u32) -> Result<u64, Page
 /// Two new pages, or none.
 fn two<S: Pages>(space: &mut S, file: File) -> Result<(PageId, PageId), PageFault>
     requires out { NoPins (S.state space.old) }
-    ensures kept { MatchResult result (λ p. Steady (these_pages (λ q. (q ≡ key p.0) ⊎ (q ≡ key p.1))) (S.state space.old) (S.state space.new)) (λ _. Steady (these_pages (λ _. ⊥)) (S.state space.old) (S.state space.new)) }
+    ensures kept { MatchResult result
+        (λ p. Steady (these_pages (λ q. (q ≡ key p.0) ⊎ (q ≡ key p.1)))
+        (S.state space.old) (S.state space.new))
+        (λ _. Steady (these_pages (λ _. ⊥)) (S.state space.old) (S.state space.new)) }
     ensures cause { HasCause (S.state space.old) (S.state space.new) result }
 {
     let left = space.fresh(file)?;
@@ -97,7 +102,9 @@ fn two<S: Pages>(space: &mut S, file: File) -> Result<(PageId, PageId), PageFaul
 /// A page that was made by `fresh`, with its first byte set.
 fn one<S: Pages>(space: &mut S, file: File, kind: u8) -> Result<PageId, PageFault>
     requires out { NoPins (S.state space.old) }
-    ensures kept { MatchResult result (λ p. Steady (these_pages (λ q. q ≡ key p)) (S.state space.old) (S.state space.new)) (λ _. Steady (these_pages (λ _. ⊥)) (S.state space.old) (S.state space.new)) }
+    ensures kept { MatchResult result
+        (λ p. Steady (these_pages (λ q. q ≡ key p)) (S.state space.old) (S.state space.new))
+        (λ _. Steady (these_pages (λ _. ⊥)) (S.state space.old) (S.state space.new)) }
     ensures new { IfOk result (λ p. (S.state space.old).taken (key p) ≡ false) }
     ensures taken { IfOk result (λ p. (S.state space.new).taken (key p) ≡ true) }
     ensures no_heap { IfOk result (λ p. (S.state space.new).of_heap (key p) ≡ false) }
