@@ -1,0 +1,144 @@
+-- The steps of a change: a record put into an empty slot, a slot emptied, a slot added.
+use Rattle.std.specs.Prelude.{◌≡◌, ◌≢◌, ℕ, ◌+◌, ◌*◌, ◌<◌, ◌≤◌, ◌⊎◌, List, length, take, drop, slice_index, Option, None, Some}
+use Rattle.std.proofs.Common.{sym, ◌∙◌, ap, refl, arith, inl, inr}
+use Rattle.std.proofs.lemmas.Bool.{cases_lt, cases_order, cases_eq}
+use Rattle.hg_slot.specs.Slotted.{number, slots, lowest, offset, size, body, record_at, IsOf, IsPlaced, IsSlotted}
+use Rattle.hg_slot.specs.Writing.{Written, WritesNumber, WritesSlot, WritesBytes}
+use Rattle.hg_slot.specs.Changing.{KeepsOthers, Fills, Empties, AddsSlot}
+use Rattle.hg_slot.proofs.Numbers.{number-before, number-behind, first-kept}
+use Rattle.hg_slot.proofs.Slots.{shown-empty, shown-here, shown-out, shows-none, Changes, others-kept, slotted-after}
+
+-- the entries beside a slot that was written
+pub offset-beside : (a b : List ℕ) (i k from n : ℕ) → WritesSlot a b i from n → k ≢ i → offset b k ≡ offset a k
+offset-beside a b i k from n w h =
+    elim (cases_order k i) [
+      | inl e ↦ absurd (h e)
+      | inr (inl l) ↦ number-before a b (16 + 4 * i) 4 (16 + 4 * k) w.only (omega arith)
+      | inr (inr g) ↦ number-behind a b (16 + 4 * i) 4 (16 + 4 * k) w.only (omega arith) ]
+
+pub size-beside : (a b : List ℕ) (i k from n : ℕ) → WritesSlot a b i from n → k ≢ i → size b k ≡ size a k
+size-beside a b i k from n w h =
+    elim (cases_order k i) [
+      | inl e ↦ absurd (h e)
+      | inr (inl l) ↦ number-before a b (16 + 4 * i) 4 (18 + 4 * k) w.only (omega arith)
+      | inr (inr g) ↦ number-behind a b (16 + 4 * i) 4 (18 + 4 * k) w.only (omega arith) ]
+
+-- a record that stands from `low` on is as it was where the bytes from there on are
+pub body-same : (a b : List ℕ) (k low : ℕ) → offset b k ≡ offset a k → size b k ≡ size a k
+    → ((m n : ℕ) → low ≤ m → take n (drop m b) ≡ take n (drop m a)) → low ≤ offset a k → body b k ≡ body a k
+body-same a b k low p q f h =
+    ap (λ n. take n (drop (offset b k) b)) q ∙ ap (λ m. take (size a k) (drop m b)) p ∙ f (offset a k) (size a k) h
+
+-- a record that is not empty stands among the records
+pub stands : (a : List ℕ) (k : ℕ) → IsSlotted a → k < slots a → 0 < offset a k → lowest a ≤ offset a k
+stands a k s h p = elim (s.placed k h) [ | inl (z, y) ↦ absurd (omega arith) | inr (f, t) ↦ f ]
+
+-- what holds a byte stands among the records
+pub stands-of : (a : List ℕ) (k x : ℕ) → IsSlotted a → k < slots a → IsOf a k x → lowest a ≤ x
+stands-of a k x s h o = elim (s.placed k h) [ | inl (z, y) ↦ absurd (omega (arith, o.from, o.to)) | inr (f, t) ↦ omega (arith, o.from) ]
+
+-- a slot emptied
+pub emptied : (a b : List ℕ) (i : ℕ) → IsSlotted a → i < slots a → WritesSlot a b i 0 0 → Empties a b i
+emptied a b i s h w =
+    let few = s.few in let behind = s.behind in let whole = s.whole in
+    let low : lowest b ≡ lowest a = number-before a b (16 + 4 * i) 4 4 w.only (omega arith) in
+    let count : slots b ≡ slots a = number-before a b (16 + 4 * i) 4 2 w.only (omega arith) in
+    let c : Changes a b i = record {
+      same_length = w.only.same_length;
+      kind = first-kept a b (16 + 4 * i) 4 w.only (omega arith) (omega arith);
+      grown = omega arith;
+      one_more = λ k l n. omega arith;
+      lower = omega arith;
+      same_offset = λ k l n. offset-beside a b i k 0 0 w n;
+      same_size = λ k l n. size-beside a b i k 0 0 w n;
+      same_body = λ k l n p. body-same a b k (lowest a) (offset-beside a b i k 0 0 w n) (size-beside a b i k 0 0 w n)
+          (λ m t g. w.only.behind m t (omega arith)) (stands a k s l p);
+    } in
+    record {
+      slotted = slotted-after a b i s c (omega arith) (omega arith) (inl (w.offset, w.size))
+          (λ k x l n o q. absurd (omega (arith, q.from, q.to, w.offset, w.size)));
+      here = shown-empty b i w.offset;
+      others = others-kept a b i c;
+      count = count;
+    }
+
+-- a slot added
+pub added : (a b c : List ℕ) → IsSlotted a → slots a < 128 → 20 + 4 * slots a ≤ lowest a
+    → WritesSlot a b (slots a) 0 0 → WritesNumber b c 2 (slots a + 1) → AddsSlot a c
+added a b c s few room w v =
+    let i : ℕ = slots a in
+    let whole = s.whole in
+    let count : slots c ≡ slots a + 1 = v.here in
+    let low : lowest c ≡ lowest a =
+        number-behind b c 2 2 4 v.only (omega arith) ∙ number-before a b (16 + 4 * slots a) 4 4 w.only (omega arith) in
+    let off : (k : ℕ) → k ≢ slots a → offset c k ≡ offset a k = λ k n.
+        number-behind b c 2 2 (16 + 4 * k) v.only (omega arith) ∙ offset-beside a b (slots a) k 0 0 w n in
+    let siz : (k : ℕ) → k ≢ slots a → size c k ≡ size a k = λ k n.
+        number-behind b c 2 2 (18 + 4 * k) v.only (omega arith) ∙ size-beside a b (slots a) k 0 0 w n in
+    let zero_offset : offset c (slots a) ≡ 0 = number-behind b c 2 2 (16 + 4 * slots a) v.only (omega arith) ∙ w.offset in
+    let zero_size : size c (slots a) ≡ 0 = number-behind b c 2 2 (18 + 4 * slots a) v.only (omega arith) ∙ w.size in
+    let d : Changes a c (slots a) = record {
+      same_length = v.only.same_length ∙ w.only.same_length;
+      kind = first-kept b c 2 2 v.only (omega (arith, w.only.same_length)) (omega arith)
+          ∙ first-kept a b (16 + 4 * slots a) 4 w.only (omega arith) (omega arith);
+      grown = omega arith;
+      one_more = λ k l n. omega arith;
+      lower = omega arith;
+      same_offset = λ k l n. off k n;
+      same_size = λ k l n. siz k n;
+      same_body = λ k l n p. body-same a c k (lowest a) (off k n) (siz k n)
+          (λ m t g. v.only.behind m t (omega arith) ∙ w.only.behind m t (omega arith)) (stands a k s l p);
+    } in
+    record {
+      slotted = slotted-after a c (slots a) s d (omega arith) (omega arith) (inl (zero_offset, zero_size))
+          (λ k x l n o q. absurd (omega (arith, q.from, q.to)));
+      all = λ k. elim (cases_eq k (slots a)) [
+        | inl e ↦ shown-empty c k (ap (offset c) e ∙ zero_offset) ∙ sym (shown-out a k (omega arith))
+        | inr n ↦ others-kept a c (slots a) d k n ];
+      count = count;
+      low = low;
+    }
+
+-- a record put into an empty slot, right below the records
+pub filled : (a b c d x : List ℕ) (i at : ℕ) → IsSlotted a → i < slots a → at + length x ≡ lowest a → 16 + 4 * slots a ≤ at
+    → WritesBytes a b at x → WritesSlot b c i at (length x) → WritesNumber c d 4 at → Fills a d i x
+filled a b c d x i at s h e room w v u =
+    let whole = s.whole in let ends = s.ends in
+    let len_b = w.only.same_length in
+    let len_c = v.only.same_length in
+    let count : slots d ≡ slots a =
+        number-before c d 4 2 2 u.only (omega arith) ∙ number-before b c (16 + 4 * i) 4 2 v.only (omega arith)
+        ∙ number-before a b at (length x) 2 w.only (omega arith) in
+    let low : lowest d ≡ at = u.here in
+    let off : (k : ℕ) → k < slots a → k ≢ i → offset d k ≡ offset a k = λ k l n.
+        number-behind c d 4 2 (16 + 4 * k) u.only (omega arith) ∙ offset-beside b c i k at (length x) v n
+        ∙ number-before a b at (length x) (16 + 4 * k) w.only (omega arith) in
+    let siz : (k : ℕ) → k < slots a → k ≢ i → size d k ≡ size a k = λ k l n.
+        number-behind c d 4 2 (18 + 4 * k) u.only (omega arith) ∙ size-beside b c i k at (length x) v n
+        ∙ number-before a b at (length x) (18 + 4 * k) w.only (omega arith) in
+    let off_here : offset d i ≡ at = number-behind c d 4 2 (16 + 4 * i) u.only (omega arith) ∙ v.offset in
+    let siz_here : size d i ≡ length x = number-behind c d 4 2 (18 + 4 * i) u.only (omega arith) ∙ v.size in
+    let t : Changes a d i = record {
+      same_length = u.only.same_length ∙ len_c ∙ len_b;
+      kind = first-kept c d 4 2 u.only (omega arith) (omega arith)
+          ∙ first-kept b c (16 + 4 * i) 4 v.only (omega arith) (omega arith)
+          ∙ first-kept a b at (length x) w.only (omega arith) (omega arith);
+      grown = omega arith;
+      one_more = λ k l n. omega arith;
+      lower = omega arith;
+      same_offset = off;
+      same_size = siz;
+      same_body = λ k l n p. body-same a d k (lowest a) (off k l n) (siz k l n)
+          (λ m r g. u.only.behind m r (omega arith) ∙ v.only.behind m r (omega arith) ∙ w.only.behind m r (omega arith))
+          (stands a k s l p);
+    } in
+    record {
+      slotted = slotted-after a d i s t (omega (arith, s.few)) (omega arith) (inr (omega arith, omega arith))
+          (λ k y l n o q. absurd (omega (arith, stands-of a k y s l o, q.to)));
+      here = shown-here d i (omega arith) (omega arith)
+          ∙ ap Some (ap (λ n. take n (drop (offset d i) d)) siz_here ∙ ap (λ m. take (length x) (drop m d)) off_here
+          ∙ u.only.behind at (length x) (omega arith) ∙ v.only.behind at (length x) (omega arith) ∙ w.here);
+      others = others-kept a d i t;
+      count = count;
+      low = omega arith;
+    }

@@ -1,0 +1,51 @@
+-- What the calls do to a slotted page, in the words of its slots. Our own rule.
+use Rattle.std.specs.Prelude.{◌≡◌, ◌≢◌, ℕ, ◌+◌, ◌<◌, ◌≤◌, max, List, length, Option, None, Some, Result, Ok, Err, slice_index}
+use Rattle.hg_slot.specs.Slotted.{slots, lowest, record_at, IsSlotted}
+use Rattle.hg_base.specs.declared.Check.{Check}
+use Rattle.hg_base.specs.declared.Check.TheVariants.{Kind, Size, Frame, Link, Level, Order, RowBytes}
+
+-- every slot but this one shows what it showed
+abbrev pub KeepsOthers : List ℕ → List ℕ → ℕ → Type 0
+KeepsOthers old new slot = (k : ℕ) → k ≢ slot → record_at new k ≡ record_at old k
+
+-- The record was put into the first empty slot, or into a new one behind the slots where none was.
+pub record IsInserted (old new : List ℕ) (slot : ℕ) (bytes : List ℕ) : Type 0 where
+  pub was_empty : record_at old slot ≡ None
+  pub first : (k : ℕ) → k < slot → record_at old k ≢ None
+  pub here : record_at new slot ≡ Some bytes
+  pub others : KeepsOthers old new slot
+  pub count : slots new ≡ max (slots old) (slot + 1)
+
+-- The answer of a reading of a page that may be damaged: it is taken exactly where it is a slotted
+-- page; its kind is wrong exactly where its first byte is; all else that is wrong is a matter of size.
+abbrev pub Verified : List ℕ → Result (Unit {0}) Check → Type 0
+Verified page (Ok u) = IsSlotted page
+Verified page (Err Kind) = slice_index page 0 ≢ 83
+Verified page (Err Size) = (slice_index page 0 ≡ 83) × (IsSlotted page → ⊥)
+Verified page (Err Frame) = ⊥
+Verified page (Err Link) = ⊥
+Verified page (Err Level) = ⊥
+Verified page (Err Order) = ⊥
+Verified page (Err RowBytes) = ⊥
+
+-- A record was put into a slot that was empty, right below the records.
+pub record Fills (old new : List ℕ) (slot : ℕ) (bytes : List ℕ) : Type 0 where
+  pub slotted : IsSlotted new
+  pub here : record_at new slot ≡ Some bytes
+  pub others : KeepsOthers old new slot
+  pub count : slots new ≡ slots old
+  pub low : lowest new + length bytes ≡ lowest old
+
+-- A slot shows no record any more.
+pub record Empties (old new : List ℕ) (slot : ℕ) : Type 0 where
+  pub slotted : IsSlotted new
+  pub here : record_at new slot ≡ None
+  pub others : KeepsOthers old new slot
+  pub count : slots new ≡ slots old
+
+-- A new slot stands behind the others, and is empty.
+pub record AddsSlot (old new : List ℕ) : Type 0 where
+  pub slotted : IsSlotted new
+  pub all : (k : ℕ) → record_at new k ≡ record_at old k
+  pub count : slots new ≡ slots old + 1
+  pub low : lowest new ≡ lowest old

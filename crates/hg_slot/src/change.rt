@@ -1,0 +1,41 @@
+//! The steps of a change of a slotted page. Each leaves a slotted page.
+ghost use Rattle.std.specs.Prelude.{◌≡◌, ℕ, ◌+◌, ◌*◌, ◌≤◌, ◌<◌, None, length};
+ghost use Rattle.hg_slot.specs.Slotted.{slots, lowest, record_at, IsSlotted};
+ghost use Rattle.hg_slot.specs.Changing.{Fills, Empties, AddsSlot};
+
+use crate::entry::{number_at, set_bytes, set_entry, set_number, COUNT, LOWEST};
+
+/// Puts a record right below the others, for a slot that is empty.
+pub fn fill(page: &mut [u8], slot: usize, bytes: &[u8])
+    requires slotted { IsSlotted page.old }
+    requires is_slot { slot < slots page.old }
+    requires room { 16 + 4 * slots page.old + length bytes.now ≤ lowest page.old }
+    ensures { Fills page.old page.new slot bytes.now }
+{
+    let at = number_at(page, LOWEST) - bytes.len();
+    set_bytes(page, at, bytes);
+    set_entry(page, slot, at as u16, bytes.len() as u16);
+    set_number(page, LOWEST, at as u16);
+}
+
+/// Empties a slot. The bytes of its record stay where they are, until the page is closed up.
+pub fn empty(page: &mut [u8], slot: usize)
+    requires slotted { IsSlotted page.old }
+    requires is_slot { slot < slots page.old }
+    ensures { Empties page.old page.new slot }
+{
+    set_entry(page, slot, 0, 0);
+}
+
+/// Adds an empty slot behind the others.
+#[tactic(auto, using(crate::proofs::Steps::added))]
+pub fn add_slot(page: &mut [u8])
+    requires slotted { IsSlotted page.old }
+    requires few { slots page.old < 128 }
+    requires room { 20 + 4 * slots page.old ≤ lowest page.old }
+    ensures { AddsSlot page.old page.new }
+{
+    let count = number_at(page, COUNT);
+    set_entry(page, count, 0, 0);
+    set_number(page, COUNT, count as u16 + 1);
+}
