@@ -1,6 +1,6 @@
 -- What the calls do to a slotted page, in the words of its slots. Our own rule.
 use Rattle.std.specs.Prelude.{◌≡◌, ◌≢◌, ℕ, ◌+◌, ◌<◌, ◌≤◌, max, List, length, Option, None, Some, Result, Ok, Err, slice_index}
-use Rattle.hg_slot.specs.Slotted.{slots, lowest, record_at, IsSlotted}
+use Rattle.hg_slot.specs.Slotted.{slots, lowest, offset, size, record_at, lengths, IsSlotted}
 use Rattle.hg_base.specs.declared.Check.{Check}
 use Rattle.hg_base.specs.declared.Check.TheVariants.{Kind, Size, Frame, Link, Level, Order, RowBytes}
 
@@ -49,3 +49,17 @@ pub record AddsSlot (old new : List ℕ) : Type 0 where
   pub all : (k : ℕ) → record_at new k ≡ record_at old k
   pub count : slots new ≡ slots old + 1
   pub low : lowest new ≡ lowest old
+
+-- The page shows the same at every slot, and its records stand close together at its end.
+pub record ClosesUp (old new : List ℕ) : Type 0 where
+  pub slotted : IsSlotted new
+  pub all : (k : ℕ) → record_at new k ≡ record_at old k
+  pub count : slots new ≡ slots old
+  pub low : lowest new + lengths old (slots old) ≡ 4096
+
+-- The first n slots of a page are there again, their records close together at the end.
+pub record Rebuilds (old built : List ℕ) (n : ℕ) : Type 0 where
+  pub slotted : IsSlotted built
+  pub count : slots built ≡ n
+  pub same : (k : ℕ) → k < n → record_at built k ≡ record_at old k
+  pub low : lowest built + lengths old n ≡ 4096

@@ -77,3 +77,11 @@ pub record HasEmptySlot (page : List ℕ) : Type 0 where
 -- A record of n bytes fits: into a slot that is empty, or with four bytes more into a new one.
 abbrev pub Fits : List ℕ → ℕ → Type 0
 Fits page n = (HasEmptySlot page × (used page + n ≤ 4096)) ⊎ ((slots page < 128) × (used page + 4 + n ≤ 4096))
+
+-- where the record of a slot begins, and how many bytes it has
+pub record IsRecord (page : List ℕ) (k from n : ℕ) : Type 0 where
+  pub is_slot : k < slots page
+  pub from_is : from ≡ offset page k
+  pub size_is : n ≡ size page k
+  pub inside : from + n ≤ 4096
+  pub shown : record_at page k ≡ Some (take n (drop from page))

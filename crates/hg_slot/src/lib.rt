@@ -5,4 +5,5 @@
 
 mod change;
 mod entry;
+mod find;
 pub mod slot;
