@@ -2,3 +2,4 @@ pub mod Numbers
 pub mod Slots
 pub mod Steps
 pub mod Finding
+pub mod Closing

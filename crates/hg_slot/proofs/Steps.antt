@@ -1,10 +1,11 @@
 -- The steps of a change: a record put into an empty slot, a slot emptied, a slot added.
-use Rattle.std.specs.Prelude.{◌≡◌, ◌≢◌, ℕ, ◌+◌, ◌*◌, ◌<◌, ◌≤◌, ◌⊎◌, List, length, take, drop, slice_index, Option, None, Some}
-use Rattle.std.proofs.Common.{sym, ◌∙◌, ap, refl, arith, inl, inr}
+use Rattle.std.specs.Prelude.{◌≡◌, ◌≢◌, ℕ, ◌+◌, ◌*◌, ◌<◌, ◌≤◌, ◌⊎◌, List, length, take, drop, slice_index, slice_set, Option, None, Some}
+use Rattle.std.proofs.Common.{sym, ◌∙◌, ap, refl, arith, inl, inr, get_or-set_same}
+use Rattle.std.proofs.Math.ListN.{length-set}
 use Rattle.std.proofs.lemmas.Bool.{cases_lt, cases_order, cases_eq}
 use Rattle.hg_slot.specs.Slotted.{number, slots, lowest, offset, size, body, record_at, IsOf, IsPlaced, IsSlotted}
 use Rattle.hg_slot.specs.Writing.{Written, WritesNumber, WritesSlot, WritesBytes}
-use Rattle.hg_slot.specs.Changing.{KeepsOthers, Fills, Empties, AddsSlot}
+use Rattle.hg_slot.specs.Changing.{KeepsOthers, Starts, Fills, Empties, AddsSlot}
 use Rattle.hg_slot.proofs.Numbers.{number-before, number-behind, first-kept}
 use Rattle.hg_slot.proofs.Slots.{shown-empty, shown-here, shown-out, shows-none, Changes, others-kept, slotted-after}
 
@@ -141,4 +142,26 @@ filled a b c d x i at s h e room w v u =
       others = others-kept a d i t;
       count = count;
       low = omega arith;
+    }
+
+-- an empty page
+pub started : (a b c d : List ℕ) → length a ≡ 4096 → b ≡ slice_set a 0 83 → WritesNumber b c 2 0 → WritesNumber c d 4 4096 → Starts d
+started a b c d whole e w v =
+    let len_b : length b ≡ length a = ap length e ∙ length-set a 0 83 in
+    let len_c = w.only.same_length in
+    let count : slots d ≡ 0 = number-before c d 4 2 2 v.only (omega arith) ∙ w.here in
+    let h : 0 < length a = omega arith in
+    record {
+      slotted = record {
+        whole = v.only.same_length ∙ len_c ∙ len_b ∙ whole;
+        kind = first-kept c d 4 2 v.only (omega arith) (omega arith) ∙ first-kept b c 2 2 w.only (omega arith) (omega arith)
+            ∙ ap (λ l. slice_index l 0) e ∙ get_or-set_same a 0 83 0 h;
+        few = omega arith;
+        behind = omega (arith, v.here);
+        ends = omega (arith, v.here);
+        placed = λ k l. absurd (omega arith);
+        apart = λ j k x l m n o p. absurd (omega arith);
+      };
+      none = count;
+      low = v.here;
     }

@@ -63,3 +63,29 @@ pub record Rebuilds (old built : List ℕ) (n : ℕ) : Type 0 where
   pub count : slots built ≡ n
   pub same : (k : ℕ) → k < n → record_at built k ≡ record_at old k
   pub low : lowest built + lengths old n ≡ 4096
+
+-- An empty page: no slot, and all bytes behind the head are free.
+pub record Starts (new : List ℕ) : Type 0 where
+  pub slotted : IsSlotted new
+  pub none : slots new ≡ 0
+  pub low : lowest new ≡ 4096
+
+-- The page shows the same at every slot, and there are `need` bytes before the records.
+pub record MakesRoom (old new : List ℕ) (need : ℕ) : Type 0 where
+  pub slotted : IsSlotted new
+  pub all : (k : ℕ) → record_at new k ≡ record_at old k
+  pub count : slots new ≡ slots old
+  pub room : need ≤ lowest new
+
+-- The page shows the same at every slot, and there is a slot of this number.
+pub record HasSlot (old new : List ℕ) (slot : ℕ) : Type 0 where
+  pub slotted : IsSlotted new
+  pub all : (k : ℕ) → record_at new k ≡ record_at old k
+  pub count : slots new ≡ max (slots old) (slot + 1)
+  pub low : lowest new ≡ lowest old
+
+-- the first slot that is empty, or the one behind all where none is
+pub record IsFirstEmpty (page : List ℕ) (slot : ℕ) : Type 0 where
+  pub is_near : slot ≤ slots page
+  pub first : (k : ℕ) → k < slot → record_at page k ≢ None
+  pub empty : record_at page slot ≡ None

@@ -1,9 +1,19 @@
 //! The steps of a change of a slotted page. Each leaves a slotted page.
 ghost use Rattle.std.specs.Prelude.{◌≡◌, ℕ, ◌+◌, ◌*◌, ◌≤◌, ◌<◌, None, length};
 ghost use Rattle.hg_slot.specs.Slotted.{slots, lowest, record_at, IsSlotted};
-ghost use Rattle.hg_slot.specs.Changing.{Fills, Empties, AddsSlot};
+ghost use Rattle.hg_slot.specs.Changing.{Starts, Fills, Empties, AddsSlot};
 
-use crate::entry::{number_at, set_bytes, set_entry, set_number, COUNT, LOWEST};
+use crate::entry::{number_at, set_bytes, set_entry, set_number, COUNT, KIND, LOWEST};
+
+/// Makes an empty page of any bytes.
+pub fn start(page: &mut [u8])
+    requires { length page.old ≡ 4096 }
+    ensures { Starts page.new }
+{
+    page[0] = KIND;
+    set_number(page, COUNT, 0);
+    set_number(page, LOWEST, 4096);
+}
 
 /// Puts a record right below the others, for a slot that is empty.
 pub fn fill(page: &mut [u8], slot: usize, bytes: &[u8])

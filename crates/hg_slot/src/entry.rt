@@ -10,6 +10,11 @@ pub const COUNT: usize = 2;
 pub const LOWEST: usize = 4;
 pub const HEAD: usize = 16;
 
+/// The first byte of a slotted page, the bytes of a page, and how many slots it may have.
+pub const KIND: u8 = 0x53;
+pub const PAGE: usize = 4096;
+pub const MAX_SLOTS: usize = 128;
+
 /// The number that the two bytes from `at` on spell.
 #[tactic(auto, unfolding(crate::specs::Slotted::number))]
 pub fn number_at(page: &[u8], at: usize) -> usize

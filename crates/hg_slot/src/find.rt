@@ -1,6 +1,7 @@
 //! What the slots of a page show.
-ghost use Rattle.std.specs.Prelude.{◌≡◌, ◌≢◌, ℕ, ◌+◌, ◌*◌, ◌≤◌, ◌<◌, None, MatchOption, length};
+ghost use Rattle.std.specs.Prelude.{◌≡◌, ℕ, ◌+◌, ◌*◌, ◌≤◌, ◌<◌, None, MatchOption, length};
 ghost use Rattle.hg_slot.specs.Slotted.{slots, record_at, lengths, IsSlotted, IsRecord};
+ghost use Rattle.hg_slot.specs.Changing.{IsFirstEmpty};
 
 use crate::entry::{entry_at, number_at, Entry, COUNT};
 
@@ -25,9 +26,7 @@ pub fn find(page: &[u8], slot: usize) -> Option<Entry>
 #[tactic(auto, using(crate::proofs::Finding::found))]
 pub fn first_empty(page: &[u8]) -> usize
     requires { IsSlotted page.now }
-    ensures slot { result ≤ slots page.now }
-    ensures first { (k : ℕ) → k < result → record_at page.now k ≢ None }
-    ensures empty { record_at page.now result ≡ None }
+    ensures { IsFirstEmpty page.now result }
 {
     let count = number_at(page, COUNT);
     for slot in 0..count {
@@ -43,7 +42,8 @@ pub fn first_empty(page: &[u8]) -> usize
 #[tactic(auto, using(crate::proofs::Finding::found))]
 pub fn total_length(page: &[u8]) -> usize
     requires { IsSlotted page.now }
-    ensures { result ≡ lengths page.now (slots page.now) }
+    ensures total { result ≡ lengths page.now (slots page.now) }
+    ensures small { result ≤ 128 * 65536 }
 {
     let mut total = 0;
     let count = number_at(page, COUNT);

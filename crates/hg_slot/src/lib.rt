@@ -4,6 +4,7 @@
 #![tactic(auto)]
 
 mod change;
+mod close;
 mod entry;
 mod find;
 pub mod slot;
