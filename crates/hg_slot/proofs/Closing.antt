@@ -106,3 +106,11 @@ pub ruleset rebuilding = (room_to_add, room_to_fill, copied_none, rebuild_begins
 pub ruleset making_room = (room_there, room_made, slot_there, slot_added)
 
 pub ruleset fitting = (fits_there, fits_then)
+
+pub fits_few : (a : List ℕ) (slot n : ℕ) → IsSlotted a → IsFirstEmpty a slot → Fits a n → max (slots a) (slot + 1) ≤ 128
+fits_few a slot n s e f = (fits_then a slot n s e f).0
+
+pub fits_room : (a : List ℕ) (slot n : ℕ) → IsSlotted a → IsFirstEmpty a slot → Fits a n → 16 + 4 * max (slots a) (slot + 1) + n + lengths a (slots a) ≤ 4096
+fits_room a slot n s e f = omega (arith, (fits_then a slot n s e f).1)
+
+pub ruleset inserting = (fits_few, fits_room, inserted)

@@ -54,3 +54,6 @@ lengths-up page m (suc n) =
     rw e (omega (arith, lengths-up page m n))
 
 pub ruleset found = (shown-out, shown-empty, entry_full, is_record, lengths_more, lengths-none)
+
+pub is_slot_full : (page : List ℕ) (k : ℕ) → record_at page k ≢ None → k < slots page
+is_slot_full page k n = elim (cases_lt k (slots page)) [ | inl h ↦ h | inr h ↦ absurd (n (shown-out page k h)) ]

@@ -3,3 +3,4 @@ pub mod Slots
 pub mod Steps
 pub mod Finding
 pub mod Closing
+pub mod Verifying

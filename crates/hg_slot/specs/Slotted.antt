@@ -85,3 +85,28 @@ pub record IsRecord (page : List ℕ) (k from n : ℕ) : Type 0 where
   pub size_is : n ≡ size page k
   pub inside : from + n ≤ 4096
   pub shown : record_at page k ≡ Some (take n (drop from page))
+
+-- two runs of bytes have a byte in common: n bytes from the place `from` on, and m from `at` on
+pub record SharesByte (from n at m : ℕ) : Type 0 where
+  pub byte : ℕ
+  pub in_first : (from ≤ byte) × (byte < from + n)
+  pub in_second : (at ≤ byte) × (byte < at + m)
+
+-- the record of the slot k has no byte in common with those of the first n slots
+pub record IsApart (page : List ℕ) (k n : ℕ) : Type 0 where
+  pub no_byte : (j x : ℕ) → j < n → IsOf page j x → IsOf page k x → ⊥
+
+-- the records of the first n slots have no byte below this place
+pub record AreFrom (page : List ℕ) (n below : ℕ) : Type 0 where
+  pub from : (k x : ℕ) → k < n → IsOf page k x → below ≤ x
+
+-- the first n slots are right
+pub record AreRight (page : List ℕ) (n : ℕ) : Type 0 where
+  pub placed : (k : ℕ) → k < n → IsPlaced page k
+  pub apart : (k : ℕ) → k < n → IsApart page k k
+
+-- the head is right
+pub record HasRightHead (page : List ℕ) : Type 0 where
+  pub few : slots page ≤ 128
+  pub behind : 16 + 4 * slots page ≤ lowest page
+  pub ends : lowest page ≤ 4096

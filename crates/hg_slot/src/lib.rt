@@ -8,3 +8,4 @@ mod close;
 mod entry;
 mod find;
 pub mod slot;
+mod verify;
