@@ -4,3 +4,4 @@ pub mod Steps
 pub mod Finding
 pub mod Closing
 pub mod Verifying
+pub mod Overwriting

@@ -4,6 +4,7 @@ use Rattle.std.specs.Int.{w16, from_le_bytes, to_le_bytes}
 use Rattle.std.proofs.Common.{sym, ◌∙◌, ap, refl, arith, inl, inr}
 use Rattle.std.proofs.lemmas.Nat.{from_le_bytes-to_le_bytes_2}
 use Rattle.hg_base.specs.Parts.{below, above, within, length-written}
+use Rattle.std.proofs.lemmas.List.{take-append-drop}
 use borrow.Rule.Slice.PartMut.{put_mid}
 use Rattle.hg_slot.specs.Slotted.{number}
 use Rattle.hg_slot.specs.Writing.{Written, WritesNumber, WritesSlot, WritesBytes}
@@ -64,10 +65,15 @@ writes_slot a b c k from n v w =
       size = w.here;
     }
 
+nothing-written : (a x : List ℕ) (at n : ℕ) → n ≡ 0 → length x ≡ 0 → put_mid at n a x ≡ a
+nothing-written a [] at n e z = ap (λ k. put_mid at k a []) e ∙ take-append-drop at a
+nothing-written a (y ∷ x) at n e z = absurd (omega arith)
+
 pub writes_bytes : (a x : List ℕ) (at n : ℕ) → at + n ≤ length a → length x ≡ n → WritesBytes a (put_mid at n a x) at x
 writes_bytes a x at n l e = 
     let g : at + length x ≤ length a = omega arith in
     record {
     only = rw (← e) (written a x at (length x) g refl);
     here = rw (← e) (within a x at (length x) (omega arith) refl);
+    none = λ z. nothing-written a x at n (sym e ∙ z) z;
 }

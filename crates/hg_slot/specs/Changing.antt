@@ -1,6 +1,7 @@
 -- What the calls do to a slotted page, in the words of its slots. Our own rule.
 use Rattle.std.specs.Prelude.{◌≡◌, ◌≢◌, ℕ, ◌+◌, ◌<◌, ◌≤◌, max, List, length, Option, None, Some, Result, Ok, Err, slice_index}
 use Rattle.hg_slot.specs.Slotted.{slots, lowest, offset, size, record_at, lengths, IsSlotted}
+use borrow.Rule.Slice.PartMut.{put_mid}
 use Rattle.hg_base.specs.declared.Check.{Check}
 use Rattle.hg_base.specs.declared.Check.TheVariants.{Kind, Size, Frame, Link, Level, Order, RowBytes}
 
@@ -89,3 +90,10 @@ pub record IsFirstEmpty (page : List ℕ) (slot : ℕ) : Type 0 where
   pub is_near : slot ≤ slots page
   pub first : (k : ℕ) → k < slot → record_at page k ≢ None
   pub empty : record_at page slot ≡ None
+
+-- Bytes were written over a part of a record, from its byte `at` on.
+pub record Overwrites (old new : List ℕ) (slot at : ℕ) (bytes : List ℕ) : Type 0 where
+  pub slotted : IsSlotted new
+  pub here : (r : List ℕ) → record_at old slot ≡ Some r → record_at new slot ≡ Some (put_mid at (length bytes) r bytes)
+  pub others : KeepsOthers old new slot
+  pub count : slots new ≡ slots old

@@ -23,3 +23,4 @@ pub record WritesSlot (a b : List ℕ) (k from n : ℕ) : Type 0 where
 pub record WritesBytes (a b : List ℕ) (at : ℕ) (x : List ℕ) : Type 0 where
   pub only : Written a b at (length x)
   pub here : take (length x) (drop at b) ≡ x
+  pub none : length x ≡ 0 → b ≡ a

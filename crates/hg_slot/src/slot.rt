@@ -2,11 +2,11 @@
 //! that [`verify`] takes is a slotted page, and each call leaves it one.
 ghost use Rattle.std.specs.Prelude.{◌≡◌, ◌≢◌, ℕ, ◌+◌, ◌≤◌, ◌↔◌, Some, None, MatchOption, IfOk, OnErr, IsOk, length, take, drop};
 ghost use Rattle.hg_slot.specs.Slotted.{slots, record_at, offset, IsSlotted, IsRecord, Fits};
-ghost use Rattle.hg_slot.specs.Changing.{Empties, IsInserted, Verified};
+ghost use Rattle.hg_slot.specs.Changing.{Empties, IsInserted, Overwrites, Verified};
 
 use crate::change::{empty, fill, start};
 use crate::close::{fits, have_slot, head_with, make_room};
-use crate::entry::{number_at, COUNT, KIND, PAGE};
+use crate::entry::{number_at, set_bytes, COUNT, KIND, PAGE};
 use crate::find::{find, first_empty};
 use crate::verify::{are_right, has_right_head};
 use hg_base::{Check, NoRoom};
@@ -87,6 +87,17 @@ pub fn verify(page: &[u8]) -> Result<(), Check>
         return Err(Check::Size);
     }
     Ok(())
+}
+
+/// Writes bytes over a part of a record, from the record's byte `at` on.
+pub fn put(page: &mut [u8], slot: u16, at: u16, bytes: &[u8])
+    requires slotted { IsSlotted page.old }
+    requires inside { MatchOption (record_at page.old slot) ⊥ (λ r. at + length bytes.now ≤ length r) }
+    ensures { Overwrites page.old page.new slot at bytes.now }
+{
+    if let Some(entry) = find(page, slot as usize) {
+        set_bytes(page, entry.offset + at as usize, bytes);
+    }
 }
 
 /// Takes a record away. Its slot is empty then, and stays.

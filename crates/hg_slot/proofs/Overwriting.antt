@@ -1,0 +1,102 @@
+-- What a write over a part of a record does to the page.
+use Rattle.std.specs.Prelude.{◌≡◌, ◌≢◌, ℕ, ◌+◌, ◌-◌, ◌*◌, ◌<◌, ◌≤◌, ◌⊎◌, max, List, length, take, drop, slice_index, Option, None, Some, ◌++◌, MatchOption}
+use Rattle.std.proofs.Common.{sym, ◌∙◌, ap, refl, arith, inl, inr, length-take}
+use Rattle.std.proofs.Math.Nat.{eq-zero-or-pos}
+use Rattle.std.proofs.lemmas.List.{take-take, drop-take, drop-drop}
+use Rattle.std.proofs.lemmas.Bool.{cases_lt, cases_order, cases_eq}
+use borrow.Rule.Slice.PartMut.{put_mid}
+use Rattle.hg_base.specs.Parts.{parts}
+use Rattle.hg_slot.specs.Slotted.{number, slots, lowest, offset, size, body, record_at, IsOf, IsPlaced, IsSlotted, IsRecord}
+use Rattle.hg_slot.specs.Writing.{Written, WritesBytes}
+use Rattle.hg_slot.specs.Changing.{KeepsOthers, Overwrites}
+use Rattle.hg_slot.proofs.Numbers.{number-before, first-kept}
+use Rattle.hg_slot.proofs.Slots.{shows, shown-here, Changes, others-kept, slotted-after, placed-lower}
+use Rattle.hg_slot.proofs.Steps.{stands}
+
+-- a part of a list in which a part of it was written over: at bytes, then x, then rest bytes
+part-written : (a b x : List ℕ) (from at rest : ℕ) → WritesBytes a b (from + at) x
+    → take (at + (length x + rest)) (drop from b) ≡ put_mid at (length x) (take (at + (length x + rest)) (drop from a)) x
+part-written a b x from at rest w =
+    let n : ℕ = length x in
+    let tail : ℕ = from + at + n in
+    let left : take (at + (n + rest)) (drop from b) ≡ take at (drop from a) ++ (x ++ take rest (drop tail a)) =
+        parts b from at (n + rest)
+        ∙ ap (λ l. take at (drop from b) ++ l) (parts b (from + at) n rest)
+        ∙ ap (λ l. l ++ (take n (drop (from + at) b) ++ take rest (drop tail b))) (w.only.before from at (omega arith))
+        ∙ ap (λ l. take at (drop from a) ++ (l ++ take rest (drop tail b))) w.here
+        ∙ ap (λ l. take at (drop from a) ++ (x ++ l)) (w.only.behind tail rest (omega arith)) in
+    let whole : List ℕ = take (at + (n + rest)) (drop from a) in
+    let front : take at whole ≡ take at (drop from a) = take-take at (at + (n + rest)) (drop from a) (omega arith) in
+    let back : drop n (drop at whole) ≡ take rest (drop tail a) =
+        ap (drop n) (drop-take at (n + rest) (drop from a))
+        ∙ drop-take n rest (drop at (drop from a))
+        ∙ ap (take rest) (drop-drop n at (drop from a) ∙ drop-drop (at + n) from a)
+        ∙ (let e : from + (at + n) ≡ tail = omega arith in ap (λ m. take rest (drop m a)) e) in
+    left ∙ sym (ap (λ l. l ++ (x ++ drop n (drop at whole))) front ∙ ap (λ l. take at (drop from a) ++ (x ++ l)) back)
+
+-- another record's bytes are not of the part that was written
+beside : (a b x : List ℕ) (i k at : ℕ) → IsSlotted a → i < slots a → k < slots a → k ≢ i → WritesBytes a b at x
+    → offset a i ≤ at → at + length x ≤ offset a i + size a i → take (size a k) (drop (offset a k) b) ≡ body a k
+beside a b x i k at s hi hk n w l h =
+    elim (eq-zero-or-pos (length x)) [
+      | inl z ↦ ap (λ c. take (size a k) (drop (offset a k) c)) (w.none z)
+      | inr p ↦ elim (eq-zero-or-pos (size a k)) [
+        | inl z ↦ ap (λ m. take m (drop (offset a k) b)) z ∙ ap (λ m. take m (drop (offset a k) a)) (sym z)
+        | inr q ↦ elim (cases_lt at (offset a k + size a k)) [
+          | inr o ↦ w.only.before (offset a k) (size a k) o
+          | inl o ↦ elim (cases_lt (offset a k) (at + length x)) [
+            | inr u ↦ w.only.behind (offset a k) (size a k) u
+            | inl u ↦ absurd (s.apart k i (max at (offset a k)) hk hi n
+                (record { from = omega arith; to = omega arith }) (record { from = omega arith; to = omega arith })) ] ] ] ]
+
+pub overwritten : (a b x : List ℕ) (i from n at : ℕ) → IsSlotted a → IsRecord a i from n → at + length x ≤ n
+    → WritesBytes a b (from + at) x → Overwrites a b i at x
+overwritten a b x i from n at s r h w =
+    let hi = r.is_slot in
+    let f = r.from_is in
+    let g = r.size_is in
+    let behind = s.behind in
+    let whole = s.whole in
+    let full : 0 < offset a i = (shows a i (take n (drop from a)) r.shown).full in
+    let low : lowest a ≤ from = omega (arith, stands a i s hi full) in
+    let num : (m : ℕ) → m + 2 ≤ 16 + 4 * slots a → number b m ≡ number a m = λ m l.
+        number-before a b (from + at) (length x) m w.only (omega arith) in
+    let count : slots b ≡ slots a = num 2 (omega arith) in
+    let lowest_same : lowest b ≡ lowest a = num 4 (omega arith) in
+    let off : (k : ℕ) → k < slots a → offset b k ≡ offset a k = λ k l. num (16 + 4 * k) (omega arith) in
+    let siz : (k : ℕ) → k < slots a → size b k ≡ size a k = λ k l. num (18 + 4 * k) (omega arith) in
+    let c : Changes a b i = record {
+      same_length = w.only.same_length;
+      kind = first-kept a b (from + at) (length x) w.only (omega arith) (omega arith);
+      grown = omega arith;
+      one_more = λ k l d. omega arith;
+      lower = omega arith;
+      same_offset = λ k l d. off k l;
+      same_size = λ k l d. siz k l;
+      same_body = λ k l d p.
+          ap (λ m. take m (drop (offset b k) b)) (siz k l) ∙ ap (λ m. take (size a k) (drop m b)) (off k l)
+          ∙ beside a b x i k (from + at) s hi l d w (omega arith) (omega arith);
+    } in
+    record {
+      slotted = slotted-after a b i s c (omega (arith, s.few)) (omega arith)
+          (placed-lower a b i (off i hi) (siz i hi) (omega arith) (s.placed i hi))
+          (λ k y l d o q. s.apart k i y l hi d o
+              (record { from = omega (arith, q.from, off i hi); to = omega (arith, q.to, off i hi, siz i hi) }));
+      here = λ t e.
+          let rest : ℕ = n - (at + length x) in
+          let split : n ≡ at + (length x + rest) = omega arith in
+          let was : t ≡ take n (drop from a) = (let e' = r.shown in cc) in
+          let now : take n (drop from b) ≡ put_mid at (length x) t x =
+              ap (λ m. take m (drop from b)) split ∙ part-written a b x from at rest w
+              ∙ ap (λ m. put_mid at (length x) (take m (drop from a)) x) (sym split)
+              ∙ ap (λ l. put_mid at (length x) l x) (sym was) in
+          shown-here b i (omega arith) (omega (arith, off i hi))
+          ∙ ap Some (ap (λ m. take m (drop (offset b i) b)) (siz i hi ∙ sym g) ∙ ap (λ m. take n (drop m b)) (off i hi ∙ sym f) ∙ now);
+      others = others-kept a b i c;
+      count = count;
+    }
+
+pub within_record : (page : List ℕ) (k from n m : ℕ) → IsRecord page k from n → MatchOption (record_at page k) ⊥ (λ r. m ≤ length r) → m ≤ n
+within_record page k from n m r h =
+    let g : m ≤ length (take n (drop from page)) = rw r.shown at h in
+    omega (arith, length-take n (drop from page))
