@@ -27,7 +27,8 @@ copied_full a b c d x k r t f e = record {
   count = f.count ∙ t.count ∙ ap (λ n. n + 1) r.count;
   same = λ j h. elim (cases_eq j k) [
     | inl i ↦ ap (record_at d) i ∙ f.here ∙ sym e ∙ ap (record_at a) (sym i)
-    | inr n ↦ f.others j n ∙ t.all j ∙ r.same j (omega arith) ];
+    | inr n ↦ f.others j n ∙ t.all j ∙ r.same j (omega arith)
+  ];
   low = let n : length_of (record_at a k) ≡ length x = ap length_of e in
       omega (arith, lengths-next a k, f.low, t.low, r.low);
 }
@@ -38,7 +39,8 @@ copied_none a b c k r t e = record {
   count = t.count ∙ ap (λ n. n + 1) r.count;
   same = λ j h. elim (cases_eq j k) [
     | inl i ↦ ap (record_at c) i ∙ t.all k ∙ shown-out b k (omega (arith, r.count)) ∙ sym e ∙ ap (record_at a) (sym i)
-    | inr n ↦ t.all j ∙ r.same j (omega arith) ];
+    | inr n ↦ t.all j ∙ r.same j (omega arith)
+  ];
   low = let n : length_of (record_at a k) ≡ 0 = ap length_of e in
       omega (arith, lengths-next a k, t.low, r.low);
 }
@@ -56,7 +58,8 @@ rebuilt a b n e r = record {
   slotted = r.slotted;
   all = λ k. elim (cases_lt k n) [
     | inl h ↦ r.same k h
-    | inr h ↦ shown-out b k (omega (arith, r.count)) ∙ sym (shown-out a k (omega arith)) ];
+    | inr h ↦ shown-out b k (omega (arith, r.count)) ∙ sym (shown-out a k (omega arith))
+  ];
   count = r.count ∙ e;
   low = rw (← e) r.low;
 }
@@ -91,14 +94,16 @@ pub fits_there : (a : List ℕ) (slot n : ℕ) → IsSlotted a → IsFirstEmpty 
 fits_there a slot n s e few room =
     elim (cases_lt slot (slots a)) [
       | inl h ↦ inl (record { slot = slot; is_slot = h; empty = e.empty }, omega arith)
-      | inr h ↦ inr (omega (arith, e.is_near), omega (arith, e.is_near)) ]
+      | inr h ↦ inr (omega (arith, e.is_near), omega (arith, e.is_near))
+    ]
 
 pub fits_then : (a : List ℕ) (slot n : ℕ) → IsSlotted a → IsFirstEmpty a slot → Fits a n
     → (max (slots a) (slot + 1) ≤ 128) × (16 + 4 * max (slots a) (slot + 1) + lengths a (slots a) + n ≤ 4096)
 fits_then a slot n s e (inl (p, room)) =
     elim (cases_lt p.slot slot) [
       | inl h ↦ absurd (e.first p.slot h p.empty)
-      | inr h ↦ (omega (arith, p.is_slot, s.few), omega (arith, p.is_slot)) ]
+      | inr h ↦ (omega (arith, p.is_slot, s.few), omega (arith, p.is_slot))
+    ]
 fits_then a slot n s e (inr (few, room)) = (omega (arith, e.is_near), omega (arith, e.is_near))
 
 pub ruleset rebuilding = (room_to_add, room_to_fill, copied_none, rebuild_begins)

@@ -11,7 +11,7 @@ entry_full page k from h e n d =
     let s : record_at page k ≡ Some (body page k) = shown-here page k h (omega arith) in cc
 
 pub inside : (page : List ℕ) (k : ℕ) → IsSlotted page → k < slots page → offset page k + size page k ≤ 4096
-inside page k s h = elim (s.placed k h) [ | inl (z, y) ↦ omega arith | inr (f, t) ↦ t ]
+inside page k s h = elim (s.placed k h) [ inl (z, y) ↦ omega arith | inr (f, t) ↦ t ]
 
 pub is_record : (page : List ℕ) (k from n : ℕ) → IsSlotted page → k < slots page → from ≡ offset page k → n ≡ size page k → (from ≡ 0 → ⊥) → IsRecord page k from n
 is_record page k from n s h e f d = record {
@@ -28,11 +28,12 @@ length-shown page k s h =
     elim (s.placed k h) [
       | inl (z, y) ↦ ap length_of (shown-empty page k z) ∙ sym y
       | inr (f, t) ↦
-        let b = s.behind in
-        let w = s.whole in
-        ap length_of (shown-here page k h (omega arith))
-        ∙ (let d : length (drop (offset page k) page) ≡ length page - offset page k = length-drop (offset page k) page in
-           length-take (size page k) (drop (offset page k) page) ∙ omega arith) ]
+          let b = s.behind in
+          let w = s.whole in
+          ap length_of (shown-here page k h (omega arith))
+          ∙ (let d : length (drop (offset page k) page) ≡ length page - offset page k = length-drop (offset page k) page in
+          length-take (size page k) (drop (offset page k) page) ∙ omega arith)
+    ]
 
 pub lengths-next : (page : List ℕ) (n : ℕ) → lengths page (n + 1) ≡ lengths page n + length_of (record_at page n)
 unfolding lengths
@@ -56,4 +57,4 @@ lengths-up page m (suc n) =
 pub ruleset found = (shown-out, shown-empty, entry_full, is_record, lengths_more, lengths-none)
 
 pub is_slot_full : (page : List ℕ) (k : ℕ) → record_at page k ≢ None → k < slots page
-is_slot_full page k n = elim (cases_lt k (slots page)) [ | inl h ↦ h | inr h ↦ absurd (n (shown-out page k h)) ]
+is_slot_full page k n = elim (cases_lt k (slots page)) [ inl h ↦ h | inr h ↦ absurd (n (shown-out page k h)) ]

@@ -47,7 +47,7 @@ take-one (x ∷ a) h = refl
 pub first-kept : (a b : List ℕ) (at n : ℕ) → Written a b at n → 0 < length a → 1 ≤ at → slice_index b 0 ≡ slice_index a 0
 first-kept a b at n w l h =
     let e : slice_index b 0 ∷ [] ≡ slice_index a 0 ∷ [] =
-        sym (take-one b (omega (arith, w.same_length))) ∙ w.before 0 1 h ∙ take-one a l in
+    sym (take-one b (omega (arith, w.same_length))) ∙ w.before 0 1 h ∙ take-one a l in
     cc
 
 pub writes_number : (a : List ℕ) (at v : ℕ) → at + 2 ≤ length a → v < 2 ^ 16 → WritesNumber a (put_mid at 2 a (to_le_bytes w16 v)) at v
@@ -70,10 +70,10 @@ nothing-written a [] at n e z = ap (λ k. put_mid at k a []) e ∙ take-append-d
 nothing-written a (y ∷ x) at n e z = absurd (omega arith)
 
 pub writes_bytes : (a x : List ℕ) (at n : ℕ) → at + n ≤ length a → length x ≡ n → WritesBytes a (put_mid at n a x) at x
-writes_bytes a x at n l e = 
+writes_bytes a x at n l e =
     let g : at + length x ≤ length a = omega arith in
     record {
-    only = rw (← e) (written a x at (length x) g refl);
-    here = rw (← e) (within a x at (length x) (omega arith) refl);
-    none = λ z. nothing-written a x at n (sym e ∙ z) z;
-}
+      only = rw (← e) (written a x at (length x) g refl);
+      here = rw (← e) (within a x at (length x) (omega arith) refl);
+      none = λ z. nothing-written a x at n (sym e ∙ z) z;
+    }

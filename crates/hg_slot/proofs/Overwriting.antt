@@ -20,18 +20,18 @@ part-written a b x from at rest w =
     let n : ℕ = length x in
     let tail : ℕ = from + at + n in
     let left : take (at + (n + rest)) (drop from b) ≡ take at (drop from a) ++ (x ++ take rest (drop tail a)) =
-        parts b from at (n + rest)
-        ∙ ap (λ l. take at (drop from b) ++ l) (parts b (from + at) n rest)
-        ∙ ap (λ l. l ++ (take n (drop (from + at) b) ++ take rest (drop tail b))) (w.only.before from at (omega arith))
-        ∙ ap (λ l. take at (drop from a) ++ (l ++ take rest (drop tail b))) w.here
-        ∙ ap (λ l. take at (drop from a) ++ (x ++ l)) (w.only.behind tail rest (omega arith)) in
+    parts b from at (n + rest)
+    ∙ ap (λ l. take at (drop from b) ++ l) (parts b (from + at) n rest)
+    ∙ ap (λ l. l ++ (take n (drop (from + at) b) ++ take rest (drop tail b))) (w.only.before from at (omega arith))
+    ∙ ap (λ l. take at (drop from a) ++ (l ++ take rest (drop tail b))) w.here
+    ∙ ap (λ l. take at (drop from a) ++ (x ++ l)) (w.only.behind tail rest (omega arith)) in
     let whole : List ℕ = take (at + (n + rest)) (drop from a) in
     let front : take at whole ≡ take at (drop from a) = take-take at (at + (n + rest)) (drop from a) (omega arith) in
     let back : drop n (drop at whole) ≡ take rest (drop tail a) =
-        ap (drop n) (drop-take at (n + rest) (drop from a))
-        ∙ drop-take n rest (drop at (drop from a))
-        ∙ ap (take rest) (drop-drop n at (drop from a) ∙ drop-drop (at + n) from a)
-        ∙ (let e : from + (at + n) ≡ tail = omega arith in ap (λ m. take rest (drop m a)) e) in
+    ap (drop n) (drop-take at (n + rest) (drop from a))
+    ∙ drop-take n rest (drop at (drop from a))
+    ∙ ap (take rest) (drop-drop n at (drop from a) ∙ drop-drop (at + n) from a)
+    ∙ (let e : from + (at + n) ≡ tail = omega arith in ap (λ m. take rest (drop m a)) e) in
     left ∙ sym (ap (λ l. l ++ (x ++ drop n (drop at whole))) front ∙ ap (λ l. take at (drop from a) ++ (x ++ l)) back)
 
 -- another record's bytes are not of the part that was written
@@ -47,7 +47,11 @@ beside a b x i k at s hi hk n w l h =
           | inl o ↦ elim (cases_lt (offset a k) (at + length x)) [
             | inr u ↦ w.only.behind (offset a k) (size a k) u
             | inl u ↦ absurd (s.apart k i (max at (offset a k)) hk hi n
-                (record { from = omega arith; to = omega arith }) (record { from = omega arith; to = omega arith })) ] ] ] ]
+                (record { from = omega arith; to = omega arith }) (record { from = omega arith; to = omega arith }))
+          ]
+        ]
+      ]
+    ]
 
 pub overwritten : (a b x : List ℕ) (i from n at : ℕ) → IsSlotted a → IsRecord a i from n → at + length x ≤ n
     → WritesBytes a b (from + at) x → Overwrites a b i at x
@@ -60,7 +64,7 @@ overwritten a b x i from n at s r h w =
     let full : 0 < offset a i = (shows a i (take n (drop from a)) r.shown).full in
     let low : lowest a ≤ from = omega (arith, stands a i s hi full) in
     let num : (m : ℕ) → m + 2 ≤ 16 + 4 * slots a → number b m ≡ number a m = λ m l.
-        number-before a b (from + at) (length x) m w.only (omega arith) in
+    number-before a b (from + at) (length x) m w.only (omega arith) in
     let count : slots b ≡ slots a = num 2 (omega arith) in
     let lowest_same : lowest b ≡ lowest a = num 4 (omega arith) in
     let off : (k : ℕ) → k < slots a → offset b k ≡ offset a k = λ k l. num (16 + 4 * k) (omega arith) in
@@ -81,15 +85,15 @@ overwritten a b x i from n at s r h w =
       slotted = slotted-after a b i s c (omega (arith, s.few)) (omega arith)
           (placed-lower a b i (off i hi) (siz i hi) (omega arith) (s.placed i hi))
           (λ k y l d o q. s.apart k i y l hi d o
-              (record { from = omega (arith, q.from, off i hi); to = omega (arith, q.to, off i hi, siz i hi) }));
+          (record { from = omega (arith, q.from, off i hi); to = omega (arith, q.to, off i hi, siz i hi) }));
       here = λ t e.
           let rest : ℕ = n - (at + length x) in
           let split : n ≡ at + (length x + rest) = omega arith in
           let was : t ≡ take n (drop from a) = (let e' = r.shown in cc) in
           let now : take n (drop from b) ≡ put_mid at (length x) t x =
-              ap (λ m. take m (drop from b)) split ∙ part-written a b x from at rest w
-              ∙ ap (λ m. put_mid at (length x) (take m (drop from a)) x) (sym split)
-              ∙ ap (λ l. put_mid at (length x) l x) (sym was) in
+          ap (λ m. take m (drop from b)) split ∙ part-written a b x from at rest w
+          ∙ ap (λ m. put_mid at (length x) (take m (drop from a)) x) (sym split)
+          ∙ ap (λ l. put_mid at (length x) l x) (sym was) in
           shown-here b i (omega arith) (omega (arith, off i hi))
           ∙ ap Some (ap (λ m. take m (drop (offset b i) b)) (siz i hi ∙ sym g) ∙ ap (λ m. take n (drop m b)) (off i hi ∙ sym f) ∙ now);
       others = others-kept a b i c;

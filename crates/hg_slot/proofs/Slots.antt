@@ -40,26 +40,31 @@ shows page k r e =
       | inr h ↦ let n = shown-out page k h in absurd (cc)
       | inl h ↦ elim (eq-zero-or-pos (offset page k)) [
         | inl z ↦ let n = shown-empty page k z in absurd (cc)
-        | inr p ↦ let s = shown-here page k h p in record { is_slot = h; full = p; is_body = cc } ] ]
+        | inr p ↦ let s = shown-here page k h p in record { is_slot = h; full = p; is_body = cc }
+      ]
+    ]
 
 -- a slot that shows none
 pub shows-none : (page : List ℕ) (k : ℕ) → k < slots page → record_at page k ≡ None → offset page k ≡ 0
 shows-none page k h e =
     elim (eq-zero-or-pos (offset page k)) [
       | inl z ↦ z
-      | inr p ↦ let s = shown-here page k h p in absurd (cc) ]
+      | inr p ↦ let s = shown-here page k h p in absurd (cc)
+    ]
 
 -- two pages with the same entry and the same bytes there show the same
 pub shown-same : (a b : List ℕ) (k : ℕ) → (k < slots a → k < slots b) → (k < slots b → k < slots a)
     → (k < slots a → offset b k ≡ offset a k) → (k < slots a → 0 < offset a k → body b k ≡ body a k) → record_at b k ≡ record_at a k
 shown-same a b k f g o s =
     elim (cases_lt k (slots a)) [
-      | inr h ↦ shown-out b k (elim (cases_lt k (slots b)) [ | inl l ↦ let l' = g l in absurd (omega arith) | inr m ↦ m ]) ∙ sym (shown-out a k h)
+      | inr h ↦ shown-out b k (elim (cases_lt k (slots b)) [ inl l ↦ let l' = g l in absurd (omega arith) | inr m ↦ m ]) ∙ sym (shown-out a k h)
       | inl h ↦ elim (eq-zero-or-pos (offset a k)) [
         | inl z ↦ shown-empty b k (o h ∙ z) ∙ sym (shown-empty a k z)
         | inr p ↦
-          let e : offset b k ≡ offset a k = o h in
-          shown-here b k (f h) (omega arith) ∙ ap Some (s h p) ∙ sym (shown-here a k h p) ] ]
+            let e : offset b k ≡ offset a k = o h in
+            shown-here b k (f h) (omega arith) ∙ ap Some (s h p) ∙ sym (shown-here a k h p)
+      ]
+    ]
 
 -- a change of the slot i alone
 pub record Changes (a b : List ℕ) (i : ℕ) : Type 0 where
@@ -100,18 +105,21 @@ slotted-after a b i s c few behind here apart = record {
   placed = λ k h. elim (cases_eq k i) [
     | inl e ↦ rw e here
     | inr n ↦
-      let g = c.one_more k h n in
-      placed-lower a b k (c.same_offset k g n) (c.same_size k g n) c.lower (s.placed k g) ];
+        let g = c.one_more k h n in
+        placed-lower a b k (c.same_offset k g n) (c.same_size k g n) c.lower (s.placed k g)
+  ];
   apart = λ j k x hj hk n oj ok. elim (cases_eq j i) [
     | inl e ↦
-      let m : k ≢ i = λ d. n (e ∙ sym d) in
-      let gk = c.one_more k hk m in
-      apart k x gk m (moved-of a b i k x c gk m ok) (rw e at oj)
+        let m : k ≢ i = λ d. n (e ∙ sym d) in
+        let gk = c.one_more k hk m in
+        apart k x gk m (moved-of a b i k x c gk m ok) (rw e at oj)
     | inr m ↦
-      let gj = c.one_more j hj m in
-      elim (cases_eq k i) [
-        | inl d ↦ apart j x gj m (moved-of a b i j x c gj m oj) (rw d at ok)
-        | inr l ↦
-          let gk = c.one_more k hk l in
-          s.apart j k x gj gk n (moved-of a b i j x c gj m oj) (moved-of a b i k x c gk l ok) ] ];
+        let gj = c.one_more j hj m in
+        elim (cases_eq k i) [
+          | inl d ↦ apart j x gj m (moved-of a b i j x c gj m oj) (rw d at ok)
+          | inr l ↦
+              let gk = c.one_more k hk l in
+              s.apart j k x gj gk n (moved-of a b i j x c gj m oj) (moved-of a b i k x c gk l ok)
+        ]
+  ];
 }

@@ -15,14 +15,16 @@ offset-beside a b i k from n w h =
     elim (cases_order k i) [
       | inl e ↦ absurd (h e)
       | inr (inl l) ↦ number-before a b (16 + 4 * i) 4 (16 + 4 * k) w.only (omega arith)
-      | inr (inr g) ↦ number-behind a b (16 + 4 * i) 4 (16 + 4 * k) w.only (omega arith) ]
+      | inr (inr g) ↦ number-behind a b (16 + 4 * i) 4 (16 + 4 * k) w.only (omega arith)
+    ]
 
 pub size-beside : (a b : List ℕ) (i k from n : ℕ) → WritesSlot a b i from n → k ≢ i → size b k ≡ size a k
 size-beside a b i k from n w h =
     elim (cases_order k i) [
       | inl e ↦ absurd (h e)
       | inr (inl l) ↦ number-before a b (16 + 4 * i) 4 (18 + 4 * k) w.only (omega arith)
-      | inr (inr g) ↦ number-behind a b (16 + 4 * i) 4 (18 + 4 * k) w.only (omega arith) ]
+      | inr (inr g) ↦ number-behind a b (16 + 4 * i) 4 (18 + 4 * k) w.only (omega arith)
+    ]
 
 -- a record that stands from `low` on is as it was where the bytes from there on are
 pub body-same : (a b : List ℕ) (k low : ℕ) → offset b k ≡ offset a k → size b k ≡ size a k
@@ -32,11 +34,11 @@ body-same a b k low p q f h =
 
 -- a record that is not empty stands among the records
 pub stands : (a : List ℕ) (k : ℕ) → IsSlotted a → k < slots a → 0 < offset a k → lowest a ≤ offset a k
-stands a k s h p = elim (s.placed k h) [ | inl (z, y) ↦ absurd (omega arith) | inr (f, t) ↦ f ]
+stands a k s h p = elim (s.placed k h) [ inl (z, y) ↦ absurd (omega arith) | inr (f, t) ↦ f ]
 
 -- what holds a byte stands among the records
 pub stands-of : (a : List ℕ) (k x : ℕ) → IsSlotted a → k < slots a → IsOf a k x → lowest a ≤ x
-stands-of a k x s h o = elim (s.placed k h) [ | inl (z, y) ↦ absurd (omega (arith, o.from, o.to)) | inr (f, t) ↦ omega (arith, o.from) ]
+stands-of a k x s h o = elim (s.placed k h) [ inl (z, y) ↦ absurd (omega (arith, o.from, o.to)) | inr (f, t) ↦ omega (arith, o.from) ]
 
 -- a slot emptied
 pub emptied : (a b : List ℕ) (i : ℕ) → IsSlotted a → i < slots a → WritesSlot a b i 0 0 → Empties a b i
@@ -71,11 +73,11 @@ added a b c s few room w v =
     let whole = s.whole in
     let count : slots c ≡ slots a + 1 = v.here in
     let low : lowest c ≡ lowest a =
-        number-behind b c 2 2 4 v.only (omega arith) ∙ number-before a b (16 + 4 * slots a) 4 4 w.only (omega arith) in
+    number-behind b c 2 2 4 v.only (omega arith) ∙ number-before a b (16 + 4 * slots a) 4 4 w.only (omega arith) in
     let off : (k : ℕ) → k ≢ slots a → offset c k ≡ offset a k = λ k n.
-        number-behind b c 2 2 (16 + 4 * k) v.only (omega arith) ∙ offset-beside a b (slots a) k 0 0 w n in
+    number-behind b c 2 2 (16 + 4 * k) v.only (omega arith) ∙ offset-beside a b (slots a) k 0 0 w n in
     let siz : (k : ℕ) → k ≢ slots a → size c k ≡ size a k = λ k n.
-        number-behind b c 2 2 (18 + 4 * k) v.only (omega arith) ∙ size-beside a b (slots a) k 0 0 w n in
+    number-behind b c 2 2 (18 + 4 * k) v.only (omega arith) ∙ size-beside a b (slots a) k 0 0 w n in
     let zero_offset : offset c (slots a) ≡ 0 = number-behind b c 2 2 (16 + 4 * slots a) v.only (omega arith) ∙ w.offset in
     let zero_size : size c (slots a) ≡ 0 = number-behind b c 2 2 (18 + 4 * slots a) v.only (omega arith) ∙ w.size in
     let d : Changes a c (slots a) = record {
@@ -95,7 +97,8 @@ added a b c s few room w v =
           (λ k x l n o q. absurd (omega (arith, q.from, q.to)));
       all = λ k. elim (cases_eq k (slots a)) [
         | inl e ↦ shown-empty c k (ap (offset c) e ∙ zero_offset) ∙ sym (shown-out a k (omega arith))
-        | inr n ↦ others-kept a c (slots a) d k n ];
+        | inr n ↦ others-kept a c (slots a) d k n
+      ];
       count = count;
       low = low;
     }
@@ -108,15 +111,15 @@ filled a b c d x i at s h e room w v u =
     let len_b = w.only.same_length in
     let len_c = v.only.same_length in
     let count : slots d ≡ slots a =
-        number-before c d 4 2 2 u.only (omega arith) ∙ number-before b c (16 + 4 * i) 4 2 v.only (omega arith)
-        ∙ number-before a b at (length x) 2 w.only (omega arith) in
+    number-before c d 4 2 2 u.only (omega arith) ∙ number-before b c (16 + 4 * i) 4 2 v.only (omega arith)
+    ∙ number-before a b at (length x) 2 w.only (omega arith) in
     let low : lowest d ≡ at = u.here in
     let off : (k : ℕ) → k < slots a → k ≢ i → offset d k ≡ offset a k = λ k l n.
-        number-behind c d 4 2 (16 + 4 * k) u.only (omega arith) ∙ offset-beside b c i k at (length x) v n
-        ∙ number-before a b at (length x) (16 + 4 * k) w.only (omega arith) in
+    number-behind c d 4 2 (16 + 4 * k) u.only (omega arith) ∙ offset-beside b c i k at (length x) v n
+    ∙ number-before a b at (length x) (16 + 4 * k) w.only (omega arith) in
     let siz : (k : ℕ) → k < slots a → k ≢ i → size d k ≡ size a k = λ k l n.
-        number-behind c d 4 2 (18 + 4 * k) u.only (omega arith) ∙ size-beside b c i k at (length x) v n
-        ∙ number-before a b at (length x) (18 + 4 * k) w.only (omega arith) in
+    number-behind c d 4 2 (18 + 4 * k) u.only (omega arith) ∙ size-beside b c i k at (length x) v n
+    ∙ number-before a b at (length x) (18 + 4 * k) w.only (omega arith) in
     let off_here : offset d i ≡ at = number-behind c d 4 2 (16 + 4 * i) u.only (omega arith) ∙ v.offset in
     let siz_here : size d i ≡ length x = number-behind c d 4 2 (18 + 4 * i) u.only (omega arith) ∙ v.size in
     let t : Changes a d i = record {

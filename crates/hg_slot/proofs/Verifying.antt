@@ -21,7 +21,8 @@ pub apart_next : (page : List ℕ) (k j : ℕ) → IsApart page k j → (SharesB
 apart_next page k j a n = record {
   no_byte = λ i x h p q. elim (cases_eq i j) [
     | inl e ↦ let o : IsOf page j x = rw e at p in n (record { byte = x; in_first = (o.from, o.to); in_second = (q.from, q.to) })
-    | inr d ↦ a.no_byte i x (omega arith) p q ];
+    | inr d ↦ a.no_byte i x (omega arith) p q
+  ];
 }
 
 pub apart_step : (page : List ℕ) (k j from n at m : ℕ) → IsApart page k j → from ≡ offset page j → n ≡ size page j → at ≡ offset page k → m ≡ size page k
@@ -39,7 +40,8 @@ pub from_next : (page : List ℕ) (k below low : ℕ) → AreFrom page k below �
 from_next page k below low f l n = record {
   from = λ j x h p. elim (cases_eq j k) [
     | inl e ↦ let o : IsOf page k x = rw e at p in n x o
-    | inr d ↦ let b = f.from j x (omega arith) p in omega arith ];
+    | inr d ↦ let b = f.from j x (omega arith) p in omega arith
+  ];
 }
 
 pub from_empty : (page : List ℕ) (k below : ℕ) → AreFrom page k below → size page k ≡ 0 → AreFrom page (k + 1) below
@@ -59,8 +61,8 @@ pub ruleset lowering = (from_empty, from_lower)
 
 pub next_right : (page : List ℕ) (n : ℕ) → AreRight page n → IsPlaced page n → IsApart page n n → AreRight page (n + 1)
 next_right page n r p a = record {
-  placed = λ k h. elim (cases_eq k n) [ | inl e ↦ rw e p | inr d ↦ r.placed k (omega arith) ];
-  apart = λ k h. elim (cases_eq k n) [ | inl e ↦ rw e a | inr d ↦ r.apart k (omega arith) ];
+  placed = λ k h. elim (cases_eq k n) [ inl e ↦ rw e p | inr d ↦ r.placed k (omega arith) ];
+  apart = λ k h. elim (cases_eq k n) [ inl e ↦ rw e a | inr d ↦ r.apart k (omega arith) ];
 }
 
 pub none_right : (page : List ℕ) → AreRight page 0
@@ -82,7 +84,8 @@ slotted page w k h r = record {
   apart = λ i j x l m n p q. elim (cases_order i j) [
     | inl e ↦ absurd (n e)
     | inr (inl b) ↦ (r.apart j m).no_byte i x b p q
-    | inr (inr b) ↦ (r.apart i l).no_byte j x b q p ];
+    | inr (inr b) ↦ (r.apart i l).no_byte j x b q p
+  ];
 }
 
 pub right_head : (page : List ℕ) → IsSlotted page → HasRightHead page

@@ -3,7 +3,7 @@ ghost use Rattle.std.specs.Prelude.{◌≡◌, ℕ, ◌+◌, ◌*◌, ◌≤◌,
 ghost use Rattle.hg_slot.specs.Slotted.{slots, lowest, record_at, IsSlotted};
 ghost use Rattle.hg_slot.specs.Changing.{Starts, Fills, Empties, AddsSlot};
 
-use crate::entry::{number_at, set_bytes, set_entry, set_number, COUNT, KIND, LOWEST};
+use crate::entry::{COUNT, KIND, LOWEST, number_at, set_bytes, set_entry, set_number};
 
 /// Makes an empty page of any bytes.
 pub fn start(page: &mut [u8])

@@ -4,7 +4,7 @@ ghost use Rattle.hg_slot.specs.Slotted.{slots, lowest, lengths, used, Fits, IsSl
 ghost use Rattle.hg_slot.specs.Changing.{Rebuilds, ClosesUp, MakesRoom, HasSlot, IsFirstEmpty};
 
 use crate::change::{add_slot, fill, start};
-use crate::entry::{number_at, COUNT, HEAD, LOWEST, MAX_SLOTS, PAGE};
+use crate::entry::{COUNT, HEAD, LOWEST, MAX_SLOTS, PAGE, number_at};
 use crate::find::{find, total_length};
 
 /// Adds a slot to a page that is built, with what the slot of this number shows on the other page.

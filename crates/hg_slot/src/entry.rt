@@ -7,12 +7,16 @@ use hg_base::{get_u16, put_u16};
 
 /// Where the number of slots, the lowest byte of the records, and the slots stand.
 pub const COUNT: usize = 2;
+
 pub const LOWEST: usize = 4;
+
 pub const HEAD: usize = 16;
 
 /// The first byte of a slotted page, the bytes of a page, and how many slots it may have.
 pub const KIND: u8 = 0x53;
+
 pub const PAGE: usize = 4096;
+
 pub const MAX_SLOTS: usize = 128;
 
 /// The number that the two bytes from `at` on spell.

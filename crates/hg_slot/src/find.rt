@@ -3,7 +3,7 @@ ghost use Rattle.std.specs.Prelude.{◌≡◌, ℕ, ◌+◌, ◌*◌, ◌≤◌,
 ghost use Rattle.hg_slot.specs.Slotted.{slots, record_at, lengths, IsSlotted, IsRecord};
 ghost use Rattle.hg_slot.specs.Changing.{IsFirstEmpty};
 
-use crate::entry::{entry_at, number_at, Entry, COUNT};
+use crate::entry::{COUNT, Entry, entry_at, number_at};
 
 /// The entry of the record that the page shows at a slot.
 #[tactic(auto, using(crate::proofs::Finding::found))]

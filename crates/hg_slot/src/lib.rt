@@ -8,4 +8,6 @@ mod close;
 mod entry;
 mod find;
 pub mod slot;
+#[cfg(test)]
+mod tests;
 mod verify;

@@ -6,7 +6,7 @@ ghost use Rattle.hg_slot.specs.Changing.{Empties, IsInserted, Overwrites, Verifi
 
 use crate::change::{empty, fill, start};
 use crate::close::{fits, have_slot, head_with, make_room};
-use crate::entry::{number_at, set_bytes, COUNT, KIND, PAGE};
+use crate::entry::{COUNT, KIND, PAGE, number_at, set_bytes};
 use crate::find::{find, first_empty};
 use crate::verify::{are_right, has_right_head};
 use hg_base::{Check, NoRoom};

@@ -2,7 +2,7 @@
 ghost use Rattle.std.specs.Prelude.{◌≡◌, ◌+◌, ◌*◌, ◌^◌, ◌≤◌, ◌<◌, ◌↔◌, IsTrue, length};
 ghost use Rattle.hg_slot.specs.Slotted.{slots, IsPlaced, IsApart, AreFrom, AreRight, SharesByte, HasRightHead};
 
-use crate::entry::{entry_at, number_at, Entry, COUNT, HEAD, LOWEST, MAX_SLOTS, PAGE};
+use crate::entry::{COUNT, Entry, HEAD, LOWEST, MAX_SLOTS, PAGE, entry_at, number_at};
 
 /// Whether the number of slots and the lowest byte of the records are in their ranges.
 pub fn has_right_head(page: &[u8]) -> bool

@@ -11,7 +11,7 @@ loop-before-preserved c =
     (λ s. let t = c.if-shares_byte.ensures.1 s in absurd (search rules))
 
 pub returns : goal.returns
-returns c = 
-   let e : c.loop-before.before ≡ c.args.slot = omega arith in
-   let a : IsApart c.args.page.now c.args.slot c.args.slot = rw e at c.loop-before.invariant in
-   ((λ t. a), (λ t. search rules))
+returns c =
+    let e : c.loop-before.before ≡ c.args.slot = omega arith in
+    let a : IsApart c.args.page.now c.args.slot c.args.slot = rw e at c.loop-before.invariant in
+    ((λ t. a), (λ t. search rules))
