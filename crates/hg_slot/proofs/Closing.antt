@@ -23,6 +23,7 @@ room_to_fill a b c k n s h u r d e = omega (arith, up_to a k h, length-shown a k
 
 pub copied_full : (a b c d x : List ℕ) (k : ℕ) → Rebuilds a b k → AddsSlot b c → Fills c d k x → record_at a k ≡ Some x → Rebuilds a d (k + 1)
 copied_full a b c d x k r t f e = record {
+  clean = f.clean (t.clean r.clean);
   slotted = f.slotted;
   count = f.count ∙ t.count ∙ ap (λ n. n + 1) r.count;
   same = λ j h. elim (cases_eq j k) [
@@ -35,6 +36,7 @@ copied_full a b c d x k r t f e = record {
 
 pub copied_none : (a b c : List ℕ) (k : ℕ) → Rebuilds a b k → AddsSlot b c → record_at a k ≡ None → Rebuilds a c (k + 1)
 copied_none a b c k r t e = record {
+  clean = t.clean r.clean;
   slotted = t.slotted;
   count = t.count ∙ ap (λ n. n + 1) r.count;
   same = λ j h. elim (cases_eq j k) [
@@ -47,6 +49,7 @@ copied_none a b c k r t e = record {
 
 pub rebuild_begins : (a b : List ℕ) → Starts b → Rebuilds a b 0
 rebuild_begins a b s = record {
+  clean = s.clean;
   slotted = s.slotted;
   count = s.none;
   same = λ k h. absurd (omega arith);
@@ -55,6 +58,7 @@ rebuild_begins a b s = record {
 
 pub rebuilt : (a b : List ℕ) (n : ℕ) → n ≡ slots a → Rebuilds a b n → ClosesUp a b
 rebuilt a b n e r = record {
+  clean = r.clean;
   slotted = r.slotted;
   all = λ k. elim (cases_lt k n) [
     | inl h ↦ r.same k h
@@ -66,21 +70,22 @@ rebuilt a b n e r = record {
 
 -- room that is there, and room that closing up makes
 pub room_there : (a : List ℕ) (need : ℕ) → IsSlotted a → need ≤ lowest a → MakesRoom a a need
-room_there a need s h = record { slotted = s; all = λ k. refl; count = refl; room = h }
+room_there a need s h = record { clean = λ z. z; slotted = s; all = λ k. refl; count = refl; room = h }
 
 pub room_made : (a b : List ℕ) (need : ℕ) → need + lengths a (slots a) ≤ 4096 → ClosesUp a b → MakesRoom a b need
-room_made a b need h c = record { slotted = c.slotted; all = c.all; count = c.count; room = omega (arith, c.low) }
+room_made a b need h c = record { clean = λ z. c.clean; slotted = c.slotted; all = c.all; count = c.count; room = omega (arith, c.low) }
 
 -- a slot that is there, and one that was added
 pub slot_there : (a : List ℕ) (slot : ℕ) → IsSlotted a → slot < slots a → HasSlot a a slot
-slot_there a slot s h = record { slotted = s; all = λ k. refl; count = omega arith; low = refl }
+slot_there a slot s h = record { clean = λ z. z; slotted = s; all = λ k. refl; count = omega arith; low = refl }
 
 pub slot_added : (a b : List ℕ) (slot : ℕ) → slot ≡ slots a → AddsSlot a b → HasSlot a b slot
-slot_added a b slot e t = record { slotted = t.slotted; all = t.all; count = omega (arith, t.count); low = t.low }
+slot_added a b slot e t = record { clean = t.clean; slotted = t.slotted; all = t.all; count = omega (arith, t.count); low = t.low }
 
 -- what was put into the page that has the room and the slot was inserted
 pub inserted : (a b c d x : List ℕ) (slot need : ℕ) → IsFirstEmpty a slot → MakesRoom a b need → HasSlot b c slot → Fills c d slot x → IsInserted a d slot x
 inserted a b c d x slot need e m h f = record {
+  clean = λ z. f.clean (h.clean (m.clean z));
   was_empty = e.empty;
   first = e.first;
   here = f.here;
@@ -106,7 +111,10 @@ fits_then a slot n s e (inl (p, room)) =
     ]
 fits_then a slot n s e (inr (few, room)) = (omega (arith, e.is_near), omega (arith, e.is_near))
 
-pub ruleset rebuilding = (room_to_add, room_to_fill, copied_none, rebuild_begins)
+pub new_empty : (a b c : List ℕ) (k : ℕ) → Rebuilds a b k → AddsSlot b c → record_at c k ≡ None
+new_empty a b c k r t = t.all k ∙ shown-out b k (omega (arith, r.count))
+
+pub ruleset rebuilding = (new_empty, room_to_add, room_to_fill, copied_none, rebuild_begins)
 
 pub ruleset making_room = (room_there, room_made, slot_there, slot_added)
 
@@ -118,4 +126,7 @@ fits_few a slot n s e f = (fits_then a slot n s e f).0
 pub fits_room : (a : List ℕ) (slot n : ℕ) → IsSlotted a → IsFirstEmpty a slot → Fits a n → 16 + 4 * max (slots a) (slot + 1) + n + lengths a (slots a) ≤ 4096
 fits_room a slot n s e f = omega (arith, (fits_then a slot n s e f).1)
 
-pub ruleset inserting = (fits_few, fits_room, inserted)
+pub still_empty : (a b c : List ℕ) (slot need : ℕ) → IsFirstEmpty a slot → MakesRoom a b need → HasSlot b c slot → record_at c slot ≡ None
+still_empty a b c slot need e m h = h.all slot ∙ m.all slot ∙ e.empty
+
+pub ruleset inserting = (still_empty, fits_few, fits_room, inserted)

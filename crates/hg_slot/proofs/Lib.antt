@@ -1,5 +1,6 @@
 pub mod Numbers
 pub mod Slots
+pub mod Clean
 pub mod Steps
 pub mod Finding
 pub mod Closing

@@ -7,7 +7,7 @@ use Rattle.hg_base.specs.Parts.{below, above, within, length-written}
 use Rattle.std.proofs.lemmas.List.{take-append-drop}
 use borrow.Rule.Slice.PartMut.{put_mid}
 use Rattle.hg_slot.specs.Slotted.{number}
-use Rattle.hg_slot.specs.Writing.{Written, WritesNumber, WritesSlot, WritesBytes}
+use Rattle.hg_slot.specs.Writing.{Written, WritesNumber, WritesSlot, WritesBytes, WritesZeros}
 
 pub written : (a x : List ℕ) (at n : ℕ) → at + n ≤ length a → length x ≡ n → Written a (put_mid at n a x) at n
 written a x at n l e = record {
@@ -77,3 +77,6 @@ writes_bytes a x at n l e =
       here = rw (← e) (within a x at (length x) (omega arith) refl);
       none = λ z. nothing-written a x at n (sym e ∙ z) z;
     }
+
+pub writes_zeros : (a x : List ℕ) (at n : ℕ) → at + n ≤ length a → length x ≡ n → ((k : ℕ) → slice_index x k ≡ 0) → WritesZeros a (put_mid at n a x) at n
+writes_zeros a x at n l e z = record { zeros = x; long = e; all = z; write = writes_bytes a x at n l e }

@@ -7,11 +7,12 @@ use Rattle.std.proofs.lemmas.Bool.{cases_lt, cases_order, cases_eq}
 use borrow.Rule.Slice.PartMut.{put_mid}
 use Rattle.hg_base.specs.Parts.{parts}
 use Rattle.hg_slot.specs.Slotted.{number, slots, lowest, offset, size, body, record_at, IsOf, IsPlaced, IsSlotted, IsRecord}
-use Rattle.hg_slot.specs.Writing.{Written, WritesBytes}
-use Rattle.hg_slot.specs.Changing.{KeepsOthers, Overwrites}
+use Rattle.hg_slot.specs.Writing.{Written, WritesBytes, WritesSlot, WritesZeros}
+use Rattle.hg_slot.specs.Changing.{KeepsOthers, Overwrites, Empties}
 use Rattle.hg_slot.proofs.Numbers.{number-before, first-kept}
-use Rattle.hg_slot.proofs.Slots.{shows, shown-here, Changes, others-kept, slotted-after, placed-lower}
-use Rattle.hg_slot.proofs.Steps.{stands}
+use Rattle.hg_slot.proofs.Clean.{same-byte, byte-in, slot_beside, clean_after}
+use Rattle.hg_slot.proofs.Slots.{shows, shown-here, shown-empty, Changes, others-kept, slotted-after, placed-lower}
+use Rattle.hg_slot.proofs.Steps.{stands, offset-beside, size-beside}
 
 -- a part of a list in which a part of it was written over: at bytes, then x, then rest bytes
 part-written : (a b x : List ℕ) (from at rest : ℕ) → WritesBytes a b (from + at) x
@@ -53,6 +54,18 @@ beside a b x i k at s hi hk n w l h =
       ]
     ]
 
+-- an unused byte is beside each part of a record
+part-beside : (b : List ℕ) (i x n at m : ℕ) → i < slots b → offset b i ≤ at → at + m ≤ offset b i + size b i
+    → ((k : ℕ) → k < slots b → IsOf b k x → ⊥) → (x < at) ⊎ (at + m ≤ x)
+part-beside b i x n at m l e f none =
+    elim (cases_lt x at) [
+      | inl h ↦ inl h
+      | inr h ↦ elim (cases_lt x (at + m)) [
+        | inr g ↦ inr g
+        | inl g ↦ absurd (none i l (record { from = omega arith; to = omega arith }))
+      ]
+    ]
+
 pub overwritten : (a b x : List ℕ) (i from n at : ℕ) → IsSlotted a → IsRecord a i from n → at + length x ≤ n
     → WritesBytes a b (from + at) x → Overwrites a b i at x
 overwritten a b x i from n at s r h w =
@@ -82,6 +95,10 @@ overwritten a b x i from n at s r h w =
           ∙ beside a b x i k (from + at) s hi l d w (omega arith) (omega arith);
     } in
     record {
+      clean = clean_after a b i s c (λ y u. inr (
+        same-byte a b (from + at) (length x) y w.only (part-beside b i y n (from + at) (length x) (omega arith) (omega (arith, off i hi)) (omega (arith, siz i hi, off i hi)) u.no_record),
+        λ l o. u.no_record i (omega arith) (record { from = omega (arith, o.from, off i hi); to = omega (arith, o.to, off i hi, siz i hi) }),
+      ));
       slotted = slotted-after a b i s c (omega (arith, s.few)) (omega arith)
           (placed-lower a b i (off i hi) (siz i hi) (omega arith) (s.placed i hi))
           (λ k y l d o q. s.apart k i y l hi d o
@@ -97,6 +114,70 @@ overwritten a b x i from n at s r h w =
           shown-here b i (omega arith) (omega (arith, off i hi))
           ∙ ap Some (ap (λ m. take m (drop (offset b i) b)) (siz i hi ∙ sym g) ∙ ap (λ m. take n (drop m b)) (off i hi ∙ sym f) ∙ now);
       others = others-kept a b i c;
+      count = count;
+    }
+
+-- a byte that is beside the slot is zero, or as it was and none of the record
+erased : (a b c : List ℕ) (i from n x : ℕ) → from ≡ offset a i → n ≡ size a i → 20 + 4 * i ≤ from → WritesZeros a b from n → WritesSlot b c i 0 0
+    → (x < 16 + 4 * i) ⊎ (16 + 4 * i + 4 ≤ x)
+    → (slice_index c x ≡ 0) ⊎ ((slice_index c x ≡ slice_index a x) × (i < slots a → IsOf a i x → ⊥))
+erased a b c i from n x f g h z v d =
+    let same = same-byte b c (16 + 4 * i) 4 x v.only d in
+    let w : WritesBytes a b from z.zeros = z.write in
+    let long : length z.zeros ≡ n = z.long in
+    elim (cases_lt x from) [
+      | inl l ↦ inr (same ∙ same-byte a b from (length z.zeros) x w.only (inl l), λ j o. absurd (omega (arith, o.from)))
+      | inr l ↦ elim (cases_lt x (from + n)) [
+        | inr m ↦ inr (same ∙ same-byte a b from (length z.zeros) x w.only (inr (omega arith)), λ j o. absurd (omega (arith, o.to)))
+        | inl m ↦
+            let e : from + (x - from) ≡ x = omega arith in
+            inl (same ∙ ap (slice_index b) (sym e) ∙ sym (byte-in b from (length z.zeros) (x - from) (omega arith))
+            ∙ ap (λ l. slice_index l (x - from)) w.here ∙ z.all (x - from))
+      ]
+    ]
+
+-- a record's bytes made zero, and its slot emptied
+pub removed : (a b c : List ℕ) (i from n : ℕ) → IsSlotted a → IsRecord a i from n → WritesZeros a b from n → WritesSlot b c i 0 0 → Empties a c i
+removed a b c i from n s r z v =
+    let hi = r.is_slot in
+    let f = r.from_is in
+    let g = r.size_is in
+    let behind = s.behind in
+    let whole = s.whole in
+    let w : WritesBytes a b from z.zeros = z.write in
+    let long : length z.zeros ≡ n = z.long in
+    let len_b = w.only.same_length in
+    let full : 0 < offset a i = (shows a i (take n (drop from a)) r.shown).full in
+    let low : lowest a ≤ from = omega (arith, stands a i s hi full) in
+    let head : (m : ℕ) → m + 2 ≤ 16 → number c m ≡ number a m = λ m l.
+    number-before b c (16 + 4 * i) 4 m v.only (omega arith) ∙ number-before a b from (length z.zeros) m w.only (omega arith) in
+    let count : slots c ≡ slots a = head 2 (omega arith) in
+    let lowest_same : lowest c ≡ lowest a = head 4 (omega arith) in
+    let off : (k : ℕ) → k < slots a → k ≢ i → offset c k ≡ offset a k = λ k l d.
+    offset-beside b c i k 0 0 v d ∙ number-before a b from (length z.zeros) (16 + 4 * k) w.only (omega arith) in
+    let siz : (k : ℕ) → k < slots a → k ≢ i → size c k ≡ size a k = λ k l d.
+    size-beside b c i k 0 0 v d ∙ number-before a b from (length z.zeros) (18 + 4 * k) w.only (omega arith) in
+    let t : Changes a c i = record {
+      same_length = v.only.same_length ∙ len_b;
+      kind = first-kept b c (16 + 4 * i) 4 v.only (omega arith) (omega arith)
+          ∙ first-kept a b from (length z.zeros) w.only (omega arith) (omega arith);
+      grown = omega arith;
+      one_more = λ k l d. omega arith;
+      lower = omega arith;
+      same_offset = off;
+      same_size = siz;
+      same_body = λ k l d p.
+          ap (λ m. take m (drop (offset c k) c)) (siz k l d) ∙ ap (λ m. take (size a k) (drop m c)) (off k l d)
+          ∙ v.only.behind (offset a k) (size a k) (omega (arith, stands a k s l p))
+          ∙ beside a b z.zeros i k from s hi l d w (omega arith) (omega arith);
+    } in
+    record {
+      clean = clean_after a c i s t (λ x u. erased a b c i from n x f g (omega arith) z v
+          (slot_beside a c i x (omega arith) u.no_slot));
+      slotted = slotted-after a c i s t (omega (arith, s.few)) (omega arith) (inl (v.offset, v.size))
+          (λ k x l d o q. absurd (omega (arith, q.from, q.to, v.offset, v.size)));
+      here = shown-empty c i v.offset;
+      others = others-kept a c i t;
       count = count;
     }
 

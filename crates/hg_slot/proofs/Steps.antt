@@ -1,12 +1,13 @@
 -- The steps of a change: a record put into an empty slot, a slot emptied, a slot added.
 use Rattle.std.specs.Prelude.{◌≡◌, ◌≢◌, ℕ, ◌+◌, ◌*◌, ◌<◌, ◌≤◌, ◌⊎◌, List, length, take, drop, slice_index, slice_set, Option, None, Some}
-use Rattle.std.proofs.Common.{sym, ◌∙◌, ap, refl, arith, inl, inr, get_or-set_same}
+use Rattle.std.proofs.Common.{sym, ◌∙◌, ap, refl, arith, inl, inr, get_or-set_same, get_or-set_other}
 use Rattle.std.proofs.Math.ListN.{length-set}
 use Rattle.std.proofs.lemmas.Bool.{cases_lt, cases_order, cases_eq}
 use Rattle.hg_slot.specs.Slotted.{number, slots, lowest, offset, size, body, record_at, IsOf, IsPlaced, IsSlotted}
 use Rattle.hg_slot.specs.Writing.{Written, WritesNumber, WritesSlot, WritesBytes}
 use Rattle.hg_slot.specs.Changing.{KeepsOthers, Starts, Fills, Empties, AddsSlot}
 use Rattle.hg_slot.proofs.Numbers.{number-before, number-behind, first-kept}
+use Rattle.hg_slot.proofs.Clean.{same-byte, head_two, head_four, slot_beside, outside, clean_after, empty-size}
 use Rattle.hg_slot.proofs.Slots.{shown-empty, shown-here, shown-out, shows-none, Changes, others-kept, slotted-after}
 
 -- the entries beside a slot that was written
@@ -40,31 +41,6 @@ stands a k s h p = elim (s.placed k h) [ inl (z, y) ↦ absurd (omega arith) | i
 pub stands-of : (a : List ℕ) (k x : ℕ) → IsSlotted a → k < slots a → IsOf a k x → lowest a ≤ x
 stands-of a k x s h o = elim (s.placed k h) [ inl (z, y) ↦ absurd (omega (arith, o.from, o.to)) | inr (f, t) ↦ omega (arith, o.from) ]
 
--- a slot emptied
-pub emptied : (a b : List ℕ) (i : ℕ) → IsSlotted a → i < slots a → WritesSlot a b i 0 0 → Empties a b i
-emptied a b i s h w =
-    let few = s.few in let behind = s.behind in let whole = s.whole in
-    let low : lowest b ≡ lowest a = number-before a b (16 + 4 * i) 4 4 w.only (omega arith) in
-    let count : slots b ≡ slots a = number-before a b (16 + 4 * i) 4 2 w.only (omega arith) in
-    let c : Changes a b i = record {
-      same_length = w.only.same_length;
-      kind = first-kept a b (16 + 4 * i) 4 w.only (omega arith) (omega arith);
-      grown = omega arith;
-      one_more = λ k l n. omega arith;
-      lower = omega arith;
-      same_offset = λ k l n. offset-beside a b i k 0 0 w n;
-      same_size = λ k l n. size-beside a b i k 0 0 w n;
-      same_body = λ k l n p. body-same a b k (lowest a) (offset-beside a b i k 0 0 w n) (size-beside a b i k 0 0 w n)
-          (λ m t g. w.only.behind m t (omega arith)) (stands a k s l p);
-    } in
-    record {
-      slotted = slotted-after a b i s c (omega arith) (omega arith) (inl (w.offset, w.size))
-          (λ k x l n o q. absurd (omega (arith, q.from, q.to, w.offset, w.size)));
-      here = shown-empty b i w.offset;
-      others = others-kept a b i c;
-      count = count;
-    }
-
 -- a slot added
 pub added : (a b c : List ℕ) → IsSlotted a → slots a < 128 → 20 + 4 * slots a ≤ lowest a
     → WritesSlot a b (slots a) 0 0 → WritesNumber b c 2 (slots a + 1) → AddsSlot a c
@@ -93,6 +69,11 @@ added a b c s few room w v =
           (λ m t g. v.only.behind m t (omega arith) ∙ w.only.behind m t (omega arith)) (stands a k s l p);
     } in
     record {
+      clean = clean_after a c (slots a) s d (λ x u. inr (
+        same-byte b c 2 2 x v.only (head_two x u.no_head)
+            ∙ same-byte a b (16 + 4 * slots a) 4 x w.only (slot_beside a c (slots a) x (omega arith) u.no_slot),
+        λ l o. absurd (omega arith),
+      ));
       slotted = slotted-after a c (slots a) s d (omega arith) (omega arith) (inl (zero_offset, zero_size))
           (λ k x l n o q. absurd (omega (arith, q.from, q.to)));
       all = λ k. elim (cases_eq k (slots a)) [
@@ -103,10 +84,17 @@ added a b c s few room w v =
       low = low;
     }
 
+pub added_behind : (a b c : List ℕ) (i : ℕ) → i ≡ slots a → IsSlotted a → slots a < 128 → 20 + 4 * slots a ≤ lowest a
+    → WritesSlot a b i 0 0 → WritesNumber b c 2 (i + 1) → AddsSlot a c
+added_behind a b c i e s few room w v =
+    let w' : WritesSlot a b (slots a) 0 0 = rw e at w in
+    let v' : WritesNumber b c 2 (slots a + 1) = rw e at v in
+    added a b c s few room w' v'
+
 -- a record put into an empty slot, right below the records
-pub filled : (a b c d x : List ℕ) (i at : ℕ) → IsSlotted a → i < slots a → at + length x ≡ lowest a → 16 + 4 * slots a ≤ at
+pub filled : (a b c d x : List ℕ) (i at : ℕ) → IsSlotted a → i < slots a → offset a i ≡ 0 → at + length x ≡ lowest a → 16 + 4 * slots a ≤ at
     → WritesBytes a b at x → WritesSlot b c i at (length x) → WritesNumber c d 4 at → Fills a d i x
-filled a b c d x i at s h e room w v u =
+filled a b c d x i at s h zero e room w v u =
     let whole = s.whole in let ends = s.ends in
     let len_b = w.only.same_length in
     let len_c = v.only.same_length in
@@ -137,6 +125,12 @@ filled a b c d x i at s h e room w v u =
           (stands a k s l p);
     } in
     record {
+      clean = clean_after a d i s t (λ y q. inr (
+        same-byte c d 4 2 y u.only (head_four y q.no_head)
+            ∙ same-byte b c (16 + 4 * i) 4 y v.only (slot_beside a d i y (omega arith) q.no_slot)
+            ∙ same-byte a b at (length x) y w.only (outside d i y (omega arith) at (length x) off_here siz_here q.no_record),
+        λ l o. absurd (omega (arith, o.from, o.to, empty-size a i s h zero)),
+      ));
       slotted = slotted-after a d i s t (omega (arith, s.few)) (omega arith) (inr (omega arith, omega arith))
           (λ k y l n o q. absurd (omega (arith, stands-of a k y s l o, q.to)));
       here = shown-here d i (omega arith) (omega arith)
@@ -147,9 +141,13 @@ filled a b c d x i at s h e room w v u =
       low = omega arith;
     }
 
+first_beside : (x : ℕ) → (x ≡ 1) ⊎ (6 ≤ x) → x ≢ 0
+first_beside x (inl e) z = absurd (omega arith)
+first_beside x (inr h) z = absurd (omega arith)
+
 -- an empty page
-pub started : (a b c d : List ℕ) → length a ≡ 4096 → b ≡ slice_set a 0 83 → WritesNumber b c 2 0 → WritesNumber c d 4 4096 → Starts d
-started a b c d whole e w v =
+pub started : (a b c d : List ℕ) → length a ≡ 4096 → ((x : ℕ) → slice_index a x ≡ 0) → b ≡ slice_set a 0 83 → WritesNumber b c 2 0 → WritesNumber c d 4 4096 → Starts d
+started a b c d whole zeros e w v =
     let len_b : length b ≡ length a = ap length e ∙ length-set a 0 83 in
     let len_c = w.only.same_length in
     let count : slots d ≡ 0 = number-before c d 4 2 2 v.only (omega arith) ∙ w.here in
@@ -166,5 +164,10 @@ started a b c d whole e w v =
         apart = λ j k x l m n o p. absurd (omega arith);
       };
       none = count;
+      clean = record {
+        zero = λ x u.
+            same-byte c d 4 2 x v.only (head_four x u.no_head) ∙ same-byte b c 2 2 x w.only (head_two x u.no_head)
+            ∙ ap (λ l. slice_index l x) e ∙ get_or-set_other a 0 x 83 0 (first_beside x u.no_head) ∙ zeros x;
+      };
       low = v.here;
     }

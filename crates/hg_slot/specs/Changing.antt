@@ -1,6 +1,6 @@
 -- What the calls do to a slotted page, in the words of its slots. Our own rule.
 use Rattle.std.specs.Prelude.{◌≡◌, ◌≢◌, ℕ, ◌+◌, ◌<◌, ◌≤◌, max, List, length, Option, None, Some, Result, Ok, Err, slice_index}
-use Rattle.hg_slot.specs.Slotted.{slots, lowest, offset, size, record_at, lengths, IsSlotted}
+use Rattle.hg_slot.specs.Slotted.{slots, lowest, offset, size, record_at, lengths, IsSlotted, IsClean}
 use borrow.Rule.Slice.PartMut.{put_mid}
 use Rattle.hg_base.specs.declared.Check.{Check}
 use Rattle.hg_base.specs.declared.Check.TheVariants.{Kind, Size, Frame, Link, Level, Order, RowBytes}
@@ -11,6 +11,7 @@ KeepsOthers old new slot = (k : ℕ) → k ≢ slot → record_at new k ≡ reco
 
 -- The record was put into the first empty slot, or into a new one behind the slots where none was.
 pub record IsInserted (old new : List ℕ) (slot : ℕ) (bytes : List ℕ) : Type 0 where
+  pub clean : IsClean old → IsClean new
   pub was_empty : record_at old slot ≡ None
   pub first : (k : ℕ) → k < slot → record_at old k ≢ None
   pub here : record_at new slot ≡ Some bytes
@@ -31,6 +32,7 @@ Verified page (Err RowBytes) = ⊥
 
 -- A record was put into a slot that was empty, right below the records.
 pub record Fills (old new : List ℕ) (slot : ℕ) (bytes : List ℕ) : Type 0 where
+  pub clean : IsClean old → IsClean new
   pub slotted : IsSlotted new
   pub here : record_at new slot ≡ Some bytes
   pub others : KeepsOthers old new slot
@@ -39,6 +41,7 @@ pub record Fills (old new : List ℕ) (slot : ℕ) (bytes : List ℕ) : Type 0 w
 
 -- A slot shows no record any more.
 pub record Empties (old new : List ℕ) (slot : ℕ) : Type 0 where
+  pub clean : IsClean old → IsClean new
   pub slotted : IsSlotted new
   pub here : record_at new slot ≡ None
   pub others : KeepsOthers old new slot
@@ -46,6 +49,7 @@ pub record Empties (old new : List ℕ) (slot : ℕ) : Type 0 where
 
 -- A new slot stands behind the others, and is empty.
 pub record AddsSlot (old new : List ℕ) : Type 0 where
+  pub clean : IsClean old → IsClean new
   pub slotted : IsSlotted new
   pub all : (k : ℕ) → record_at new k ≡ record_at old k
   pub count : slots new ≡ slots old + 1
@@ -53,6 +57,7 @@ pub record AddsSlot (old new : List ℕ) : Type 0 where
 
 -- The page shows the same at every slot, and its records stand close together at its end.
 pub record ClosesUp (old new : List ℕ) : Type 0 where
+  pub clean : IsClean new
   pub slotted : IsSlotted new
   pub all : (k : ℕ) → record_at new k ≡ record_at old k
   pub count : slots new ≡ slots old
@@ -60,6 +65,7 @@ pub record ClosesUp (old new : List ℕ) : Type 0 where
 
 -- The first n slots of a page are there again, their records close together at the end.
 pub record Rebuilds (old built : List ℕ) (n : ℕ) : Type 0 where
+  pub clean : IsClean built
   pub slotted : IsSlotted built
   pub count : slots built ≡ n
   pub same : (k : ℕ) → k < n → record_at built k ≡ record_at old k
@@ -67,12 +73,14 @@ pub record Rebuilds (old built : List ℕ) (n : ℕ) : Type 0 where
 
 -- An empty page: no slot, and all bytes behind the head are free.
 pub record Starts (new : List ℕ) : Type 0 where
+  pub clean : IsClean new
   pub slotted : IsSlotted new
   pub none : slots new ≡ 0
   pub low : lowest new ≡ 4096
 
 -- The page shows the same at every slot, and there are `need` bytes before the records.
 pub record MakesRoom (old new : List ℕ) (need : ℕ) : Type 0 where
+  pub clean : IsClean old → IsClean new
   pub slotted : IsSlotted new
   pub all : (k : ℕ) → record_at new k ≡ record_at old k
   pub count : slots new ≡ slots old
@@ -80,6 +88,7 @@ pub record MakesRoom (old new : List ℕ) (need : ℕ) : Type 0 where
 
 -- The page shows the same at every slot, and there is a slot of this number.
 pub record HasSlot (old new : List ℕ) (slot : ℕ) : Type 0 where
+  pub clean : IsClean old → IsClean new
   pub slotted : IsSlotted new
   pub all : (k : ℕ) → record_at new k ≡ record_at old k
   pub count : slots new ≡ max (slots old) (slot + 1)
@@ -93,6 +102,7 @@ pub record IsFirstEmpty (page : List ℕ) (slot : ℕ) : Type 0 where
 
 -- Bytes were written over a part of a record, from its byte `at` on.
 pub record Overwrites (old new : List ℕ) (slot at : ℕ) (bytes : List ℕ) : Type 0 where
+  pub clean : IsClean old → IsClean new
   pub slotted : IsSlotted new
   pub here : (r : List ℕ) → record_at old slot ≡ Some r → record_at new slot ≡ Some (put_mid at (length bytes) r bytes)
   pub others : KeepsOthers old new slot

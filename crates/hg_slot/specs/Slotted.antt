@@ -5,7 +5,8 @@
 --   from 16 on   the slots, each the offset of its record and the record's length, two bytes each;
 --                both are 0 where the slot is empty
 -- Each record lies in the page, and not below the lowest byte; the lowest byte is behind the slots;
--- no byte is of two records. A record may have no bytes at all. All other bytes may be any.
+-- no byte is of two records. A record may have no bytes at all. All other bytes are zero; a page
+-- where one of them is not is read all the same, and each call leaves at zero what was.
 use Rattle.std.specs.Prelude.{◌≡◌, ◌≢◌, ℕ, ◌+◌, ◌*◌, ◌<◌, ◌≤◌, ◌==◌, ◌&&◌, ◌⊎◌, nat_lt, not, max, zero, suc, List, length, take, drop, slice_index, Option, None, Some, if◌then◌else◌}
 use Rattle.std.specs.Int.{w16, from_le_bytes}
 
@@ -55,6 +56,16 @@ pub record IsSlotted (page : List ℕ) : Type 0 where
   pub ends : lowest page ≤ 4096
   pub placed : (k : ℕ) → k < slots page → IsPlaced page k
   pub apart : (j k x : ℕ) → j < slots page → k < slots page → j ≢ k → IsOf page j x → IsOf page k x → ⊥
+
+-- the byte at the place x is none of the head, of a slot or of a record
+pub record IsUnused (page : List ℕ) (x : ℕ) : Type 0 where
+  pub no_head : (x ≡ 1) ⊎ (6 ≤ x)
+  pub no_slot : (x < 16) ⊎ (16 + 4 * slots page ≤ x)
+  pub no_record : (k : ℕ) → k < slots page → IsOf page k x → ⊥
+
+-- all bytes that have no meaning are zero
+pub record IsClean (page : List ℕ) : Type 0 where
+  pub zero : (x : ℕ) → IsUnused page x → slice_index page x ≡ 0
 
 -- the lengths of the records of the first n slots together
 abbrev pub length_of : Option (List ℕ) → ℕ

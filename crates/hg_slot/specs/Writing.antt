@@ -1,5 +1,5 @@
 -- What a write into the bytes of a page leaves as it was, and what stands there after it.
-use Rattle.std.specs.Prelude.{◌≡◌, ℕ, ◌+◌, ◌*◌, ◌≤◌, List, length, take, drop}
+use Rattle.std.specs.Prelude.{◌≡◌, ℕ, ◌+◌, ◌*◌, ◌≤◌, List, length, take, drop, slice_index}
 use Rattle.hg_slot.specs.Slotted.{number}
 
 -- only the n bytes from the place `at` on may differ
@@ -24,3 +24,10 @@ pub record WritesBytes (a b : List ℕ) (at : ℕ) (x : List ℕ) : Type 0 where
   pub only : Written a b at (length x)
   pub here : take (length x) (drop at b) ≡ x
   pub none : length x ≡ 0 → b ≡ a
+
+-- zeros were written
+pub record WritesZeros (a b : List ℕ) (at n : ℕ) : Type 0 where
+  pub zeros : List ℕ
+  pub long : length zeros ≡ n
+  pub all : (k : ℕ) → slice_index zeros k ≡ 0
+  pub write : WritesBytes a b at zeros

@@ -1,7 +1,7 @@
 //! The numbers of a page: those of its head, and the entries of its slots.
-ghost use Rattle.std.specs.Prelude.{◌≡◌, ℕ, ◌+◌, ◌*◌, ◌≤◌, ◌<◌, ◌^◌, length};
+ghost use Rattle.std.specs.Prelude.{◌≡◌, ℕ, ◌+◌, ◌*◌, ◌≤◌, ◌<◌, ◌^◌, length, slice_index};
 ghost use Rattle.hg_slot.specs.Slotted.{number, offset, size};
-ghost use Rattle.hg_slot.specs.Writing.{WritesNumber, WritesSlot, WritesBytes};
+ghost use Rattle.hg_slot.specs.Writing.{WritesNumber, WritesSlot, WritesBytes, WritesZeros};
 
 use hg_base::{get_u16, put_u16};
 
@@ -76,4 +76,22 @@ pub fn set_bytes(page: &mut [u8], at: usize, bytes: &[u8])
     ensures { WritesBytes page.old page.new at bytes.now }
 {
     page[at..at + bytes.len()].copy_from_slice(bytes);
+}
+
+/// Makes all bytes zero.
+pub fn clear(bytes: &mut [u8])
+    ensures { (k : ℕ) → slice_index bytes.new k ≡ 0 }
+{
+    for byte in bytes.iter_mut() {
+        *byte = 0;
+    }
+}
+
+/// Makes the bytes of a part zero.
+#[tactic(auto, using(crate::proofs::Numbers::writes_zeros))]
+pub fn set_zeros(page: &mut [u8], at: usize, size: usize)
+    requires { at + size ≤ length page.old }
+    ensures { WritesZeros page.old page.new at size }
+{
+    clear(&mut page[at..at + size]);
 }

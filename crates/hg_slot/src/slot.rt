@@ -1,7 +1,7 @@
 //! The calls on a slotted page. A page is 4,096 bytes; a slot is named by its number from 0. A page
 //! that [`verify`] takes is a slotted page, and each call leaves it one.
 ghost use Rattle.std.specs.Prelude.{◌≡◌, ◌≢◌, ℕ, ◌+◌, ◌≤◌, ◌↔◌, Some, None, MatchOption, IfOk, OnErr, IsOk, length, take, drop};
-ghost use Rattle.hg_slot.specs.Slotted.{slots, record_at, offset, IsSlotted, IsRecord, Fits};
+ghost use Rattle.hg_slot.specs.Slotted.{slots, record_at, offset, IsSlotted, IsClean, IsRecord, Fits};
 ghost use Rattle.hg_slot.specs.Changing.{Empties, IsInserted, Overwrites, Verified};
 
 use crate::change::{empty, fill, start};
@@ -16,6 +16,7 @@ pub fn init(page: &mut [u8])
     requires { length page.old ≡ 4096 }
     ensures slotted { IsSlotted page.new }
     ensures none { slots page.new ≡ 0 }
+    ensures clean { IsClean page.new }
 {
     start(page);
 }
@@ -101,7 +102,6 @@ pub fn put(page: &mut [u8], slot: u16, at: u16, bytes: &[u8])
 }
 
 /// Takes a record away. Its slot is empty then, and stays.
-#[tactic(auto, using(crate::proofs::Finding::is_slot_full))]
 pub fn remove(page: &mut [u8], slot: u16)
     requires slotted { IsSlotted page.old }
     requires full { record_at page.old slot ≢ None }
