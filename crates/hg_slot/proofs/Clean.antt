@@ -1,10 +1,10 @@
 -- Bytes that have no meaning stay zero.
-use Rattle.std.specs.Prelude.{◌≡◌, ◌≢◌, ℕ, ◌+◌, ◌*◌, ◌<◌, ◌≤◌, ◌⊎◌, zero, suc, List, [], ◌∷◌, length, take, drop, slice_index, replicate}
+use Rattle.std.specs.Prelude.{◌≡◌, ℕ, ◌+◌, ◌*◌, ◌<◌, ◌≤◌, ◌⊎◌, zero, suc, List, [], ◌∷◌, take, drop, slice_index}
 use Rattle.std.proofs.Common.{sym, ◌∙◌, ap, refl, arith, inl, inr}
 use Rattle.std.proofs.lemmas.Bool.{cases_lt, cases_eq}
 use Rattle.std.proofs.lemmas.Grind.{common_steps}
-use Rattle.hg_slot.specs.Slotted.{slots, lowest, offset, size, IsOf, IsPlaced, IsSlotted, IsUnused, IsClean}
-use Rattle.hg_slot.specs.Writing.{Written, WritesBytes}
+use Rattle.hg_slot.specs.Slotted.{slots, offset, size, IsOf, IsSlotted, IsUnused, IsClean}
+use Rattle.hg_slot.specs.Writing.{Written}
 use Rattle.hg_slot.proofs.Slots.{Changes}
 
 -- a byte is the first of the part that begins with it

@@ -1,8 +1,8 @@
 -- Closing up: the records of a page are put into an empty one, slot by slot.
-use Rattle.std.specs.Prelude.{◌≡◌, ◌≢◌, ℕ, ◌+◌, ◌-◌, ◌*◌, ◌<◌, ◌≤◌, ◌⊎◌, max, List, length, take, drop, Option, None, Some, MatchOption}
+use Rattle.std.specs.Prelude.{◌≡◌, ℕ, ◌+◌, ◌-◌, ◌*◌, ◌<◌, ◌≤◌, max, List, length, None, Some}
 use Rattle.std.proofs.Common.{sym, ◌∙◌, ap, refl, arith, inl, inr}
-use Rattle.std.proofs.lemmas.Bool.{cases_lt, cases_order, cases_eq}
-use Rattle.hg_slot.specs.Slotted.{slots, lowest, offset, size, record_at, length_of, lengths, used, Fits, HasEmptySlot, IsSlotted, IsRecord}
+use Rattle.std.proofs.lemmas.Bool.{cases_lt, cases_eq}
+use Rattle.hg_slot.specs.Slotted.{slots, lowest, size, record_at, length_of, lengths, used, Fits, IsSlotted}
 use Rattle.hg_slot.specs.Changing.{Starts, Fills, AddsSlot, Rebuilds, ClosesUp, MakesRoom, HasSlot, IsFirstEmpty, IsInserted}
 use Rattle.hg_slot.proofs.Slots.{shown-out}
 use Rattle.hg_slot.proofs.Finding.{lengths-next, lengths-none, lengths-up, length-shown}
@@ -130,3 +130,9 @@ pub still_empty : (a b c : List ℕ) (slot need : ℕ) → IsFirstEmpty a slot �
 still_empty a b c slot need e m h = h.all slot ∙ m.all slot ∙ e.empty
 
 pub ruleset inserting = (still_empty, fits_few, fits_room, inserted)
+
+-- on a page with no slots
+pub none_fits : (page : List ℕ) (n : ℕ) → slots page ≡ 0 → n ≤ 4076 → Fits page n
+none_fits page n e h =
+    let l : lengths page (slots page) ≡ 0 = ap (lengths page) e ∙ lengths-none page in
+    inr (omega arith, omega arith)

@@ -1,9 +1,8 @@
 -- What a slot shows, by what its entry says; the records' lengths together.
-use Rattle.std.specs.Prelude.{◌≡◌, ◌≢◌, ℕ, ◌+◌, ◌-◌, ◌*◌, ◌<◌, ◌≤◌, ◌⊎◌, zero, suc, List, length, take, drop, slice_index, slice_set, Option, None, Some}
+use Rattle.std.specs.Prelude.{◌≡◌, ◌≢◌, ℕ, ◌+◌, ◌-◌, ◌<◌, ◌≤◌, zero, suc, List, length, drop, None, Some}
 use Rattle.std.proofs.Common.{sym, ◌∙◌, ap, refl, arith, inl, inr, length-take, length-drop}
-use Rattle.std.proofs.Math.Nat.{eq-zero-or-pos}
 use Rattle.std.proofs.lemmas.Bool.{cases_lt}
-use Rattle.hg_slot.specs.Slotted.{number, slots, lowest, offset, size, body, record_at, length_of, lengths, IsOf, IsPlaced, IsSlotted, IsRecord}
+use Rattle.hg_slot.specs.Slotted.{slots, offset, size, body, record_at, length_of, lengths, IsSlotted, IsRecord}
 use Rattle.hg_slot.proofs.Slots.{shown-empty, shown-here, shown-out}
 
 pub entry_full : (page : List ℕ) (k from : ℕ) → k < slots page → from ≡ offset page k → (from ≡ 0 → ⊥) → record_at page k ≢ None

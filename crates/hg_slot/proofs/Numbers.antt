@@ -1,7 +1,7 @@
 -- What a write into a page does to the numbers and the parts of it.
-use Rattle.std.specs.Prelude.{◌≡◌, ◌≢◌, ℕ, ◌+◌, ◌*◌, ◌<◌, ◌≤◌, ◌^◌, ◌⊎◌, List, [], ◌∷◌, length, take, drop, slice_index}
+use Rattle.std.specs.Prelude.{◌≡◌, ℕ, ◌+◌, ◌*◌, ◌<◌, ◌≤◌, ◌^◌, List, [], ◌∷◌, length, take, drop, slice_index}
 use Rattle.std.specs.Int.{w16, from_le_bytes, to_le_bytes}
-use Rattle.std.proofs.Common.{sym, ◌∙◌, ap, refl, arith, inl, inr}
+use Rattle.std.proofs.Common.{sym, ◌∙◌, ap, refl, arith}
 use Rattle.std.proofs.lemmas.Nat.{from_le_bytes-to_le_bytes_2}
 use Rattle.hg_base.specs.Parts.{below, above, within, length-written}
 use Rattle.std.proofs.lemmas.List.{take-append-drop}

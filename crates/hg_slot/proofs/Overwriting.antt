@@ -1,14 +1,14 @@
 -- What a write over a part of a record does to the page.
-use Rattle.std.specs.Prelude.{◌≡◌, ◌≢◌, ℕ, ◌+◌, ◌-◌, ◌*◌, ◌<◌, ◌≤◌, ◌⊎◌, max, List, length, take, drop, slice_index, Option, None, Some, ◌++◌, MatchOption}
-use Rattle.std.proofs.Common.{sym, ◌∙◌, ap, refl, arith, inl, inr, length-take}
+use Rattle.std.specs.Prelude.{◌≡◌, ◌≢◌, ℕ, ◌+◌, ◌-◌, ◌*◌, ◌<◌, ◌≤◌, ◌⊎◌, max, List, length, take, drop, slice_index, Some, ◌++◌, MatchOption}
+use Rattle.std.proofs.Common.{sym, ◌∙◌, ap, arith, inl, inr, length-take}
 use Rattle.std.proofs.Math.Nat.{eq-zero-or-pos}
 use Rattle.std.proofs.lemmas.List.{take-take, drop-take, drop-drop}
-use Rattle.std.proofs.lemmas.Bool.{cases_lt, cases_order, cases_eq}
+use Rattle.std.proofs.lemmas.Bool.{cases_lt}
 use borrow.Rule.Slice.PartMut.{put_mid}
 use Rattle.hg_base.specs.Parts.{parts}
-use Rattle.hg_slot.specs.Slotted.{number, slots, lowest, offset, size, body, record_at, IsOf, IsPlaced, IsSlotted, IsRecord}
-use Rattle.hg_slot.specs.Writing.{Written, WritesBytes, WritesSlot, WritesZeros}
-use Rattle.hg_slot.specs.Changing.{KeepsOthers, Overwrites, Empties}
+use Rattle.hg_slot.specs.Slotted.{number, slots, lowest, offset, size, body, record_at, IsOf, IsSlotted, IsRecord}
+use Rattle.hg_slot.specs.Writing.{WritesBytes, WritesSlot, WritesZeros}
+use Rattle.hg_slot.specs.Changing.{Overwrites, Empties}
 use Rattle.hg_slot.proofs.Numbers.{number-before, first-kept}
 use Rattle.hg_slot.proofs.Clean.{same-byte, byte-in, slot_beside, clean_after}
 use Rattle.hg_slot.proofs.Slots.{shows, shown-here, shown-empty, Changes, others-kept, slotted-after, placed-lower}

@@ -1,10 +1,9 @@
 -- What a page shows at a slot, by the numbers of the page; and what a change of one slot leaves.
-use Rattle.std.specs.Prelude.{◌≡◌, ◌≢◌, ℕ, ◌+◌, ◌*◌, ◌<◌, ◌≤◌, ◌==◌, ◌&&◌, ◌⊎◌, nat_lt, not, zero, suc, Bool, true, false, List, length, take, drop, slice_index, Option, None, Some, if◌then◌else◌}
+use Rattle.std.specs.Prelude.{◌≡◌, ◌≢◌, ℕ, ◌+◌, ◌*◌, ◌<◌, ◌≤◌, ◌==◌, ◌&&◌, nat_lt, not, Bool, true, false, List, length, slice_index, None, Some, if◌then◌else◌}
 use Rattle.std.proofs.Common.{sym, ◌∙◌, ap, refl, arith, inl, inr, lt-ltb, eq-eqb, ne_eqb}
 use Rattle.std.proofs.Math.Nat.{eq-zero-or-pos}
-use Rattle.std.proofs.lemmas.Bool.{cases_lt, cases_order, cases_eq, le-ltb}
-use Rattle.std.proofs.lemmas.Bool.Decides.{nat_tests}
-use Rattle.hg_slot.specs.Slotted.{number, slots, lowest, offset, size, body, record_at, IsOf, IsPlaced, IsSlotted}
+use Rattle.std.proofs.lemmas.Bool.{cases_lt, cases_eq, le-ltb}
+use Rattle.hg_slot.specs.Slotted.{slots, lowest, offset, size, body, record_at, IsOf, IsPlaced, IsSlotted}
 use Rattle.hg_slot.specs.Changing.{KeepsOthers}
 
 pub shown-out : (page : List ℕ) (k : ℕ) → slots page ≤ k → record_at page k ≡ None

@@ -1,14 +1,14 @@
 -- The steps of a change: a record put into an empty slot, a slot emptied, a slot added.
-use Rattle.std.specs.Prelude.{◌≡◌, ◌≢◌, ℕ, ◌+◌, ◌*◌, ◌<◌, ◌≤◌, ◌⊎◌, List, length, take, drop, slice_index, slice_set, Option, None, Some}
-use Rattle.std.proofs.Common.{sym, ◌∙◌, ap, refl, arith, inl, inr, get_or-set_same, get_or-set_other}
+use Rattle.std.specs.Prelude.{◌≡◌, ◌≢◌, ℕ, ◌+◌, ◌*◌, ◌<◌, ◌≤◌, ◌⊎◌, List, length, take, drop, slice_index, slice_set, Some}
+use Rattle.std.proofs.Common.{sym, ◌∙◌, ap, arith, inl, inr, get_or-set_same, get_or-set_other}
 use Rattle.std.proofs.Math.ListN.{length-set}
-use Rattle.std.proofs.lemmas.Bool.{cases_lt, cases_order, cases_eq}
-use Rattle.hg_slot.specs.Slotted.{number, slots, lowest, offset, size, body, record_at, IsOf, IsPlaced, IsSlotted}
-use Rattle.hg_slot.specs.Writing.{Written, WritesNumber, WritesSlot, WritesBytes}
-use Rattle.hg_slot.specs.Changing.{KeepsOthers, Starts, Fills, Empties, AddsSlot}
+use Rattle.std.proofs.lemmas.Bool.{cases_order, cases_eq}
+use Rattle.hg_slot.specs.Slotted.{slots, lowest, offset, size, body, IsOf, IsSlotted}
+use Rattle.hg_slot.specs.Writing.{WritesNumber, WritesSlot, WritesBytes}
+use Rattle.hg_slot.specs.Changing.{Starts, Fills, AddsSlot}
 use Rattle.hg_slot.proofs.Numbers.{number-before, number-behind, first-kept}
 use Rattle.hg_slot.proofs.Clean.{same-byte, head_two, head_four, slot_beside, outside, clean_after, empty-size}
-use Rattle.hg_slot.proofs.Slots.{shown-empty, shown-here, shown-out, shows-none, Changes, others-kept, slotted-after}
+use Rattle.hg_slot.proofs.Slots.{shown-empty, shown-here, shown-out, Changes, others-kept, slotted-after}
 
 -- the entries beside a slot that was written
 pub offset-beside : (a b : List ℕ) (i k from n : ℕ) → WritesSlot a b i from n → k ≢ i → offset b k ≡ offset a k

@@ -1,8 +1,8 @@
 -- What a reader of a page finds, and what it says of the page.
-use Rattle.std.specs.Prelude.{◌≡◌, ◌≢◌, ℕ, ◌+◌, ◌*◌, ◌<◌, ◌≤◌, ◌⊎◌, max, List, length, slice_index}
-use Rattle.std.proofs.Common.{sym, ◌∙◌, ap, refl, arith, inl, inr}
-use Rattle.std.proofs.lemmas.Bool.{cases_lt, cases_order, cases_eq}
-use Rattle.hg_slot.specs.Slotted.{slots, lowest, offset, size, IsOf, IsPlaced, IsApart, AreRight, AreFrom, SharesByte, HasRightHead, IsSlotted}
+use Rattle.std.specs.Prelude.{◌≡◌, ℕ, ◌+◌, ◌<◌, ◌≤◌, max, List, length, slice_index}
+use Rattle.std.proofs.Common.{arith, inl, inr}
+use Rattle.std.proofs.lemmas.Bool.{cases_order, cases_eq}
+use Rattle.hg_slot.specs.Slotted.{slots, offset, size, IsOf, IsPlaced, IsApart, AreRight, AreFrom, SharesByte, HasRightHead, IsSlotted}
 
 pub shared : (from n at m : ℕ) → 0 < n → 0 < m → from < at + m → at < from + n → SharesByte from n at m
 shared from n at m a b c d = record { byte = max from at; in_first = (omega arith, omega arith); in_second = (omega arith, omega arith) }

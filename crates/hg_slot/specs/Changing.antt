@@ -1,6 +1,6 @@
 -- What the calls do to a slotted page, in the words of its slots. Our own rule.
-use Rattle.std.specs.Prelude.{◌≡◌, ◌≢◌, ℕ, ◌+◌, ◌<◌, ◌≤◌, max, List, length, Option, None, Some, Result, Ok, Err, slice_index}
-use Rattle.hg_slot.specs.Slotted.{slots, lowest, offset, size, record_at, lengths, IsSlotted, IsClean}
+use Rattle.std.specs.Prelude.{◌≡◌, ◌≢◌, ℕ, ◌+◌, ◌<◌, ◌≤◌, max, List, length, None, Some, Result, Ok, Err, slice_index}
+use Rattle.hg_slot.specs.Slotted.{slots, lowest, record_at, lengths, IsSlotted, IsClean}
 use borrow.Rule.Slice.PartMut.{put_mid}
 use Rattle.hg_base.specs.declared.Check.{Check}
 use Rattle.hg_base.specs.declared.Check.TheVariants.{Kind, Size, Frame, Link, Level, Order, RowBytes}

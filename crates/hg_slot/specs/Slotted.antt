@@ -7,7 +7,7 @@
 -- Each record lies in the page, and not below the lowest byte; the lowest byte is behind the slots;
 -- no byte is of two records. A record may have no bytes at all. All other bytes are zero; a page
 -- where one of them is not is read all the same, and each call leaves at zero what was.
-use Rattle.std.specs.Prelude.{◌≡◌, ◌≢◌, ℕ, ◌+◌, ◌*◌, ◌<◌, ◌≤◌, ◌==◌, ◌&&◌, ◌⊎◌, nat_lt, not, max, zero, suc, List, length, take, drop, slice_index, Option, None, Some, if◌then◌else◌}
+use Rattle.std.specs.Prelude.{◌≡◌, ◌≢◌, ℕ, ◌+◌, ◌*◌, ◌<◌, ◌≤◌, ◌==◌, ◌&&◌, ◌⊎◌, nat_lt, not, zero, suc, List, length, take, drop, slice_index, Option, None, Some, if◌then◌else◌}
 use Rattle.std.specs.Int.{w16, from_le_bytes}
 
 -- the number that the two bytes from the place `at` on spell, the least byte first

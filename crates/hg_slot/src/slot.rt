@@ -11,12 +11,15 @@ use crate::find::{find, first_empty};
 use crate::verify::{are_right, has_right_head};
 use hg_base::{Check, NoRoom};
 
-/// Makes a slotted page with no slots, whatever the bytes were.
+/// Makes a slotted page with no slots, whatever the bytes were. One record of up to 4,076 bytes
+/// fits there.
+#[tactic(auto, using(crate::proofs::Closing::none_fits))]
 pub fn init(page: &mut [u8])
     requires { length page.old ≡ 4096 }
     ensures slotted { IsSlotted page.new }
     ensures none { slots page.new ≡ 0 }
     ensures clean { IsClean page.new }
+    ensures room { (n : ℕ) → n ≤ 4076 → Fits page.new n }
 {
     start(page);
 }
@@ -90,7 +93,8 @@ pub fn verify(page: &[u8]) -> Result<(), Check>
     Ok(())
 }
 
-/// Writes bytes over a part of a record, from the record's byte `at` on.
+/// Writes bytes over a part of a record, from the record's byte `at` on. A record's bytes are not
+/// lent to be written: no contract can say yet what a slice ends as after a part of it was lent.
 pub fn put(page: &mut [u8], slot: u16, at: u16, bytes: &[u8])
     requires slotted { IsSlotted page.old }
     requires inside { MatchOption (record_at page.old slot) ⊥ (λ r. at + length bytes.now ≤ length r) }

@@ -1,4 +1,4 @@
-use Rattle.std.proofs.Common.{◌≡◌, ◌∙◌, sym, subst, List, ℕ, arith}
+use Rattle.std.proofs.Common.{◌≡◌, arith}
 use Rattle.hg_slot.specs.Slotted.{slots}
 use Rattle.hg_slot.specs.Changing.{ClosesUp}
 use Rattle.hg_slot.proofs.Closing.{rebuilt}

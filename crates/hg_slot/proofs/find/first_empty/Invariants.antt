@@ -1,4 +1,4 @@
-use Rattle.std.proofs.Common.{◌≡◌, ◌≢◌, ◌<◌, ℕ, None}
+use Rattle.std.proofs.Common.{◌≢◌, ◌<◌, ℕ, None}
 use Rattle.hg_slot.specs.Slotted.{record_at}
 use Rattle.hg_slot.proofs.find.first_empty.Given as goal
 

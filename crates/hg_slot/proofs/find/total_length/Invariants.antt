@@ -1,4 +1,4 @@
-use Rattle.std.proofs.Common.{◌≡◌, ◌≤◌, ◌*◌, ℕ}
+use Rattle.std.proofs.Common.{◌≡◌, ◌≤◌, ◌*◌}
 use Rattle.hg_slot.specs.Slotted.{lengths}
 use Rattle.hg_slot.proofs.find.total_length.Given as goal
 

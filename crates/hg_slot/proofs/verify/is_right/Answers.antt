@@ -1,4 +1,4 @@
-use Rattle.std.proofs.Common.{◌≡◌, ◌+◌, ◌≤◌, arith, rules}
+use Rattle.std.proofs.Common.{◌+◌, ◌≤◌, arith, rules}
 use Rattle.hg_slot.specs.Slotted.{offset, size, IsPlaced, IsApart}
 use Rattle.hg_slot.proofs.Verifying.{apart_below}
 use Rattle.hg_slot.proofs.verify.is_right.Goals as goal
