@@ -1,6 +1,21 @@
-//! What every layer of the engine names: frames of the pool, and the one error that any growth may
-//! give. It stands on nothing.
+//! What every layer of the engine names: numbers of frames, heaps, requests and pages, addresses,
+//! the errors that many calls share, numbers read from bytes and written to them, and the trait
+//! [`Pages`], the seam between the buffer pool and everything that is kept on pages. It stands on
+//! nothing. The contract that the layers above use is that of [`Pages`].
 #![tactic(auto)]
+
+mod addr;
+mod bytes;
+mod pages;
+mod plain;
+#[cfg(test)]
+mod tests;
+
+pub use addr::Addr;
+pub use bytes::{get_u16, get_u32, get_u64, put_u16, put_u32, put_u64};
+pub use pages::{PageFault, Pages};
+pub use plain::{PlainPin, PlainSpace};
+use std::marker::Model;
 
 /// The number of a frame of the pool, counted from 0. A frame has 4,096 bytes.
 #[derive(Clone, Copy, PartialEq, Eq, Debug)]
@@ -9,3 +24,73 @@ pub struct FrameNo(pub u32);
 /// Memory was wanted and not given. Nothing is promised on when it comes.
 #[derive(Clone, Copy, PartialEq, Eq, Debug)]
 pub struct NoMemory;
+
+/// What was to be stored does not fit where it was to go. The call that answers it says when.
+#[derive(Clone, Copy, PartialEq, Eq, Debug)]
+pub struct NoRoom;
+
+/// The number of a heap among those of its space.
+#[derive(Clone, Copy, PartialEq, Eq, Debug)]
+pub struct HeapNo(pub u32);
+
+/// The number of a request for memory, below 16. Contracts see it as that number.
+#[derive(Clone, Copy, PartialEq, Eq, Debug)]
+pub struct Request(pub u8);
+
+impl Model for Request {
+    ghost use Rattle.std.specs.Prelude.{ℕ, ◌<◌};
+
+    ghost Value = { ℕ };
+
+    ghost view = { λ r. r.0 };
+
+    ghost invariant = { λ r. r.0 < 16 };
+
+    ghost inverse = { λ n. record { 0 = n } };
+}
+
+/// A time of the engine: each statement that changes rows draws the next one. 0 is before all.
+#[derive(Clone, Copy, PartialEq, Eq, PartialOrd, Ord, Debug)]
+pub struct Stamp(pub u32);
+
+/// Where a version of a row stands: a page of the main file, and a slot of that page.
+#[derive(Clone, Copy, PartialEq, Eq, PartialOrd, Ord, Debug)]
+pub struct Place {
+    pub page: u32,
+    pub slot: u16,
+}
+
+/// One of the two files that hold pages.
+#[derive(Clone, Copy, PartialEq, Eq, Debug)]
+pub enum File {
+    /// Tables and indexes.
+    Main,
+    /// What a statement puts aside while it runs.
+    Temp,
+}
+
+/// A page: its file, and its number there, counted from 0. A page has 4,096 bytes.
+#[derive(Clone, Copy, PartialEq, Eq, Debug)]
+pub struct PageId {
+    pub file: File,
+    pub no: u32,
+}
+
+/// What a reader of a page found wrong with it.
+#[derive(Clone, Copy, PartialEq, Eq, Debug)]
+pub enum Check {
+    /// The byte that names the kind of a page or an object is another one.
+    Kind,
+    /// A count, offset or length is out of range, or two records share a byte.
+    Size,
+    /// A page of a heap names a frame that there is not, or that another page of the heap names.
+    Frame,
+    /// An address is neither nil nor an object that fits.
+    Link,
+    /// A child of an index page is not one level below, or a page that is named cannot be pinned.
+    Level,
+    /// Entries of an index page do not ascend, or a walk passes more pages than there are.
+    Order,
+    /// Bytes are no row, or an entry names a place where no row is.
+    RowBytes,
+}

@@ -1,0 +1,109 @@
+-- What the calls do to a slotted page, in the words of its slots. Our own rule.
+use Rattle.std.specs.Prelude.{◌≡◌, ◌≢◌, ℕ, ◌+◌, ◌<◌, ◌≤◌, max, List, length, None, Some, Result, Ok, Err, slice_index}
+use Rattle.hg_slot.specs.Slotted.{slots, lowest, record_at, lengths, IsSlotted, IsClean}
+use borrow.Rule.Slice.PartMut.{put_mid}
+use Rattle.hg_base.specs.declared.Check.{Check}
+use Rattle.hg_base.specs.declared.Check.TheVariants.{Kind, Size, Frame, Link, Level, Order, RowBytes}
+
+-- every slot but this one shows what it showed
+abbrev pub KeepsOthers : List ℕ → List ℕ → ℕ → Type 0
+KeepsOthers old new slot = (k : ℕ) → k ≢ slot → record_at new k ≡ record_at old k
+
+-- The record was put into the first empty slot, or into a new one behind the slots where none was.
+pub record IsInserted (old new : List ℕ) (slot : ℕ) (bytes : List ℕ) : Type 0 where
+  pub clean : IsClean old → IsClean new
+  pub was_empty : record_at old slot ≡ None
+  pub first : (k : ℕ) → k < slot → record_at old k ≢ None
+  pub here : record_at new slot ≡ Some bytes
+  pub others : KeepsOthers old new slot
+  pub count : slots new ≡ max (slots old) (slot + 1)
+
+-- The answer of a reading of a page that may be damaged: it is taken exactly where it is a slotted
+-- page; its kind is wrong exactly where its first byte is; all else that is wrong is a matter of size.
+abbrev pub Verified : List ℕ → Result (Unit {0}) Check → Type 0
+Verified page (Ok u) = IsSlotted page
+Verified page (Err Kind) = slice_index page 0 ≢ 83
+Verified page (Err Size) = (slice_index page 0 ≡ 83) × (IsSlotted page → ⊥)
+Verified page (Err Frame) = ⊥
+Verified page (Err Link) = ⊥
+Verified page (Err Level) = ⊥
+Verified page (Err Order) = ⊥
+Verified page (Err RowBytes) = ⊥
+
+-- A record was put into a slot that was empty, right below the records.
+pub record Fills (old new : List ℕ) (slot : ℕ) (bytes : List ℕ) : Type 0 where
+  pub clean : IsClean old → IsClean new
+  pub slotted : IsSlotted new
+  pub here : record_at new slot ≡ Some bytes
+  pub others : KeepsOthers old new slot
+  pub count : slots new ≡ slots old
+  pub low : lowest new + length bytes ≡ lowest old
+
+-- A slot shows no record any more.
+pub record Empties (old new : List ℕ) (slot : ℕ) : Type 0 where
+  pub clean : IsClean old → IsClean new
+  pub slotted : IsSlotted new
+  pub here : record_at new slot ≡ None
+  pub others : KeepsOthers old new slot
+  pub count : slots new ≡ slots old
+
+-- A new slot stands behind the others, and is empty.
+pub record AddsSlot (old new : List ℕ) : Type 0 where
+  pub clean : IsClean old → IsClean new
+  pub slotted : IsSlotted new
+  pub all : (k : ℕ) → record_at new k ≡ record_at old k
+  pub count : slots new ≡ slots old + 1
+  pub low : lowest new ≡ lowest old
+
+-- The page shows the same at every slot, and its records stand close together at its end.
+pub record ClosesUp (old new : List ℕ) : Type 0 where
+  pub clean : IsClean new
+  pub slotted : IsSlotted new
+  pub all : (k : ℕ) → record_at new k ≡ record_at old k
+  pub count : slots new ≡ slots old
+  pub low : lowest new + lengths old (slots old) ≡ 4096
+
+-- The first n slots of a page are there again, their records close together at the end.
+pub record Rebuilds (old built : List ℕ) (n : ℕ) : Type 0 where
+  pub clean : IsClean built
+  pub slotted : IsSlotted built
+  pub count : slots built ≡ n
+  pub same : (k : ℕ) → k < n → record_at built k ≡ record_at old k
+  pub low : lowest built + lengths old n ≡ 4096
+
+-- An empty page: no slot, and all bytes behind the head are free.
+pub record Starts (new : List ℕ) : Type 0 where
+  pub clean : IsClean new
+  pub slotted : IsSlotted new
+  pub none : slots new ≡ 0
+  pub low : lowest new ≡ 4096
+
+-- The page shows the same at every slot, and there are `need` bytes before the records.
+pub record MakesRoom (old new : List ℕ) (need : ℕ) : Type 0 where
+  pub clean : IsClean old → IsClean new
+  pub slotted : IsSlotted new
+  pub all : (k : ℕ) → record_at new k ≡ record_at old k
+  pub count : slots new ≡ slots old
+  pub room : need ≤ lowest new
+
+-- The page shows the same at every slot, and there is a slot of this number.
+pub record HasSlot (old new : List ℕ) (slot : ℕ) : Type 0 where
+  pub clean : IsClean old → IsClean new
+  pub slotted : IsSlotted new
+  pub all : (k : ℕ) → record_at new k ≡ record_at old k
+  pub count : slots new ≡ max (slots old) (slot + 1)
+  pub low : lowest new ≡ lowest old
+
+-- the first slot that is empty, or the one behind all where none is
+pub record IsFirstEmpty (page : List ℕ) (slot : ℕ) : Type 0 where
+  pub is_near : slot ≤ slots page
+  pub first : (k : ℕ) → k < slot → record_at page k ≢ None
+  pub empty : record_at page slot ≡ None
+
+-- Bytes were written over a part of a record, from its byte `at` on.
+pub record Overwrites (old new : List ℕ) (slot at : ℕ) (bytes : List ℕ) : Type 0 where
+  pub clean : IsClean old → IsClean new
+  pub slotted : IsSlotted new
+  pub here : (r : List ℕ) → record_at old slot ≡ Some r → record_at new slot ≡ Some (put_mid at (length bytes) r bytes)
+  pub others : KeepsOthers old new slot
+  pub count : slots new ≡ slots old

@@ -1,0 +1,3 @@
+pub mod Slotted
+pub mod Writing
+pub mod Changing

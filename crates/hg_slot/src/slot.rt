@@ -1,0 +1,115 @@
+//! The calls on a slotted page. A page is 4,096 bytes; a slot is named by its number from 0. A page
+//! that [`verify`] takes is a slotted page, and each call leaves it one.
+ghost use Rattle.std.specs.Prelude.{◌≡◌, ◌≢◌, ℕ, ◌+◌, ◌≤◌, ◌↔◌, Some, None, MatchOption, IfOk, OnErr, IsOk, length, take, drop};
+ghost use Rattle.hg_slot.specs.Slotted.{slots, record_at, offset, IsSlotted, IsClean, IsRecord, Fits};
+ghost use Rattle.hg_slot.specs.Changing.{Empties, IsInserted, Overwrites, Verified};
+
+use crate::change::{empty, fill, start};
+use crate::close::{fits, have_slot, head_with, make_room};
+use crate::entry::{COUNT, KIND, PAGE, number_at, set_bytes};
+use crate::find::{find, first_empty};
+use crate::verify::{are_right, has_right_head};
+use hg_base::{Check, NoRoom};
+
+/// Makes a slotted page with no slots, whatever the bytes were. One record of up to 4,076 bytes
+/// fits there.
+#[tactic(auto, using(crate::proofs::Closing::none_fits))]
+pub fn init(page: &mut [u8])
+    requires { length page.old ≡ 4096 }
+    ensures slotted { IsSlotted page.new }
+    ensures none { slots page.new ≡ 0 }
+    ensures clean { IsClean page.new }
+    ensures room { (n : ℕ) → n ≤ 4076 → Fits page.new n }
+{
+    start(page);
+}
+
+/// How many slots the page has, empty ones among them. Slots are never taken away.
+pub fn count(page: &[u8]) -> u16
+    requires { IsSlotted page.now }
+    ensures { result ≡ slots page.now }
+{
+    number_at(page, COUNT) as u16
+}
+
+/// The record of a slot, where it stands. None where the slot is empty or there is no such slot.
+pub fn get(page: &[u8], slot: u16) -> Option<&[u8]>
+    requires { IsSlotted page.now }
+    ensures { MatchOption result (record_at page.now slot ≡ None)
+        (λ r. record_at page.now slot ≡ Some r.now) }
+{
+    match find(page, slot as usize) {
+        Some(entry) => Some(&page[entry.offset..entry.offset + entry.size]),
+        None => None,
+    }
+}
+
+/// Where the record of a slot begins on the page, and how many bytes it has. None where [`get`]
+/// gives none.
+pub fn bounds(page: &[u8], slot: u16) -> Option<(u16, u16)>
+    requires { IsSlotted page.now }
+    ensures { MatchOption result (record_at page.now slot ≡ None)
+        (λ b. IsRecord page.now slot b.0 b.1) }
+{
+    match find(page, slot as usize) {
+        Some(entry) => Some((entry.offset as u16, entry.size as u16)),
+        None => None,
+    }
+}
+
+/// Puts a record into the first empty slot, or into a new one where none is empty, and gives the
+/// slot's number. A record may have no bytes. The page is closed up where its free bytes do not
+/// lie together.
+#[tactic(auto, using(crate::proofs::Closing::inserting))]
+pub fn insert(page: &mut [u8], bytes: &[u8]) -> Result<u16, NoRoom>
+    requires { IsSlotted page.old }
+    ensures slotted { IsSlotted page.new }
+    ensures inserted { IfOk result (λ slot. IsInserted page.old page.new slot bytes.now) }
+    ensures unchanged { OnErr result (page.new ≡ page.old) }
+    ensures room { IsOk result ↔ Fits page.old (length bytes.now) }
+{
+    let slot = first_empty(page);
+    if !fits(page, slot, bytes.len()) {
+        return Err(NoRoom);
+    }
+    let head = head_with(page, slot);
+    make_room(page, head + bytes.len());
+    have_slot(page, slot);
+    fill(page, slot, bytes);
+    Ok(slot as u16)
+}
+
+/// Reads a page whose bytes may be any. It answers Ok exactly for a slotted page.
+#[tactic(auto, using(crate::proofs::Verifying::verifying))]
+pub fn verify(page: &[u8]) -> Result<(), Check>
+    ensures { Verified page.now result }
+{
+    if page.is_empty() || page[0] != KIND {
+        return Err(Check::Kind);
+    }
+    if page.len() != PAGE || !has_right_head(page) || !are_right(page) {
+        return Err(Check::Size);
+    }
+    Ok(())
+}
+
+/// Writes bytes over a part of a record, from the record's byte `at` on. A record's bytes are not
+/// lent to be written: no contract can say yet what a slice ends as after a part of it was lent.
+pub fn put(page: &mut [u8], slot: u16, at: u16, bytes: &[u8])
+    requires slotted { IsSlotted page.old }
+    requires inside { MatchOption (record_at page.old slot) ⊥ (λ r. at + length bytes.now ≤ length r) }
+    ensures { Overwrites page.old page.new slot at bytes.now }
+{
+    if let Some(entry) = find(page, slot as usize) {
+        set_bytes(page, entry.offset + at as usize, bytes);
+    }
+}
+
+/// Takes a record away. Its slot is empty then, and stays.
+pub fn remove(page: &mut [u8], slot: u16)
+    requires slotted { IsSlotted page.old }
+    requires full { record_at page.old slot ≢ None }
+    ensures { Empties page.old page.new slot }
+{
+    empty(page, slot as usize);
+}

@@ -1,0 +1,128 @@
+//! Tables of pages: damaged ones, a page that is filled to the last byte, one that is closed up.
+ghost use Rattle.std.specs.Prelude.{◌≡◌, ℕ, ◌+◌, ◌≤◌, IfOk, length};
+ghost use Rattle.hg_slot.specs.Slotted.{slots, IsSlotted};
+
+use crate::slot;
+use hg_base::{Check, NoRoom};
+use std::test::Fail;
+
+/// What is wrong with a page that begins with these bytes and has zeros behind them, or None.
+fn wrong(front: &[u8]) -> Option<Check> {
+    let mut page = [0; 4096];
+    if front.len() <= 4096 {
+        page[..front.len()].copy_from_slice(front);
+    }
+    slot::verify(&page).err()
+}
+
+#[test]
+fn damaged_pages(rt: HostRuntime) -> Result<(), Fail> {
+    // no slots, and the lowest byte 4,096
+    assert_eq!(rt; wrong(&[0x53, 0, 0, 0, 0, 0x10]), None);
+    // another kind of page, and a page of zeros
+    assert_eq!(rt; wrong(&[0x4C, 0, 0, 0, 0, 0x10]), Some(Check::Kind));
+    assert_eq!(rt; wrong(&[]), Some(Check::Kind));
+    // 129 slots, that end at 532 = 0x0214
+    assert_eq!(rt; wrong(&[0x53, 0, 129, 0, 0x14, 2]), Some(Check::Size));
+    // 128 slots, that end at 528 = 0x0210
+    assert_eq!(rt; wrong(&[0x53, 0, 128, 0, 0x10, 2]), None);
+    // the lowest byte among the slots, and behind the page
+    assert_eq!(rt; wrong(&[0x53, 0, 128, 0, 0x0F, 2]), Some(Check::Size));
+    assert_eq!(rt; wrong(&[0x53, 0, 0, 0, 1, 0x10]), Some(Check::Size));
+    // one record of 8 bytes at 4088 = 0x0FF8, the same with 9 bytes, and one below the lowest byte
+    let one = [
+        0x53, 0, 1, 0, 0xF8, 0x0F, 0, 0, 0, 0, 0, 0, 0, 0, 0, 0, 0xF8, 0x0F, 8, 0,
+    ];
+    assert_eq!(rt; wrong(&one), None);
+    let long = [
+        0x53, 0, 1, 0, 0xF8, 0x0F, 0, 0, 0, 0, 0, 0, 0, 0, 0, 0, 0xF8, 0x0F, 9, 0,
+    ];
+    assert_eq!(rt; wrong(&long), Some(Check::Size));
+    let deep = [
+        0x53, 0, 1, 0, 0xF8, 0x0F, 0, 0, 0, 0, 0, 0, 0, 0, 0, 0, 0xF7, 0x0F, 8, 0,
+    ];
+    assert_eq!(rt; wrong(&deep), Some(Check::Size));
+    // a length in an empty slot
+    let half = [
+        0x53, 0, 1, 0, 0xF8, 0x0F, 0, 0, 0, 0, 0, 0, 0, 0, 0, 0, 0, 0, 8, 0,
+    ];
+    assert_eq!(rt; wrong(&half), Some(Check::Size));
+    // two records side by side, the second one before the first, and two that share the byte 4088
+    let two = [
+        0x53, 0, 2, 0, 0xF0, 0x0F, 0, 0, 0, 0, 0, 0, 0, 0, 0, 0, 0xF8, 0x0F, 8, 0, 0xF0, 0x0F, 8, 0,
+    ];
+    assert_eq!(rt; wrong(&two), None);
+    let turned = [
+        0x53, 0, 2, 0, 0xF0, 0x0F, 0, 0, 0, 0, 0, 0, 0, 0, 0, 0, 0xF0, 0x0F, 8, 0, 0xF8, 0x0F, 8, 0,
+    ];
+    assert_eq!(rt; wrong(&turned), None);
+    let shared = [
+        0x53, 0, 2, 0, 0xF0, 0x0F, 0, 0, 0, 0, 0, 0, 0, 0, 0, 0, 0xF0, 0x0F, 9, 0, 0xF8, 0x0F, 8, 0,
+    ];
+    assert_eq!(rt; wrong(&shared), Some(Check::Size));
+    // bytes that are no whole page
+    assert_eq!(rt; slot::verify(&one), Err(Check::Size));
+    Ok(())
+}
+
+/// An empty page.
+fn new_page() -> [u8; 4096]
+    ensures slotted { IsSlotted result }
+    ensures none { slots result ≡ 0 }
+{
+    let mut page = [0; 4096];
+    slot::init(&mut page);
+    page
+}
+
+/// Whether the slot of this number holds so many bytes, all of them this one.
+fn holds(page: &[u8], slot: u16, length: usize, byte: u8) -> bool
+    requires { IsSlotted page.now }
+{
+    match slot::get(page, slot) {
+        Some(record) => record.len() == length && record.iter().all(|b| *b == byte),
+        None => false,
+    }
+}
+
+/// Takes a record away where one is there.
+fn take(page: &mut [u8], slot: u16)
+    requires { IsSlotted page.old }
+    ensures { IsSlotted page.new }
+{
+    if slot::get(page, slot).is_some() {
+        slot::remove(page, slot);
+    }
+}
+
+#[test]
+fn a_page_is_filled(rt: HostRuntime) -> Result<(), Fail> {
+    let mut page = new_page();
+    // 16 bytes of head; 3 records of 1,000 with their slots are 3,012; 4 + 1,064 are left
+    for byte in 0..3 {
+        assert_eq!(rt; slot::insert(&mut page, &[byte; 1000]), Ok(byte as u16));
+    }
+    assert_eq!(rt; slot::insert(&mut page, &[3; 1065]), Err(NoRoom));
+    assert_eq!(rt; slot::insert(&mut page, &[3; 1064]), Ok(3));
+    assert_eq!(rt; slot::insert(&mut page, &[]), Err(NoRoom));
+    assert_eq!(rt; slot::count(&page), 4);
+    // a slot in the middle: its 1,000 bytes and no more, with no new slot
+    take(&mut page, 1);
+    assert_eq!(rt; slot::count(&page), 4);
+    assert_eq!(rt; slot::get(&page, 1).is_none(), true);
+    assert_eq!(rt; slot::insert(&mut page, &[7; 1001]), Err(NoRoom));
+    assert_eq!(rt; slot::insert(&mut page, &[7; 1000]), Ok(1));
+    // two records go, and one of all their bytes comes: the page is closed up
+    take(&mut page, 0);
+    take(&mut page, 2);
+    assert_eq!(rt; slot::insert(&mut page, &[9; 2000]), Ok(0));
+    assert!(rt; holds(&page, 0, 2000, 9));
+    assert!(rt; holds(&page, 1, 1000, 7));
+    assert!(rt; holds(&page, 3, 1064, 3));
+    assert_eq!(rt; slot::bounds(&page, 2), None);
+    // the empty slot takes a record of no bytes
+    assert_eq!(rt; slot::insert(&mut page, &[]), Ok(2));
+    assert!(rt; holds(&page, 2, 0, 0));
+    assert_eq!(rt; slot::verify(&page), Ok(()));
+    Ok(())
+}
