@@ -4,7 +4,13 @@
 #![tactic(auto)]
 
 mod names;
+mod trees;
 mod values;
 
 pub use names::Name;
+pub use trees::{
+    Cmp, ColRef, Column, Command, Delete, Fold, FromTable, Insert, Literal, NewColumn, NewIndex,
+    NewTable, Node, Nodes, Op, OrderBy, OrderKey, Output, Parsed, Select, Span, SqlType, Truth,
+    Update,
+};
 pub use values::{Chars, Value};
