@@ -1,2 +1,12 @@
+pub mod Aggregates
+pub mod Bag
+pub mod Evaluation
+pub mod Groups
 pub mod Name
+pub mod NullLogic
+pub mod Order
+pub mod Query
+pub mod Scope
+pub mod SelectMeaning
+pub mod Tables
 pub mod Value

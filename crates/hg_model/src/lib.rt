@@ -13,4 +13,4 @@ pub use trees::{
     NewTable, Node, Nodes, Op, OrderBy, OrderKey, Output, Parsed, Select, Span, SqlType, Truth,
     Update,
 };
-pub use values::{Chars, Value};
+pub use values::{Chars, NodeValue, Value};

@@ -2,6 +2,8 @@
 use arrayvec::ArrayString;
 use std::marker::Model;
 
+use crate::trees::Truth;
+
 /// A text of 0 to 255 characters from 0x20 to 0x7E. Contracts see its bytes.
 #[derive(Drop)]
 pub struct Chars {
@@ -67,4 +69,11 @@ impl Value {
             Value::Text(text) => Value::Text(text.copy()),
         }
     }
+}
+
+/// What a node of an expression stands for over a row or a group: a value, or a condition's truth.
+#[derive(Drop)]
+pub enum NodeValue {
+    Plain(Value),
+    Condition(Truth),
 }

@@ -1,0 +1,163 @@
+-- What a SELECT means. SQL-92, sections 7.3 to 7.9 and 13.1: the cross product of FROM, the filter of
+-- ON and WHERE, the groups where the statement is grouped, the filter of HAVING, the outputs, and with
+-- DISTINCT each output row once. A filter keeps the rows whose condition is true. The meaning is a list
+-- of pairs of an output row and its keys of ORDER BY; as a bag it says which rows come, and
+-- `MayComeNext` in which order.
+use Rattle.std.specs.Prelude.{ℕ, Bool, true, false, List, [], ◌∷◌, ◌++◌, Option, Some, None, map, length, is_some, ◌||◌, ◌&&◌, not, nat_lt, ◌^◌, if◌then◌else◌}
+use Rattle.std.specs.List.{list_any, list_all, filter, filter_map}
+use Rattle.std.specs.Option.{option_to_list}
+use Rattle.hg_model.specs.Aggregates.{aggregate}
+use Rattle.hg_model.specs.Evaluation.{value_at, value_of, truth_of, values_of}
+use Rattle.hg_model.specs.Groups.{groups_by, same_values}
+use Rattle.hg_model.specs.NullLogic.{is_true}
+use Rattle.hg_model.specs.Order.{Pair, SortKey}
+use Rattle.hg_model.specs.Query.{Query}
+use Rattle.hg_model.specs.Scope.{scope_of, rows_of, positions_of, target_of, Target, ToOutput, ToNode, FromColumn}
+use Rattle.hg_model.specs.Tables.{Table, table_named, cross}
+use Rattle.hg_model.specs.declared.values.Value.{Value}
+use Rattle.hg_model.specs.declared.values.Value.TheVariants.{Null, Int, Text}
+use Rattle.hg_model.specs.declared.values.NodeValue.{NodeValue}
+use Rattle.hg_model.specs.declared.trees.FromTable.{FromTable}
+use Rattle.hg_model.specs.declared.trees.Output.{Output}
+use Rattle.hg_model.specs.declared.trees.OrderKey.{OrderKey}
+use Rattle.hg_model.specs.declared.trees.Fold.{Fold}
+use Rattle.hg_model.specs.declared.trees.Node.{Node}
+use Rattle.hg_model.specs.declared.trees.Node.TheVariants as node
+
+-- What stays the same for all rows of a SELECT: its tree, its texts, for each node the place of its
+-- value in a row of the cross product, and what each key of ORDER BY orders by.
+pub record Setting : Type 0 where
+  pub query : Query
+  pub texts : List ℕ
+  pub positions : List ℕ
+  pub targets : List (Bool × Target)
+
+abbrev pub targets_of : List FromColumn → List ℕ → Query → List (Bool × Target)
+targets_of scope positions q = map (λ (k : OrderKey). (k.descending, target_of scope positions q k.by)) q.order
+
+abbrev pub setting_of : Query → List ℕ → List Table → Setting
+setting_of q texts tables =
+    let scope = scope_of tables q in
+    let positions = positions_of scope q in
+    record { query = q; texts = texts; positions = positions; targets = targets_of scope positions q }
+
+-- the rows of the cross product of FROM
+abbrev pub from_rows : Query → List Table → List (List Value)
+from_rows q tables = cross (map (λ (f : FromTable). rows_of (table_named tables f.table)) q.tables)
+
+-- what each node stands for over one row; an aggregate has no value there
+abbrev pub row_values : Setting → List Value → List NodeValue
+row_values s row = values_of (map (value_at row) s.positions) s.texts s.query.nodes
+
+-- the conditions that a row has to meet: those of ON in order, and WHERE
+abbrev pub conditions : Query → List ℕ
+conditions q = filter_map (λ (f : FromTable). f.on) q.tables ++ option_to_list q.filter
+
+abbrev pub keeps_row : Setting → List Value → Bool
+keeps_row s row = list_all (λ n. is_true (truth_of (row_values s row) n)) (conditions s.query)
+
+-- the rows that pass ON and WHERE
+abbrev pub kept_rows : Setting → List Table → List (List Value)
+kept_rows s tables = filter (keeps_row s) (from_rows s.query tables)
+
+abbrev pub is_aggregate : Node → Bool
+is_aggregate (node.Aggregate f a) = true
+is_aggregate (node.Lit l) = false
+is_aggregate (node.Col c) = false
+is_aggregate (node.Neg a) = false
+is_aggregate (node.Arith o a b) = false
+is_aggregate (node.Compare c a b) = false
+is_aggregate (node.Both a b) = false
+is_aggregate (node.Either a b) = false
+is_aggregate (node.Not a) = false
+is_aggregate (node.IsNull a) = false
+is_aggregate (node.NotNull a) = false
+
+-- a statement is grouped where it has GROUP BY, HAVING or an aggregate
+abbrev pub is_grouped : Query → Bool
+is_grouped q = nat_lt 0 (length q.group) || (is_some q.having || list_any is_aggregate q.nodes)
+
+abbrev pub group_key : Setting → List Value → List Value
+group_key s row = map (value_of (row_values s row)) s.query.group
+
+-- Without GROUP BY there is one group, over no rows too.
+abbrev pub groups_of : Setting → List (List Value) → List (List (List Value))
+groups_of s rows = if nat_lt 0 (length s.query.group) then groups_by (group_key s) rows else rows ∷ []
+
+-- what an aggregate's operand gives of each row of a group; COUNT(*) has no operand
+abbrev pub operands : Setting → Option ℕ → List (List Value) → List Value
+operands s None rows = map (λ row. Null) rows
+operands s (Some a) rows = map (λ row. value_of (row_values s row) a) rows
+
+abbrev pub first_row : List (List Value) → List Value
+first_row [] = []
+first_row (row ∷ rows) = row
+
+-- the value of a column or an aggregate over a group; a column is that of the group's first row
+abbrev pub group_leaf : Setting → List (List Value) → Node → ℕ → Value
+group_leaf s rows (node.Aggregate f a) p = aggregate f (operands s a rows)
+group_leaf s rows (node.Col c) p = value_at (first_row rows) p
+group_leaf s rows (node.Lit l) p = Null
+group_leaf s rows (node.Neg a) p = Null
+group_leaf s rows (node.Arith o a b) p = Null
+group_leaf s rows (node.Compare c a b) p = Null
+group_leaf s rows (node.Both a b) p = Null
+group_leaf s rows (node.Either a b) p = Null
+group_leaf s rows (node.Not a) p = Null
+group_leaf s rows (node.IsNull a) p = Null
+group_leaf s rows (node.NotNull a) p = Null
+
+abbrev pub group_leaves : Setting → List (List Value) → List Node → List ℕ → List Value
+group_leaves s rows [] ps = []
+group_leaves s rows (n ∷ ns) [] = []
+group_leaves s rows (n ∷ ns) (p ∷ ps) = group_leaf s rows n p ∷ group_leaves s rows ns ps
+
+-- what each node stands for over a group
+abbrev pub group_values : Setting → List (List Value) → List NodeValue
+group_values s rows = values_of (group_leaves s rows s.query.nodes s.positions) s.texts s.query.nodes
+
+abbrev pub keeps_group : Setting → List (List Value) → Bool
+keeps_group s rows = list_all (λ n. is_true (truth_of (group_values s rows) n)) (option_to_list s.query.having)
+
+-- the output row; a star gives all columns of FROM
+abbrev pub output_row : Setting → List NodeValue → List Value → List Value
+output_row s values row = if s.query.star then row else map (λ (o : Output). value_of values o.node) s.query.outputs
+
+abbrev pub target_value : List NodeValue → List Value → Target → Value
+target_value values out (ToOutput k) = value_at out k
+target_value values out (ToNode n) = value_of values n
+
+-- the pair of an output row and its keys, of what the nodes stand for
+abbrev pub pair_of : Setting → List NodeValue → List Value → Pair
+pair_of s values row =
+    let out = output_row s values row in
+    record { row = out; keys = map (λ (t : Bool × Target). record { descending = t.0; value = target_value values out t.1 }) s.targets }
+
+abbrev pub row_pair : Setting → List Value → Pair
+row_pair s row = pair_of s (row_values s row) row
+
+abbrev pub group_pair : Setting → List (List Value) → Pair
+group_pair s rows = pair_of s (group_values s rows) (first_row rows)
+
+abbrev pub all_pairs : Setting → List Table → List Pair
+all_pairs s tables =
+    if is_grouped s.query
+    then map (group_pair s) (filter (keeps_group s) (groups_of s (kept_rows s tables)))
+    else map (row_pair s) (kept_rows s tables)
+
+-- with DISTINCT the first pair of each output row
+abbrev pub first_pairs_from : List Pair → List Pair → List Pair
+first_pairs_from kept [] = kept
+first_pairs_from kept (p ∷ ps) =
+    first_pairs_from (if list_any (λ k. same_values p.row k.row) kept then kept else kept ++ p ∷ []) ps
+
+-- what a SELECT means over its tables
+abbrev pub meaning : Query → List ℕ → List Table → List Pair
+meaning q texts tables =
+    let pairs = all_pairs (setting_of q texts tables) tables in
+    if q.distinct then first_pairs_from [] pairs else pairs
+
+-- more than 2^30 rows to be grouped
+abbrev pub too_many : Query → List ℕ → List Table → Bool
+too_many q texts tables =
+    is_grouped q && nat_lt (2 ^ 30) (length (kept_rows (setting_of q texts tables) tables))
