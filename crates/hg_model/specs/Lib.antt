@@ -1,12 +1,15 @@
 pub mod Aggregates
 pub mod Bag
+pub mod Binding
 pub mod Evaluation
 pub mod Groups
 pub mod Name
 pub mod NullLogic
 pub mod Order
 pub mod Query
+pub mod Refusal
 pub mod Scope
 pub mod SelectMeaning
 pub mod Tables
+pub mod Types
 pub mod Value

@@ -1,6 +1,5 @@
 -- The tree of a SELECT as lists.
-use Rattle.std.specs.Prelude.{ℕ, Bool, List, Option, is_some, ◌||◌, not}
-use Rattle.std.specs.List.{list_any}
+use Rattle.std.specs.Prelude.{ℕ, Bool, List, Option}
 use Rattle.hg_model.specs.declared.trees.Select.{Select}
 use Rattle.hg_model.specs.declared.trees.Output.{Output}
 use Rattle.hg_model.specs.declared.trees.FromTable.{FromTable}

@@ -9,7 +9,7 @@ mod values;
 
 pub use names::Name;
 pub use trees::{
-    Cmp, ColRef, Column, Command, Delete, Fold, FromTable, Insert, Literal, NewColumn, NewIndex,
+    Cmp, ColRef, Column, Command, Count, Delete, Fold, FromTable, Insert, Literal, NewColumn, NewIndex,
     NewTable, Node, Nodes, Op, OrderBy, OrderKey, Output, Parsed, Select, Span, SqlType, Truth,
     Update,
 };

@@ -214,6 +214,27 @@ pub struct Parsed {
     pub texts: ArrayString<4096>,
 }
 
+/// What there can be too many of, in the order in which the parser reports it; the kinds behind
+/// `Nodes` are found later than by the parser.
+#[derive(Clone, Copy, PartialEq, Eq, Debug)]
+pub enum Count {
+    NameLetters,
+    TextLetters,
+    Columns,
+    Rows,
+    Values,
+    TablesInFrom,
+    Outputs,
+    GroupColumns,
+    OrderKeys,
+    Nodes,
+    PrimaryKeys,
+    Tables,
+    Indexes,
+    Cursors,
+    RowsGrouped,
+}
+
 impl Default for Node {
     fn default() -> Node {
         Node::Lit(Literal::Null)
