@@ -5,7 +5,10 @@ use Rattle.std.specs.List.{list_any, list_all, filter, filter_map, count_by, sum
 use Rattle.std.specs.Option.{option_to_list}
 use Rattle.hg_model.specs.Query.{Query}
 use Rattle.hg_model.specs.Refusal.{Refusal, UnknownTable, UnknownColumn, AmbiguousColumn, TypeMismatch, TooWide, NameTaken, TooMany, NotGrouped, BadNumber, RowTooLong, first_cause}
-use Rattle.hg_model.specs.Scope.{FromColumn, scope_of, is_named, is_meant, tables_seen, positions_of, columns_from, columns_of, node_at, finds_output, output_found, output_count, column_place, Target, ToOutput, ToNode, target_of}
+use Rattle.hg_model.specs.declared.tables.FromColumn.{FromColumn}
+use Rattle.hg_model.specs.declared.tables.Target.{Target}
+use Rattle.hg_model.specs.declared.tables.Target.TheVariants.{ToOutput, ToNode}
+use Rattle.hg_model.specs.Scope.{scope_of, is_named, is_meant, tables_seen, positions_of, columns_from, columns_of, node_at, finds_output, output_found, output_count, column_place, target_of}
 use Rattle.hg_model.specs.SelectMeaning.{is_grouped, is_aggregate, conditions}
 use Rattle.hg_model.specs.Tables.{Table, table_named, same_name}
 use Rattle.hg_model.specs.Types.{Kind, Nothing, kind_of_type, kind_of_literal, kind_at, kinds_from, all_well_typed, is_condition, is_value, agree, all_narrow, type_length, lengths_from}
@@ -74,8 +77,8 @@ key_cause scope positions q c =
     if q.star
     then cause_of_count (count_by (is_named c) scope) c
     else (if nat_lt 0 (length (outputs_found scope positions q c))
-        then cause_if (not (are_one_column (outputs_found scope positions q c))) (AmbiguousColumn c)
-        else (if may_name_columns q then column_cause scope (length q.tables) c else Some (UnknownColumn c)))
+    then cause_if (not (are_one_column (outputs_found scope positions q c))) (AmbiguousColumn c)
+    else (if may_name_columns q then column_cause scope (length q.tables) c else Some (UnknownColumn c)))
 
 abbrev pub is_key_of : ℕ → OrderBy → Bool
 is_key_of n (Position k) = false
@@ -266,7 +269,7 @@ sums_of_lengths scope positions q =
     named_length scope positions q 0 scope
     ∷ (sum_by (slice_index lengths) q.group + aggregate_lengths q.nodes lengths)
     ∷ ((if q.star then column_lengths scope else sum_by (λ (o : Output). slice_index lengths o.node) q.outputs)
-        + sum_by (λ (k : OrderKey). target_length lengths (target_of scope positions q k.by)) q.order)
+    + sum_by (λ (k : OrderKey). target_length lengths (target_of scope positions q k.by)) q.order)
     ∷ []
 
 abbrev pub lengths_fit : List FromColumn → List ℕ → Query → Bool
@@ -278,13 +281,13 @@ select_refusal tables q =
     let scope = scope_of tables q in
     let positions = positions_of scope q in
     first_cause
-        ( unknown_table tables q.tables
-        ∷ repeated_name (map (λ (f : FromTable). f.alias) q.tables)
-        ∷ cause_if (q.star && nat_lt 16 (length scope)) (TooMany count.Outputs)
-        ∷ first_cause (names_from scope positions q 0 q.nodes)
-        ∷ cause_if (list_any (λ (k : OrderKey). is_outside (output_count scope q) k.by) q.order) BadNumber
-        ∷ cause_if (not (select_types_fit q (select_kinds scope positions q))) TypeMismatch
-        ∷ cause_if (not (grouping_fits scope positions q)) NotGrouped
-        ∷ cause_if (not (all_narrow q.nodes)) TooWide
-        ∷ cause_if (not (lengths_fit scope positions q)) RowTooLong
-        ∷ [] )
+    (unknown_table tables q.tables
+    ∷ repeated_name (map (λ (f : FromTable). f.alias) q.tables)
+    ∷ cause_if (q.star && nat_lt 16 (length scope)) (TooMany count.Outputs)
+    ∷ first_cause (names_from scope positions q 0 q.nodes)
+    ∷ cause_if (list_any (λ (k : OrderKey). is_outside (output_count scope q) k.by) q.order) BadNumber
+    ∷ cause_if (not (select_types_fit q (select_kinds scope positions q))) TypeMismatch
+    ∷ cause_if (not (grouping_fits scope positions q)) NotGrouped
+    ∷ cause_if (not (all_narrow q.nodes)) TooWide
+    ∷ cause_if (not (lengths_fit scope positions q)) RowTooLong
+    ∷ [])

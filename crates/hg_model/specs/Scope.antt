@@ -6,6 +6,9 @@ use Rattle.hg_model.specs.declared.values.Value.{Value}
 use Rattle.hg_model.specs.declared.trees.Literal.TheVariants as literal
 use Rattle.hg_model.specs.Query.{Query}
 use Rattle.hg_model.specs.Tables.{Table, table_named, same_name}
+use Rattle.hg_model.specs.declared.tables.FromColumn.{FromColumn}
+use Rattle.hg_model.specs.declared.tables.Target.{Target}
+use Rattle.hg_model.specs.declared.tables.Target.TheVariants.{ToOutput, ToNode}
 use Rattle.hg_model.specs.declared.trees.FromTable.{FromTable}
 use Rattle.hg_model.specs.declared.trees.Column.{Column}
 use Rattle.hg_model.specs.declared.trees.ColRef.{ColRef}
@@ -16,15 +19,8 @@ use Rattle.hg_model.specs.declared.trees.OrderBy.TheVariants.{Position, Column a
 use Rattle.hg_model.specs.declared.trees.Node.{Node}
 use Rattle.hg_model.specs.declared.trees.Node.TheVariants as node
 
--- One column of FROM: the place of its table there, its table's alias, its place in the table, and
--- what the table says of it. The columns of FROM stand in order of tables and then of columns, as the
--- values of a row of the cross product do.
-pub record FromColumn : Type 0 where
-  pub table : ℕ
-  pub alias : List ℕ
-  pub place : ℕ
-  pub column : Column
-
+-- The columns of FROM stand in order of tables and then of columns, as the values of a row of the cross
+-- product do.
 abbrev pub columns_from : ℕ → List ℕ → ℕ → List Column → List FromColumn
 columns_from table alias place [] = []
 columns_from table alias place (c ∷ cs) =
@@ -75,22 +71,26 @@ abbrev pub tables_seen : Query → ℕ → ℕ
 tables_seen q n = if is_in_outputs q.outputs n then length q.tables else seen_from 0 q.tables n
 
 -- the place of a column node in a row of the cross product: the first column of FROM that it sees
--- and names. Of a bound statement there is exactly one.
+-- and names. Of a bound statement there is exactly one. A node that is no column has no place: it gets
+-- the one behind the last.
 abbrev pub is_meant : ColRef → ℕ → FromColumn → Bool
 is_meant c seen f = nat_lt f.table seen && is_named c f
 
+abbrev pub column_meant : List FromColumn → ℕ → ColRef → ℕ
+column_meant scope seen c = position_or_len (is_meant c seen) scope
+
 abbrev pub position_of : List FromColumn → ℕ → Node → ℕ
-position_of scope seen (node.Col c) = position_or_len (is_meant c seen) scope
-position_of scope seen (node.Lit l) = 0
-position_of scope seen (node.Neg a) = 0
-position_of scope seen (node.Arith o a b) = 0
-position_of scope seen (node.Compare c a b) = 0
-position_of scope seen (node.Both a b) = 0
-position_of scope seen (node.Either a b) = 0
-position_of scope seen (node.Not a) = 0
-position_of scope seen (node.IsNull a) = 0
-position_of scope seen (node.NotNull a) = 0
-position_of scope seen (node.Aggregate f a) = 0
+position_of scope seen (node.Col c) = column_meant scope seen c
+position_of scope seen (node.Lit l) = length scope
+position_of scope seen (node.Neg a) = length scope
+position_of scope seen (node.Arith o a b) = length scope
+position_of scope seen (node.Compare c a b) = length scope
+position_of scope seen (node.Both a b) = length scope
+position_of scope seen (node.Either a b) = length scope
+position_of scope seen (node.Not a) = length scope
+position_of scope seen (node.IsNull a) = length scope
+position_of scope seen (node.NotNull a) = length scope
+position_of scope seen (node.Aggregate f a) = length scope
 
 abbrev pub positions_from : List FromColumn → Query → ℕ → List Node → List ℕ
 positions_from scope q k [] = []
@@ -99,11 +99,6 @@ positions_from scope q k (n ∷ ns) = position_of scope (tables_seen q k) n ∷ 
 -- for each node, the place of its value in a row of the cross product
 abbrev pub positions_of : List FromColumn → Query → List ℕ
 positions_of scope q = positions_from scope q 0 q.nodes
-
--- What a key of ORDER BY orders by: an output by its number from 0, or a node.
-pub data Target : Type 0 where
-  ToOutput : ℕ → Target
-  ToNode : ℕ → Target
 
 -- whether a name in ORDER BY finds an output: it is the name after its AS, or the output is a column
 -- alone of that name, and of that table where the key names one

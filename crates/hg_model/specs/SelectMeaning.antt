@@ -10,9 +10,13 @@ use Rattle.hg_model.specs.Aggregates.{aggregate}
 use Rattle.hg_model.specs.Evaluation.{value_at, value_of, truth_of, values_of}
 use Rattle.hg_model.specs.Groups.{groups_by, same_values}
 use Rattle.hg_model.specs.NullLogic.{is_true}
-use Rattle.hg_model.specs.Order.{Pair, SortKey}
+use Rattle.hg_model.specs.Order.{Pair}
+use Rattle.hg_model.specs.declared.tables.SortKey.{SortKey}
 use Rattle.hg_model.specs.Query.{Query}
-use Rattle.hg_model.specs.Scope.{scope_of, rows_of, positions_of, target_of, Target, ToOutput, ToNode, FromColumn}
+use Rattle.hg_model.specs.Scope.{scope_of, rows_of, positions_of, target_of}
+use Rattle.hg_model.specs.declared.tables.FromColumn.{FromColumn}
+use Rattle.hg_model.specs.declared.tables.Target.{Target}
+use Rattle.hg_model.specs.declared.tables.Target.TheVariants.{ToOutput, ToNode}
 use Rattle.hg_model.specs.Tables.{Table, table_named, cross}
 use Rattle.hg_model.specs.declared.values.Value.{Value}
 use Rattle.hg_model.specs.declared.values.Value.TheVariants.{Null, Int, Text}
@@ -45,9 +49,29 @@ setting_of q texts tables =
 abbrev pub from_rows : Query → List Table → List (List Value)
 from_rows q tables = cross (map (λ (f : FromTable). rows_of (table_named tables f.table)) q.tables)
 
--- what each node stands for over one row; an aggregate has no value there
+-- the values of the columns and aggregates among the nodes, where `leaf` gives that of one node
+abbrev pub leaves_of : (Node → ℕ → Value) → List Node → List ℕ → List Value
+leaves_of leaf [] ps = []
+leaves_of leaf (n ∷ ns) [] = []
+leaves_of leaf (n ∷ ns) (p ∷ ps) = leaf n p ∷ leaves_of leaf ns ps
+
+-- over one row a column has the value at its place, and an aggregate none
+abbrev pub row_leaf : List Value → Node → ℕ → Value
+row_leaf row (node.Col c) p = value_at row p
+row_leaf row (node.Aggregate f a) p = Null
+row_leaf row (node.Lit l) p = Null
+row_leaf row (node.Neg a) p = Null
+row_leaf row (node.Arith o a b) p = Null
+row_leaf row (node.Compare c a b) p = Null
+row_leaf row (node.Both a b) p = Null
+row_leaf row (node.Either a b) p = Null
+row_leaf row (node.Not a) p = Null
+row_leaf row (node.IsNull a) p = Null
+row_leaf row (node.NotNull a) p = Null
+
+-- what each node stands for over one row
 abbrev pub row_values : Setting → List Value → List NodeValue
-row_values s row = values_of (map (value_at row) s.positions) s.texts s.query.nodes
+row_values s row = values_of (leaves_of (row_leaf row) s.query.nodes s.positions) s.texts s.query.nodes
 
 -- the conditions that a row has to meet: those of ON in order, and WHERE
 abbrev pub conditions : Query → List ℕ
@@ -107,14 +131,9 @@ group_leaf s rows (node.Not a) p = Null
 group_leaf s rows (node.IsNull a) p = Null
 group_leaf s rows (node.NotNull a) p = Null
 
-abbrev pub group_leaves : Setting → List (List Value) → List Node → List ℕ → List Value
-group_leaves s rows [] ps = []
-group_leaves s rows (n ∷ ns) [] = []
-group_leaves s rows (n ∷ ns) (p ∷ ps) = group_leaf s rows n p ∷ group_leaves s rows ns ps
-
 -- what each node stands for over a group
 abbrev pub group_values : Setting → List (List Value) → List NodeValue
-group_values s rows = values_of (group_leaves s rows s.query.nodes s.positions) s.texts s.query.nodes
+group_values s rows = values_of (leaves_of (group_leaf s rows) s.query.nodes s.positions) s.texts s.query.nodes
 
 abbrev pub keeps_group : Setting → List (List Value) → Bool
 keeps_group s rows = list_all (λ n. is_true (truth_of (group_values s rows) n)) (option_to_list s.query.having)

@@ -4,13 +4,16 @@
 #![tactic(auto)]
 
 mod names;
+mod scope;
+mod tables;
 mod trees;
 mod values;
 
 pub use names::Name;
+pub use tables::{FromColumn, SlowTable, SortKey, Target};
 pub use trees::{
-    Cmp, ColRef, Column, Command, Count, Delete, Fold, FromTable, Insert, Literal, NewColumn, NewIndex,
-    NewTable, Node, Nodes, Op, OrderBy, OrderKey, Output, Parsed, Select, Span, SqlType, Truth,
-    Update,
+    Cmp, ColRef, Column, Command, Count, Delete, Fold, FromTable, Insert, Literal, NewColumn,
+    NewIndex, NewTable, Node, Nodes, Op, OrderBy, OrderKey, Output, Parsed, Select, Span, SqlType,
+    Truth, Update,
 };
 pub use values::{Chars, NodeValue, Value};

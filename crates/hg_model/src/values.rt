@@ -1,8 +1,7 @@
 //! Values of a column.
+use crate::trees::Truth;
 use arrayvec::ArrayString;
 use std::marker::Model;
-
-use crate::trees::Truth;
 
 /// A text of 0 to 255 characters from 0x20 to 0x7E. Contracts see its bytes.
 #[derive(Drop)]

@@ -1,0 +1,36 @@
+//! Plain tables, and what the slow evaluator keeps of a SELECT.
+use crate::names::Name;
+use crate::trees::Column;
+use crate::values::Value;
+
+/// A table in memory: its name, its columns and its rows, each with a value for each column.
+#[derive(Drop)]
+pub struct SlowTable {
+    pub name: Name,
+    pub columns: Vec<Column>,
+    pub rows: Vec<Vec<Value>>,
+}
+
+/// One column of FROM: the place of its table there, its table's alias, its place in the table, and
+/// what the table says of it.
+#[derive(Drop)]
+pub struct FromColumn {
+    pub table: usize,
+    pub alias: Name,
+    pub place: usize,
+    pub column: Column,
+}
+
+/// What a key of ORDER BY orders by: an output by its number from 0, or a node.
+#[derive(Clone, Copy)]
+pub enum Target {
+    ToOutput(usize),
+    ToNode(usize),
+}
+
+/// A row's value for one key of ORDER BY, with the key's direction.
+#[derive(Drop)]
+pub struct SortKey {
+    pub descending: bool,
+    pub value: Value,
+}
