@@ -8,7 +8,7 @@ use Rattle.hg_model.specs.Refusal.{Refusal, UnknownTable, UnknownColumn, Ambiguo
 use Rattle.hg_model.specs.declared.tables.FromColumn.{FromColumn}
 use Rattle.hg_model.specs.declared.tables.Target.{Target}
 use Rattle.hg_model.specs.declared.tables.Target.TheVariants.{ToOutput, ToNode}
-use Rattle.hg_model.specs.Scope.{scope_of, is_named, is_meant, tables_seen, positions_of, columns_from, columns_of, node_at, finds_output, output_found, output_count, column_place, target_of}
+use Rattle.hg_model.specs.Scope.{scope_of, is_named, is_meant, tables_seen, positions_of, columns_from, columns_of, finds_output, output_found, output_count, column_place, target_of}
 use Rattle.hg_model.specs.SelectMeaning.{is_grouped, is_aggregate, conditions}
 use Rattle.hg_model.specs.Tables.{Table, table_named, same_name}
 use Rattle.hg_model.specs.Types.{Kind, Nothing, kind_of_type, kind_of_literal, kind_at, kinds_from, all_well_typed, is_condition, is_value, agree, all_narrow, type_length, lengths_from}
@@ -55,7 +55,7 @@ column_cause scope seen c = cause_of_count (count_by (is_meant c seen) scope) c
 -- The outputs that a name in ORDER BY finds, each as the place of its column where it is a column alone.
 abbrev pub outputs_found : List FromColumn → List ℕ → Query → ColRef → List (Option ℕ)
 outputs_found scope positions q c =
-    map (λ (o : Output). column_place positions o.node (node_at q.nodes o.node)) (filter (finds_output scope positions q.nodes c) q.outputs)
+    map (λ (o : Output). column_place positions q.nodes o.node) (filter (finds_output scope positions q.nodes c) q.outputs)
 
 abbrev pub is_place : ℕ → Option ℕ → Bool
 is_place p None = false

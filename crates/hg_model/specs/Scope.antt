@@ -1,9 +1,8 @@
 -- What a column's name in a SELECT stands for. SQL-92, section 6.4. That a condition of ON may name
 -- any table to its left, and the rule for names in ORDER BY, are our own rules.
-use Rattle.std.specs.Prelude.{ℕ, suc, Bool, true, false, List, [], ◌∷◌, ◌++◌, Option, Some, None, map, length, ◌&&◌, ◌||◌, nat_lt, nat_le, cond, slice_index, slice_index_or, take, drop, ◌-◌, if◌then◌else◌}
-use Rattle.std.specs.List.{position_or_len, list_any}
+use Rattle.std.specs.Prelude.{ℕ, suc, Bool, true, false, List, [], ◌∷◌, ◌++◌, Option, Some, None, map, length, ◌&&◌, ◌||◌, nat_lt, nat_le, cond, slice_index, slice_get, ◌-◌, if◌then◌else◌}
+use Rattle.std.specs.List.{position_or_len}
 use Rattle.hg_model.specs.declared.values.Value.{Value}
-use Rattle.hg_model.specs.declared.trees.Literal.TheVariants as literal
 use Rattle.hg_model.specs.Query.{Query}
 use Rattle.hg_model.specs.Tables.{Table, table_named, same_name}
 use Rattle.hg_model.specs.declared.tables.FromColumn.{FromColumn}
@@ -110,55 +109,71 @@ abbrev pub is_output_name : ColRef → Option (List ℕ) → Bool
 is_output_name c None = false
 is_output_name c (Some name) = no_table c.table && same_name c.name name
 
+abbrev pub is_among_named : ColRef → Option FromColumn → Bool
+is_among_named c None = false
+is_among_named c (Some f) = is_named c f
+
 abbrev pub is_column_named : List FromColumn → ColRef → Option ℕ → Bool
 is_column_named scope c None = false
-is_column_named scope c (Some p) = list_any (is_named c) (take 1 (drop p scope))
+is_column_named scope c (Some p) = is_among_named c (slice_get scope p)
 
 -- the place in a row of the cross product, where a node is a column alone
-abbrev pub column_place : List ℕ → ℕ → Node → Option ℕ
-column_place positions n (node.Col c) = Some (slice_index positions n)
-column_place positions n (node.Lit l) = None
-column_place positions n (node.Neg a) = None
-column_place positions n (node.Arith o a b) = None
-column_place positions n (node.Compare c a b) = None
-column_place positions n (node.Both a b) = None
-column_place positions n (node.Either a b) = None
-column_place positions n (node.Not a) = None
-column_place positions n (node.IsNull a) = None
-column_place positions n (node.NotNull a) = None
-column_place positions n (node.Aggregate f a) = None
+abbrev pub place_if_column : ℕ → Node → Option ℕ
+place_if_column p (node.Col c) = Some p
+place_if_column p (node.Lit l) = None
+place_if_column p (node.Neg a) = None
+place_if_column p (node.Arith o a b) = None
+place_if_column p (node.Compare c a b) = None
+place_if_column p (node.Both a b) = None
+place_if_column p (node.Either a b) = None
+place_if_column p (node.Not a) = None
+place_if_column p (node.IsNull a) = None
+place_if_column p (node.NotNull a) = None
+place_if_column p (node.Aggregate f a) = None
 
-abbrev pub node_at : List Node → ℕ → Node
-node_at nodes n = slice_index_or nodes n (node.Lit literal.Null)
+abbrev pub place_if_node : ℕ → Option Node → Option ℕ
+place_if_node p None = None
+place_if_node p (Some n) = place_if_column p n
+
+abbrev pub column_place : List ℕ → List Node → ℕ → Option ℕ
+column_place positions nodes n = place_if_node (slice_index positions n) (slice_get nodes n)
 
 abbrev pub finds_output : List FromColumn → List ℕ → List Node → ColRef → Output → Bool
 finds_output scope positions nodes c o =
-    is_output_name c o.name || is_column_named scope c (column_place positions o.node (node_at nodes o.node))
+    is_output_name c o.name || is_column_named scope c (column_place positions nodes o.node)
 
 -- the first output that a name in ORDER BY finds, or their number; with a star the outputs are the
 -- columns of FROM
+abbrev pub written_output : List FromColumn → List ℕ → Query → ColRef → ℕ
+written_output scope positions q c = position_or_len (finds_output scope positions q.nodes c) q.outputs
+
+abbrev pub star_output : List FromColumn → ColRef → ℕ
+star_output scope c = position_or_len (is_named c) scope
+
 abbrev pub output_found : List FromColumn → List ℕ → Query → ColRef → ℕ
-output_found scope positions q c =
-    if q.star then position_or_len (is_named c) scope else position_or_len (finds_output scope positions q.nodes c) q.outputs
+output_found scope positions q c = if q.star then star_output scope c else written_output scope positions q c
 
 abbrev pub output_count : List FromColumn → Query → ℕ
 output_count scope q = if q.star then length scope else length q.outputs
 
-abbrev pub name_target : List FromColumn → List ℕ → Query → ℕ → Node → Target
-name_target scope positions q n (node.Col c) =
-    if nat_lt (output_found scope positions q c) (output_count scope q) then ToOutput (output_found scope positions q c) else ToNode n
-name_target scope positions q n (node.Lit l) = ToNode n
-name_target scope positions q n (node.Neg a) = ToNode n
-name_target scope positions q n (node.Arith o a b) = ToNode n
-name_target scope positions q n (node.Compare c a b) = ToNode n
-name_target scope positions q n (node.Both a b) = ToNode n
-name_target scope positions q n (node.Either a b) = ToNode n
-name_target scope positions q n (node.Not a) = ToNode n
-name_target scope positions q n (node.IsNull a) = ToNode n
-name_target scope positions q n (node.NotNull a) = ToNode n
-name_target scope positions q n (node.Aggregate f a) = ToNode n
+abbrev pub output_or_node : ℕ → ℕ → ℕ → Target
+output_or_node found count n = if nat_lt found count then ToOutput found else ToNode n
+
+abbrev pub name_target : List FromColumn → List ℕ → Query → ℕ → Option Node → Target
+name_target scope positions q n None = ToNode n
+name_target scope positions q n (Some (node.Col c)) = output_or_node (output_found scope positions q c) (output_count scope q) n
+name_target scope positions q n (Some (node.Lit l)) = ToNode n
+name_target scope positions q n (Some (node.Neg a)) = ToNode n
+name_target scope positions q n (Some (node.Arith o a b)) = ToNode n
+name_target scope positions q n (Some (node.Compare c a b)) = ToNode n
+name_target scope positions q n (Some (node.Both a b)) = ToNode n
+name_target scope positions q n (Some (node.Either a b)) = ToNode n
+name_target scope positions q n (Some (node.Not a)) = ToNode n
+name_target scope positions q n (Some (node.IsNull a)) = ToNode n
+name_target scope positions q n (Some (node.NotNull a)) = ToNode n
+name_target scope positions q n (Some (node.Aggregate f a)) = ToNode n
 
 -- A position counts the outputs from 1. A name is an output that it finds, and else a column of FROM.
 abbrev pub target_of : List FromColumn → List ℕ → Query → OrderBy → Target
 target_of scope positions q (Position k) = ToOutput (k - 1)
-target_of scope positions q (ByColumn n) = name_target scope positions q n (node_at q.nodes n)
+target_of scope positions q (ByColumn n) = name_target scope positions q n (slice_get q.nodes n)

@@ -1,9 +1,10 @@
 //! What the names in a SELECT stand for, over plain tables.
-ghost use Rattle.std.specs.Prelude.{◌≡◌, ◌++◌, ◌<◌, ℕ, length, ◌^◌, IfOk, OnOk};
+ghost use Rattle.std.specs.Prelude.{◌≡◌, ◌++◌, ◌<◌, ℕ, length, ◌^◌, slice_get, slice_index, IfOk, OnOk};
 ghost use Rattle.std.specs.Option.{option_map};
 ghost use Rattle.hg_model.specs.Query.{query_of};
 ghost use Rattle.hg_model.specs.Tables.{table_of, tables_of, table_named, same_name};
 ghost use Rattle.hg_model.specs.Scope as scopes;
+ghost use Rattle.hg_model.specs.SelectMeaning as meaning;
 
 use crate::names::Name;
 use crate::tables::{FromColumn, SlowTable, Target};
@@ -156,4 +157,169 @@ pub fn positions_of(
         positions.push(position_of(scope, tables_seen(select, k), node))?;
     }
     Ok(positions)
+}
+
+fn is_output_name(name: &ColRef, output: &Option<Name>) -> bool
+    ensures { result ≡ scopes.is_output_name name.now output.now }
+{
+    match output {
+        None => false,
+        Some(output) => name.table.is_none() && same_name(&name.name, output),
+    }
+}
+
+fn column_place(positions: &Vec<usize>, nodes: &[Node], node: usize) -> Option<usize>
+    ensures { result ≡ scopes.column_place positions.now.items nodes.now node }
+{
+    match nodes.get(node) {
+        Some(Node::Col(_)) => Some(place_at(positions, node)),
+        _ => None,
+    }
+}
+
+fn place_at(positions: &Vec<usize>, node: usize) -> usize
+    ensures { result ≡ slice_index positions.now.items node }
+{
+    if node < positions.len() {
+        positions[node]
+    } else {
+        0
+    }
+}
+
+fn is_column_named(scope: &[FromColumn], name: &ColRef, place: Option<usize>) -> bool
+    ensures { result ≡ scopes.is_column_named scope.now name.now place }
+{
+    match place {
+        None => false,
+        Some(place) => match scope.get(place) {
+            None => false,
+            Some(column) => is_named(name, column),
+        },
+    }
+}
+
+fn finds_output(
+    scope: &Vec<FromColumn>,
+    positions: &Vec<usize>,
+    nodes: &[Node],
+    name: &ColRef,
+    output: &Output,
+) -> bool
+    ensures { result ≡ scopes.finds_output scope.now.items positions.now.items nodes.now name.now output.now }
+{
+    is_output_name(name, &output.name)
+        || is_column_named(
+            scope,
+            name,
+            column_place(positions, nodes, output.node as usize),
+        )
+}
+
+fn written_output(
+    scope: &Vec<FromColumn>,
+    positions: &Vec<usize>,
+    select: &Select,
+    name: &ColRef,
+) -> usize
+    ensures { result ≡ scopes.written_output scope.now.items positions.now.items (query_of select.now) name.now }
+{
+    let nodes = select.nodes.as_slice();
+    let outputs = select.outputs.as_slice();
+    for (place, output) in outputs.iter().enumerate() {
+        if finds_output(scope, positions, nodes, name, output) {
+            return place;
+        }
+    }
+    outputs.len()
+}
+
+fn star_output(scope: &Vec<FromColumn>, name: &ColRef) -> usize
+    ensures { result ≡ scopes.star_output scope.now.items name.now }
+{
+    for (place, column) in scope.iter().enumerate() {
+        if is_named(name, column) {
+            return place;
+        }
+    }
+    scope.len()
+}
+
+fn output_found(
+    scope: &Vec<FromColumn>,
+    positions: &Vec<usize>,
+    select: &Select,
+    name: &ColRef,
+) -> usize
+    ensures { result ≡ scopes.output_found scope.now.items positions.now.items (query_of select.now) name.now }
+{
+    if select.star {
+        star_output(scope, name)
+    } else {
+        written_output(scope, positions, select, name)
+    }
+}
+
+fn output_count(scope: &Vec<FromColumn>, select: &Select) -> usize
+    ensures { result ≡ scopes.output_count scope.now.items (query_of select.now) }
+{
+    if select.star {
+        scope.len()
+    } else {
+        select.outputs.len()
+    }
+}
+
+fn name_target(
+    scope: &Vec<FromColumn>,
+    positions: &Vec<usize>,
+    select: &Select,
+    node: usize,
+) -> Target
+    ensures { result ≡ scopes.name_target scope.now.items positions.now.items (query_of select.now) node (slice_get select.now.nodes.items node) }
+{
+    let nodes = select.nodes.as_slice();
+    match nodes.get(node) {
+        Some(Node::Col(name)) => {
+            let found = output_found(scope, positions, select, name);
+            if found < output_count(scope, select) {
+                Target::ToOutput(found)
+            } else {
+                Target::ToNode(node)
+            }
+        }
+        _ => Target::ToNode(node),
+    }
+}
+
+fn target_of(
+    scope: &Vec<FromColumn>,
+    positions: &Vec<usize>,
+    select: &Select,
+    by: OrderBy,
+) -> Target
+    ensures { result ≡ scopes.target_of scope.now.items positions.now.items (query_of select.now) by }
+{
+    match by {
+        OrderBy::Position(0) => Target::ToOutput(0),
+        OrderBy::Position(k) => Target::ToOutput(k as usize - 1),
+        OrderBy::Column(node) => name_target(scope, positions, select, node as usize),
+    }
+}
+
+/// What each key of ORDER BY orders by, with its direction.
+pub fn targets_of(
+    alloc: Global,
+    scope: &Vec<FromColumn>,
+    positions: &Vec<usize>,
+    select: &Select,
+) -> Result<Vec<(bool, Target)>, AllocError>
+    ensures { IfOk result (λ v. v.items ≡ meaning.targets_of scope.now.items positions.now.items (query_of select.now)) }
+{
+    let mut targets = Vec::new(alloc);
+    let order = select.order.as_slice();
+    for key in order {
+        targets.push((key.descending, target_of(scope, positions, select, key.by)))?;
+    }
+    Ok(targets)
 }

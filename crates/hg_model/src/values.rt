@@ -33,6 +33,18 @@ impl Chars {
         Chars { text }
     }
 
+    /// The text of these bytes.
+    pub fn from_bytes(bytes: &[u8]) -> Chars
+        requires { IsTrue (is_chars bytes.now) }
+        ensures { result ≡ bytes.now }
+    {
+        let mut text = ArrayString::new();
+        for byte in bytes {
+            text.push(*byte as char);
+        }
+        Chars { text }
+    }
+
     pub fn copy(&self) -> Chars
         ensures { result ≡ self.now }
     {

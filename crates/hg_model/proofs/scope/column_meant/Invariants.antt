@@ -14,4 +14,3 @@ use Rattle.hg_model.proofs.scope.column_meant.Given as goal
 
 abbrev pub invariant-loop-place : goal.invariant-loop-place
 invariant-loop-place l = l.place + position_or_len (scopes.is_meant l.name l.seen) (drop l.place l.column-items) ≡ position_or_len (scopes.is_meant l.name l.seen) l.column-items
-

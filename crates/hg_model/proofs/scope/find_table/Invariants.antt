@@ -14,4 +14,3 @@ use Rattle.hg_model.proofs.scope.find_table.Given as goal
 
 abbrev pub invariant-loop-table : goal.invariant-loop-table
 invariant-loop-table l = tables.table_named (tables.tables_of (drop l.table-index l.table-items)) l.name ≡ tables.table_named (tables.tables_of l.table-items) l.name
-

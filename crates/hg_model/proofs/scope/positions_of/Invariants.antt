@@ -14,4 +14,3 @@ use Rattle.hg_model.proofs.scope.positions_of.Given as goal
 
 abbrev pub invariant-loop-k : goal.invariant-loop-k
 invariant-loop-k l = l.positions.items ++ scopes.positions_from l.scope.items (query_of l.select) l.k (drop l.k l.nodes) ≡ scopes.positions_from l.scope.items (query_of l.select) 0 l.nodes
-

@@ -14,4 +14,3 @@ use Rattle.hg_model.proofs.scope.push_columns.Given as goal
 
 abbrev pub invariant-loop-place : goal.invariant-loop-place
 invariant-loop-place l = l.scope.items ++ scopes.columns_from l.table l.alias l.place (drop l.place l.column-items) ≡ l.initial.scope.items ++ scopes.columns_from l.table l.alias 0 l.column-items
-

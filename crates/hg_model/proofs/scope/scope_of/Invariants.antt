@@ -14,4 +14,3 @@ use Rattle.hg_model.proofs.scope.scope_of.Given as goal
 
 abbrev pub invariant-loop-k : goal.invariant-loop-k
 invariant-loop-k l = l.scope.items ++ scopes.scope_from (tables.tables_of l.tables.items) l.k (drop l.k l.froms) ≡ scopes.scope_from (tables.tables_of l.tables.items) 0 l.froms
-

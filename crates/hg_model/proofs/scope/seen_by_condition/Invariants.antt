@@ -14,4 +14,3 @@ use Rattle.hg_model.proofs.scope.seen_by_condition.Given as goal
 
 abbrev pub invariant-loop-k : goal.invariant-loop-k
 invariant-loop-k l = scopes.seen_from l.k (drop l.k l.tables) l.node ≡ scopes.seen_from 0 l.tables l.node
-
