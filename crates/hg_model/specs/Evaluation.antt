@@ -59,18 +59,32 @@ arithmetic o (Text s) w = Null
 arithmetic o (Int x) Null = Null
 arithmetic o (Int x) (Text t) = Null
 
--- One node. `leaf` is its value where it is a column or an aggregate, `done` holds the nodes before it.
+-- the truth of a condition's node, of the nodes before it; `done` holds those
+abbrev pub condition : Node → List NodeValue → Truth
+condition (node.Compare c a b) done = compare c (value_of done a) (value_of done b)
+condition (node.Both a b) done = both (truth_of done a) (truth_of done b)
+condition (node.Either a b) done = either (truth_of done a) (truth_of done b)
+condition (node.Not a) done = opposite (truth_of done a)
+condition (node.IsNull a) done = known (is_null (value_of done a))
+condition (node.NotNull a) done = known (not (is_null (value_of done a)))
+condition (node.Lit l) done = Unknown
+condition (node.Col c) done = Unknown
+condition (node.Neg a) done = Unknown
+condition (node.Arith o a b) done = Unknown
+condition (node.Aggregate f a) done = Unknown
+
+-- One node. `leaf` is its value where it is a column or an aggregate.
 abbrev pub node_value : Value → List ℕ → Node → List NodeValue → NodeValue
 node_value leaf texts (node.Lit l) done = Plain (literal_value texts l)
 node_value leaf texts (node.Col c) done = Plain leaf
 node_value leaf texts (node.Neg a) done = Plain (negative (value_of done a))
 node_value leaf texts (node.Arith o a b) done = Plain (arithmetic o (value_of done a) (value_of done b))
-node_value leaf texts (node.Compare c a b) done = Condition (compare c (value_of done a) (value_of done b))
-node_value leaf texts (node.Both a b) done = Condition (both (truth_of done a) (truth_of done b))
-node_value leaf texts (node.Either a b) done = Condition (either (truth_of done a) (truth_of done b))
-node_value leaf texts (node.Not a) done = Condition (opposite (truth_of done a))
-node_value leaf texts (node.IsNull a) done = Condition (known (is_null (value_of done a)))
-node_value leaf texts (node.NotNull a) done = Condition (known (not (is_null (value_of done a))))
+node_value leaf texts (node.Compare c a b) done = Condition (condition (node.Compare c a b) done)
+node_value leaf texts (node.Both a b) done = Condition (condition (node.Both a b) done)
+node_value leaf texts (node.Either a b) done = Condition (condition (node.Either a b) done)
+node_value leaf texts (node.Not a) done = Condition (condition (node.Not a) done)
+node_value leaf texts (node.IsNull a) done = Condition (condition (node.IsNull a) done)
+node_value leaf texts (node.NotNull a) done = Condition (condition (node.NotNull a) done)
 node_value leaf texts (node.Aggregate f a) done = Plain leaf
 
 abbrev pub values_from : List Value → List ℕ → List Node → List NodeValue → List NodeValue

@@ -13,3 +13,4 @@ pub mod SelectMeaning
 pub mod Tables
 pub mod Types
 pub mod Value
+pub mod Width

@@ -3,6 +3,8 @@
 //! pages, frames or runs.
 #![tactic(auto)]
 
+mod compare;
+mod evaluate;
 mod names;
 mod scope;
 mod tables;
