@@ -10,6 +10,7 @@ pub mod Query
 pub mod Refusal
 pub mod Scope
 pub mod SelectMeaning
+pub mod SlowPlaces
 pub mod Tables
 pub mod Types
 pub mod Value

@@ -7,6 +7,7 @@ mod compare;
 mod evaluate;
 mod names;
 mod scope;
+mod slow;
 mod tables;
 mod trees;
 mod values;

@@ -17,7 +17,7 @@ fn same_name(a: &Name, b: &Name) -> bool
     a == b
 }
 
-fn find_table<'a>(tables: &'a Vec<SlowTable>, name: &Name) -> Option<&'a SlowTable>
+pub fn find_table<'a>(tables: &'a Vec<SlowTable>, name: &Name) -> Option<&'a SlowTable>
     ensures { option_map (λ t. table_of t.now) result ≡ table_named (tables_of tables.now.items) name.now }
 {
     for table in tables {
