@@ -121,9 +121,12 @@ kinds_from leaves (n ∷ ns) done = kinds_from leaves ns (done ++ kind_of (kind_
 abbrev pub all_well_typed : List Node → List Kind → Bool
 all_well_typed nodes kinds = list_all (λ n. is_well_typed n kinds) nodes
 
--- The least b from 1 on with n below 2^b: how many binary digits n has, where they are at most 128.
-abbrev pub binary_digits : ℕ → ℕ
-binary_digits n = 1 + position_or_len (λ b. nat_lt n (2 ^ (b + 1))) (range_with_len 0 128)
+-- the least b from 1 on with n below 2^b, where it is at most `limit`: how many binary digits n has
+unfoldable pub digits_within : ℕ → ℕ → ℕ
+digits_within limit n = 1 + position_or_len (λ b. nat_lt n (2 ^ (b + 1))) (range_with_len 0 limit)
+
+unfoldable pub binary_digits : ℕ → ℕ
+binary_digits n = digits_within 128 n
 
 abbrev pub literal_bound : Literal → ℕ
 literal_bound literal.Null = 1
