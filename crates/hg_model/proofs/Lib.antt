@@ -1,3 +1,5 @@
+pub mod Folds
+pub mod Leaves
 pub mod Loops
 pub mod Magnitudes
 pub mod Widths

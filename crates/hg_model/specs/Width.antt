@@ -3,6 +3,7 @@ use Rattle.std.specs.Prelude.{ℕ, suc, Bool, true, false, List, [], ◌∷◌, 
 use Rattle.std.specs.List.{list_all}
 use Rattle.hg_model.specs.Aggregates.{add_value}
 use Rattle.hg_model.specs.Evaluation.{part_of, as_value, node_value, value_at}
+use Rattle.hg_model.specs.SelectMeaning.{Setting, operands}
 use Rattle.hg_model.specs.Types.{all_narrow}
 use Rattle.hg_model.specs.Value.{is_chars}
 use Rattle.hg_model.specs.declared.values.Value.{Value}
@@ -100,3 +101,17 @@ pub record IsSound (texts : List ℕ) (nodes : List Node) : Type 0 where
   pub tree : IsTrue (is_tree nodes)
   pub narrow : IsTrue (all_narrow nodes)
   pub texts_fit : IsTrue (list_all (text_fits texts) nodes)
+
+-- the sum of a group may be computed in 128 bits, where the node is one
+abbrev pub LeafFits : Setting → List (List Value) → Node → Type 0
+LeafFits s rows (node.Aggregate f a) = FoldFits f (operands s a rows)
+LeafFits s rows (node.Lit l) = ⊤
+LeafFits s rows (node.Col c) = ⊤
+LeafFits s rows (node.Neg a) = ⊤
+LeafFits s rows (node.Arith o a b) = ⊤
+LeafFits s rows (node.Compare c a b) = ⊤
+LeafFits s rows (node.Both a b) = ⊤
+LeafFits s rows (node.Either a b) = ⊤
+LeafFits s rows (node.Not a) = ⊤
+LeafFits s rows (node.IsNull a) = ⊤
+LeafFits s rows (node.NotNull a) = ⊤
