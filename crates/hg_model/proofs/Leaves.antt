@@ -36,8 +36,7 @@ leaves_none leaf (n ∷ ns) = refl
 
 module _ (all : List ℕ) (leaf : Node → ℕ → Value)
     (each : (n : Node) (ns : List Node) (bs : List ℕ) (p : ℕ) → bounds_from (n ∷ ns) bs ≡ all → has_children_before (length bs) n ≡ true
-        → is_narrow (bound_of n bs) ≡ true → LeafBelow n (bound_of n bs) (leaf n p)) where
-
+    → is_narrow (bound_of n bs) ≡ true → LeafBelow n (bound_of n bs) (leaf n p)) where
   pub leaves_below : (ns : List Node) (ps bs : List ℕ) (leaves : List Value)
       → ((k : ℕ) → value_at leaves (length bs + k) ≡ value_at (leaves_of leaf ns ps) k) → bounds_from ns bs ≡ all
       → is_tree_from (length bs) ns ≡ true → list_all is_narrow (bounds_from ns bs) ≡ true → LeavesBelow leaves ns bs
@@ -46,34 +45,36 @@ module _ (all : List ℕ) (leaf : Node → ℕ → Value)
       let here : value_at leaves (length bs) ≡ Null = ap (value_at leaves) (sym (add-zero (length bs))) ∙ same 0 in
       let P : Value → Type 0 = LeafBelow n (bound_of n bs) in
       let longer : length (bs ++ bound_of n bs ∷ []) ≡ suc (length bs) = omega (arith, length-append bs (bound_of n bs ∷ [])) in
-      let Q : ℕ → Type 0 = λ m. is_tree_from m ns ≡ true in
-      (subst P (sym here) (leaf_null n (bound_of n bs)),
-          leaves_below ns [] (bs ++ bound_of n bs ∷ []) leaves
-          (λ k. let place : length (bs ++ bound_of n bs ∷ []) + k ≡ length bs + suc k = omega arith in
-              ap (value_at leaves) place ∙ same (suc k) ∙ ap (λ l. value_at l k) (sym (leaves_none leaf ns)))
-          is (subst Q (sym longer) (second_so (has_children_before (length bs) n) (is_tree_from (suc (length bs)) ns) tree)) narrow)
+      let Q : ℕ → Type 0 = λ m. is_tree_from m ns ≡ true in (
+        subst P (sym here) (leaf_null n (bound_of n bs)),
+        leaves_below ns [] (bs ++ bound_of n bs ∷ []) leaves
+            (λ k. let place : length (bs ++ bound_of n bs ∷ []) + k ≡ length bs + suc k = omega arith in
+            ap (value_at leaves) place ∙ same (suc k) ∙ ap (λ l. value_at l k) (sym (leaves_none leaf ns)))
+            is (subst Q (sym longer) (second_so (has_children_before (length bs) n) (is_tree_from (suc (length bs)) ns) tree)) narrow,
+      )
   leaves_below (n ∷ ns) (p ∷ ps) bs leaves same is tree narrow =
       let here : value_at leaves (length bs) ≡ leaf n p = ap (value_at leaves) (sym (add-zero (length bs))) ∙ same 0 in
       let P : Value → Type 0 = LeafBelow n (bound_of n bs) in
       let longer : length (bs ++ bound_of n bs ∷ []) ≡ suc (length bs) = omega (arith, length-append bs (bound_of n bs ∷ [])) in
-      let Q : ℕ → Type 0 = λ m. is_tree_from m ns ≡ true in
-      (subst P (sym here) (each n ns bs p is (first_so (has_children_before (length bs) n) (is_tree_from (suc (length bs)) ns) tree) (narrow_next n ns bs narrow)),
-          leaves_below ns ps (bs ++ bound_of n bs ∷ []) leaves
-          (λ k. let place : length (bs ++ bound_of n bs ∷ []) + k ≡ length bs + suc k = omega arith in ap (value_at leaves) place ∙ same (suc k))
-          is (subst Q (sym longer) (second_so (has_children_before (length bs) n) (is_tree_from (suc (length bs)) ns) tree)) narrow)
+      let Q : ℕ → Type 0 = λ m. is_tree_from m ns ≡ true in (
+        subst P (sym here) (each n ns bs p is (first_so (has_children_before (length bs) n) (is_tree_from (suc (length bs)) ns) tree) (narrow_next n ns bs narrow)),
+        leaves_below ns ps (bs ++ bound_of n bs ∷ []) leaves
+            (λ k. let place : length (bs ++ bound_of n bs ∷ []) + k ≡ length bs + suc k = omega arith in ap (value_at leaves) place ∙ same (suc k))
+            is (subst Q (sym longer) (second_so (has_children_before (length bs) n) (is_tree_from (suc (length bs)) ns) tree)) narrow,
+      )
 
 module _ (all : List ℕ) (Q : Node → Type 0)
     (each : (n : Node) (ns : List Node) (bs : List ℕ) → bounds_from (n ∷ ns) bs ≡ all → has_children_before (length bs) n ≡ true
-        → is_narrow (bound_of n bs) ≡ true → Q n) where
-
+    → is_narrow (bound_of n bs) ≡ true → Q n) where
   pub each_node : (ns : List Node) (bs : List ℕ) → bounds_from ns bs ≡ all → is_tree_from (length bs) ns ≡ true
       → list_all is_narrow (bounds_from ns bs) ≡ true → AllByRecursion Q ns
   each_node [] bs is tree narrow = tt
   each_node (n ∷ ns) bs is tree narrow =
       let longer : length (bs ++ bound_of n bs ∷ []) ≡ suc (length bs) = omega (arith, length-append bs (bound_of n bs ∷ [])) in
-      let R : ℕ → Type 0 = λ m. is_tree_from m ns ≡ true in
-      (each n ns bs is (first_so (has_children_before (length bs) n) (is_tree_from (suc (length bs)) ns) tree) (narrow_next n ns bs narrow),
-          each_node ns (bs ++ bound_of n bs ∷ []) is (subst R (sym longer) (second_so (has_children_before (length bs) n) (is_tree_from (suc (length bs)) ns) tree)) narrow)
+      let R : ℕ → Type 0 = λ m. is_tree_from m ns ≡ true in (
+        each n ns bs is (first_so (has_children_before (length bs) n) (is_tree_from (suc (length bs)) ns) tree) (narrow_next n ns bs narrow),
+        each_node ns (bs ++ bound_of n bs ∷ []) is (subst R (sym longer) (second_so (has_children_before (length bs) n) (is_tree_from (suc (length bs)) ns) tree)) narrow,
+      )
 
 -- later nodes leave the bounds of the earlier ones
 pub bound_kept : (ns : List Node) (bs : List ℕ) (k : ℕ) → k < length bs → bound_at (bounds_from ns bs) k ≡ bound_at bs k
@@ -111,8 +112,8 @@ pub row_below : (s : Setting) (row : List Value) → IsSound s.texts s.query.nod
 row_below s row sound small =
     values_below (leaves_of (row_leaf row) s.query.nodes s.positions) s.texts s.query.nodes [] [] tt
     (leaves_below (bounds_of s.query.nodes) (row_leaf row) (λ n ns bs p is before narrow. row_leaf_below row small n bs p)
-        s.query.nodes s.positions [] (leaves_of (row_leaf row) s.query.nodes s.positions)
-        (nothing_done (leaves_of (row_leaf row) s.query.nodes s.positions)) refl sound.tree sound.narrow)
+    s.query.nodes s.positions [] (leaves_of (row_leaf row) s.query.nodes s.positions)
+    (nothing_done (leaves_of (row_leaf row) s.query.nodes s.positions)) refl sound.tree sound.narrow)
     sound.narrow
 
 nulls_below : (b : ℕ) (rows : List (List Value)) → EachBelow b (map (λ row. Null) rows)
@@ -122,9 +123,10 @@ nulls_below b (row ∷ rows) = (tt, nulls_below b rows)
 operand_values_below : (s : Setting) (a : ℕ) (rows : List (List Value)) → IsSound s.texts s.query.nodes → list_all is_small_row rows ≡ true
     → EachBelow (bound_at (bounds_of s.query.nodes) a) (map (λ row. value_of (row_values s row) a) rows)
 operand_values_below s a [] sound small = tt
-operand_values_below s a (row ∷ rows) sound small =
-    (zipped_at (bounds_of s.query.nodes) (row_values s row) a (row_below s row sound (first_so (is_small_row row) (list_all is_small_row rows) small)).1,
-        operand_values_below s a rows sound (second_so (is_small_row row) (list_all is_small_row rows) small))
+operand_values_below s a (row ∷ rows) sound small = (
+  zipped_at (bounds_of s.query.nodes) (row_values s row) a (row_below s row sound (first_so (is_small_row row) (list_all is_small_row rows) small)).1,
+  operand_values_below s a rows sound (second_so (is_small_row row) (list_all is_small_row rows) small),
+)
 
 operands_below : (s : Setting) (a : Option ℕ) (rows : List (List Value)) (ns : List Node) (bs : List ℕ) → IsSound s.texts s.query.nodes
     → list_all is_small_row rows ≡ true → bounds_from ns bs ≡ bounds_of s.query.nodes → stands_before_place a (length bs) ≡ true
@@ -169,6 +171,6 @@ module _ (s : Setting) (rows : List (List Value)) (sound : IsSound s.texts s.que
   group_below =
       (values_below (leaves_of (group_leaf s rows) s.query.nodes s.positions) s.texts s.query.nodes [] [] tt
       (leaves_below (bounds_of s.query.nodes) (group_leaf s rows) (λ n ns bs p is before narrow. (fold_below n ns bs p is before narrow).1)
-          s.query.nodes s.positions [] (leaves_of (group_leaf s rows) s.query.nodes s.positions)
-          (nothing_done (leaves_of (group_leaf s rows) s.query.nodes s.positions)) refl sound.tree sound.narrow)
+      s.query.nodes s.positions [] (leaves_of (group_leaf s rows) s.query.nodes s.positions)
+      (nothing_done (leaves_of (group_leaf s rows) s.query.nodes s.positions)) refl sound.tree sound.narrow)
       sound.narrow).0

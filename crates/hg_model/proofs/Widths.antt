@@ -131,7 +131,7 @@ pub narrow_next : (n : Node) (ns : List Node) (bs : List ℕ) → list_all is_na
 narrow_next n ns bs h =
     first_so (is_narrow (bound_of n bs)) true
     (second_so (list_all is_narrow bs) (list_all is_narrow (bound_of n bs ∷ []))
-        (sym (list_all-append is_narrow bs (bound_of n bs ∷ [])) ∙ narrow_done ns (bs ++ bound_of n bs ∷ []) h))
+    (sym (list_all-append is_narrow bs (bound_of n bs ∷ [])) ∙ narrow_done ns (bs ++ bound_of n bs ∷ []) h))
 
 pub narrow_bound : (b : ℕ) (v : Value) → is_narrow b ≡ true → IsBelow b v → IsBelow 126 v
 narrow_bound b Null h p = tt
@@ -151,5 +151,5 @@ values_below leaves texts (n ∷ ns) bs done z p h =
     let leaf = subst P (sym (zipped_length bs done z)) p.0 in
     let one = node_below (value_at leaves (length done)) texts n bs done z leaf (narrow_next n ns bs h) in
     let rest = values_below leaves texts ns (bs ++ bound_of n bs ∷ []) (done ++ node_value (value_at leaves (length done)) texts n done ∷ [])
-        (zipped_push bs done (bound_of n bs) (node_value (value_at leaves (length done)) texts n done) z one) p.1 h in
+    (zipped_push bs done (bound_of n bs) (node_value (value_at leaves (length done)) texts n done) z one) p.1 h in
     ((narrow_bound (bound_of n bs) (as_value (node_value (value_at leaves (length done)) texts n done)) (narrow_next n ns bs h) one, rest.0), rest.1)

@@ -4,7 +4,7 @@
 -- of pairs of an output row and its keys of ORDER BY; as a bag it says which rows come, and
 -- `MayComeNext` in which order.
 use Rattle.std.specs.Prelude.{ℕ, Bool, true, false, List, [], ◌∷◌, ◌++◌, Option, Some, None, map, length, is_some, ◌||◌, ◌&&◌, not, nat_lt, ◌^◌, if◌then◌else◌}
-use Rattle.std.specs.List.{list_any, list_all, filter, filter_map}
+use Rattle.std.specs.List.{list_any, list_all, filter}
 use Rattle.std.specs.Option.{option_to_list}
 use Rattle.hg_model.specs.Aggregates.{aggregate}
 use Rattle.hg_model.specs.Evaluation.{value_at, value_of, truth_of, values_of}
@@ -74,8 +74,12 @@ abbrev pub row_values : Setting → List Value → List NodeValue
 row_values s row = values_of (leaves_of (row_leaf row) s.query.nodes s.positions) s.texts s.query.nodes
 
 -- the conditions that a row has to meet: those of ON in order, and WHERE
+abbrev pub on_conditions : List FromTable → List ℕ
+on_conditions [] = []
+on_conditions (f ∷ fs) = option_to_list f.on ++ on_conditions fs
+
 abbrev pub conditions : Query → List ℕ
-conditions q = filter_map (λ (f : FromTable). f.on) q.tables ++ option_to_list q.filter
+conditions q = on_conditions q.tables ++ option_to_list q.filter
 
 abbrev pub keeps_row : Setting → List Value → Bool
 keeps_row s row = list_all (λ n. is_true (truth_of (row_values s row) n)) (conditions s.query)
