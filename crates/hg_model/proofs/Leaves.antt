@@ -109,6 +109,7 @@ nothing_done leaves k = let same : length {A = ℕ} [] + k ≡ k = omega arith i
 
 pub row_below : (s : Setting) (row : List Value) → IsSound s.texts s.query.nodes → is_small_row row ≡ true
     → AllBelow (leaves_of (row_leaf row) s.query.nodes s.positions) s.texts s.query.nodes [] × Zipped (bounds_of s.query.nodes) (row_values s row)
+unfolding row_values
 row_below s row sound small =
     values_below (leaves_of (row_leaf row) s.query.nodes s.positions) s.texts s.query.nodes [] [] tt
     (leaves_below (bounds_of s.query.nodes) (row_leaf row) (λ n ns bs p is before narrow. row_leaf_below row small n bs p)

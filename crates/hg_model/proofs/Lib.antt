@@ -1,4 +1,5 @@
 pub mod Folds
+pub mod KeyOrder
 pub mod Leaves
 pub mod Loops
 pub mod Magnitudes

@@ -70,7 +70,7 @@ row_leaf row (node.IsNull a) p = Null
 row_leaf row (node.NotNull a) p = Null
 
 -- what each node stands for over one row
-abbrev pub row_values : Setting → List Value → List NodeValue
+unfoldable pub row_values : Setting → List Value → List NodeValue
 row_values s row = values_of (leaves_of (row_leaf row) s.query.nodes s.positions) s.texts s.query.nodes
 
 -- the conditions that a row has to meet: those of ON in order, and WHERE
@@ -81,11 +81,11 @@ on_conditions (f ∷ fs) = option_to_list f.on ++ on_conditions fs
 abbrev pub conditions : Query → List ℕ
 conditions q = on_conditions q.tables ++ option_to_list q.filter
 
-abbrev pub keeps_row : Setting → List Value → Bool
+unfoldable pub keeps_row : Setting → List Value → Bool
 keeps_row s row = list_all (λ n. is_true (truth_of (row_values s row) n)) (conditions s.query)
 
 -- the rows that pass ON and WHERE
-abbrev pub kept_rows : Setting → List Table → List (List Value)
+unfoldable pub kept_rows : Setting → List Table → List (List Value)
 kept_rows s tables = filter (keeps_row s) (from_rows s.query tables)
 
 abbrev pub is_aggregate : Node → Bool
@@ -105,7 +105,7 @@ is_aggregate (node.NotNull a) = false
 abbrev pub is_grouped : Query → Bool
 is_grouped q = nat_lt 0 (length q.group) || (is_some q.having || list_any is_aggregate q.nodes)
 
-abbrev pub group_key : Setting → List Value → List Value
+unfoldable pub group_key : Setting → List Value → List Value
 group_key s row = map (value_of (row_values s row)) s.query.group
 
 -- Without GROUP BY there is one group, over no rows too.
@@ -136,10 +136,10 @@ group_leaf s rows (node.IsNull a) p = Null
 group_leaf s rows (node.NotNull a) p = Null
 
 -- what each node stands for over a group
-abbrev pub group_values : Setting → List (List Value) → List NodeValue
+unfoldable pub group_values : Setting → List (List Value) → List NodeValue
 group_values s rows = values_of (leaves_of (group_leaf s rows) s.query.nodes s.positions) s.texts s.query.nodes
 
-abbrev pub keeps_group : Setting → List (List Value) → Bool
+unfoldable pub keeps_group : Setting → List (List Value) → Bool
 keeps_group s rows = list_all (λ n. is_true (truth_of (group_values s rows) n)) (option_to_list s.query.having)
 
 -- the output row; a star gives all columns of FROM
@@ -150,19 +150,23 @@ abbrev pub target_value : List NodeValue → List Value → Target → Value
 target_value values out (ToOutput k) = value_at out k
 target_value values out (ToNode n) = value_of values n
 
+-- the key of a row for one place of ORDER BY
+abbrev pub sort_key : List NodeValue → List Value → Bool × Target → SortKey
+sort_key values out t = record { descending = t.0; value = target_value values out t.1 }
+
 -- the pair of an output row and its keys, of what the nodes stand for
-abbrev pub pair_of : Setting → List NodeValue → List Value → Pair
+unfoldable pub pair_of : Setting → List NodeValue → List Value → Pair
 pair_of s values row =
     let out = output_row s values row in
-    record { row = out; keys = map (λ (t : Bool × Target). record { descending = t.0; value = target_value values out t.1 }) s.targets }
+    record { row = out; keys = map (sort_key values out) s.targets }
 
-abbrev pub row_pair : Setting → List Value → Pair
+unfoldable pub row_pair : Setting → List Value → Pair
 row_pair s row = pair_of s (row_values s row) row
 
-abbrev pub group_pair : Setting → List (List Value) → Pair
+unfoldable pub group_pair : Setting → List (List Value) → Pair
 group_pair s rows = pair_of s (group_values s rows) (first_row rows)
 
-abbrev pub all_pairs : Setting → List Table → List Pair
+unfoldable pub all_pairs : Setting → List Table → List Pair
 all_pairs s tables =
     if is_grouped s.query
     then map (group_pair s) (filter (keeps_group s) (groups_of s (kept_rows s tables)))
@@ -175,12 +179,12 @@ first_pairs_from kept (p ∷ ps) =
     first_pairs_from (if list_any (λ k. same_values p.row k.row) kept then kept else kept ++ p ∷ []) ps
 
 -- what a SELECT means over its tables
-abbrev pub meaning : Query → List ℕ → List Table → List Pair
+unfoldable pub meaning : Query → List ℕ → List Table → List Pair
 meaning q texts tables =
     let pairs = all_pairs (setting_of q texts tables) tables in
     if q.distinct then first_pairs_from [] pairs else pairs
 
 -- more than 2^30 rows to be grouped
-abbrev pub too_many : Query → List ℕ → List Table → Bool
+unfoldable pub too_many : Query → List ℕ → List Table → Bool
 too_many q texts tables =
     is_grouped q && nat_lt (2 ^ 30) (length (kept_rows (setting_of q texts tables) tables))

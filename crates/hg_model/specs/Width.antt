@@ -115,3 +115,7 @@ LeafFits s rows (node.Either a b) = ⊤
 LeafFits s rows (node.Not a) = ⊤
 LeafFits s rows (node.IsNull a) = ⊤
 LeafFits s rows (node.NotNull a) = ⊤
+
+-- a group of small rows, not too many for a sum of them
+abbrev pub is_small_group : List (List Value) → Bool
+is_small_group rows = list_all is_small_row rows && nat_le (length rows) (2 ^ 30)

@@ -8,6 +8,8 @@ mod evaluate;
 mod names;
 mod scope;
 mod slow;
+mod slow_groups;
+mod slow_rows;
 mod tables;
 mod trees;
 mod values;
