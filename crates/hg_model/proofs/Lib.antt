@@ -3,4 +3,6 @@ pub mod KeyOrder
 pub mod Leaves
 pub mod Loops
 pub mod Magnitudes
+pub mod Premises
+pub mod Turns
 pub mod Widths

@@ -276,7 +276,7 @@ abbrev pub lengths_fit : List FromColumn → List ℕ → Query → Bool
 lengths_fit scope positions q = list_all (λ n. nat_le n 3900) (sums_of_lengths scope positions q)
 
 -- the first cause against a SELECT over these tables, if there is one
-abbrev pub select_refusal : List Table → Query → Option Refusal
+unfoldable pub select_refusal : List Table → Query → Option Refusal
 select_refusal tables q =
     let scope = scope_of tables q in
     let positions = positions_of scope q in

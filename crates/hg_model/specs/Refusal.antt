@@ -34,7 +34,7 @@ code_of BadNumber = 22
 code_of RowTooLong = 23
 
 -- the first cause of a list of them
-abbrev pub first_cause : List (Option Refusal) → Option Refusal
+unfoldable pub first_cause : List (Option Refusal) → Option Refusal
 first_cause [] = None
 first_cause (None ∷ more) = first_cause more
 first_cause (Some r ∷ more) = Some r

@@ -166,11 +166,12 @@ row_pair s row = pair_of s (row_values s row) row
 unfoldable pub group_pair : Setting → List (List Value) → Pair
 group_pair s rows = pair_of s (group_values s rows) (first_row rows)
 
-unfoldable pub all_pairs : Setting → List Table → List Pair
-all_pairs s tables =
+-- the pairs of the rows that pass ON and WHERE
+unfoldable pub pairs_of : Setting → List (List Value) → List Pair
+pairs_of s rows =
     if is_grouped s.query
-    then map (group_pair s) (filter (keeps_group s) (groups_of s (kept_rows s tables)))
-    else map (row_pair s) (kept_rows s tables)
+    then map (group_pair s) (filter (keeps_group s) (groups_of s rows))
+    else map (row_pair s) rows
 
 -- with DISTINCT the first pair of each output row
 abbrev pub first_pairs_from : List Pair → List Pair → List Pair
@@ -181,7 +182,8 @@ first_pairs_from kept (p ∷ ps) =
 -- what a SELECT means over its tables
 unfoldable pub meaning : Query → List ℕ → List Table → List Pair
 meaning q texts tables =
-    let pairs = all_pairs (setting_of q texts tables) tables in
+    let s = setting_of q texts tables in
+    let pairs = pairs_of s (kept_rows s tables) in
     if q.distinct then first_pairs_from [] pairs else pairs
 
 -- more than 2^30 rows to be grouped

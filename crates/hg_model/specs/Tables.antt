@@ -1,6 +1,6 @@
 -- Tables as the definitions see them: a name, columns and a list of rows. Our own rule.
 use Rattle.std.specs.Prelude.{Vec, ℕ, Bool, true, false, List, [], ◌∷◌, ◌++◌, Option, Some, None, ℤ, pos, negsuc, nat_le, nat_lt, ◌^◌, not, ◌&&◌, map, length, nat_eq}
-use Rattle.std.specs.List.{find, flat_map}
+use Rattle.std.specs.List.{find, flat_map, list_all}
 use Rattle.std.specs.declared.alloc.Global.{Global}
 use lib.Pointwise.{pointwise}
 use Rattle.hg_model.specs.NullLogic.{is_null}
@@ -43,6 +43,9 @@ fits_columns [] (v ∷ vs) = false
 fits_columns (c ∷ cs) [] = false
 fits_columns (c ∷ cs) (v ∷ vs) = fits_type c.ty v && (is_allowed c v && fits_columns cs vs)
 
+abbrev pub table_fits : Table → Bool
+table_fits t = list_all (fits_columns t.columns) t.rows
+
 -- the table of a name, if there is one
 abbrev pub table_named : List Table → List ℕ → Option Table
 table_named tables name = find (λ t. same_name t.name name) tables
@@ -59,3 +62,7 @@ table_of t = record { name = t.name; columns = t.columns.items; rows = map (λ (
 
 abbrev pub tables_of : List SlowTable → List Table
 tables_of ts = map table_of ts
+
+-- rows of values as lists
+abbrev pub rows_seen : List (Vec Value Global) → List (List Value)
+rows_seen rows = map (λ (row : Vec Value Global). row.items) rows
