@@ -10,7 +10,6 @@ pub mod Query
 pub mod Refusal
 pub mod Scope
 pub mod SelectMeaning
-pub mod SlowPlaces
 pub mod Tables
 pub mod Types
 pub mod Value

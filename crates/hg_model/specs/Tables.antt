@@ -1,12 +1,10 @@
 -- Tables as the definitions see them: a name, columns and a list of rows. Our own rule.
-use Rattle.std.specs.Prelude.{Vec, ℕ, Bool, true, false, List, [], ◌∷◌, ◌++◌, Option, Some, None, ℤ, pos, negsuc, nat_le, nat_lt, ◌^◌, not, ◌&&◌, map, length, nat_eq}
+use Rattle.std.specs.Prelude.{ℕ, Bool, true, false, List, [], ◌∷◌, ◌++◌, Option, Some, None, ℤ, pos, negsuc, nat_le, nat_lt, ◌^◌, not, ◌&&◌, map, length, nat_eq}
 use Rattle.std.specs.List.{find, flat_map, list_all}
-use Rattle.std.specs.declared.alloc.Global.{Global}
 use lib.Pointwise.{pointwise}
 use Rattle.hg_model.specs.NullLogic.{is_null}
 use Rattle.hg_model.specs.declared.values.Value.{Value}
 use Rattle.hg_model.specs.declared.values.Value.TheVariants.{Null, Int, Text}
-use Rattle.hg_model.specs.declared.tables.SlowTable.{SlowTable}
 use Rattle.hg_model.specs.declared.trees.Column.{Column}
 use Rattle.hg_model.specs.declared.trees.SqlType.{SqlType}
 use Rattle.hg_model.specs.declared.trees.SqlType.TheVariants.{Integer, Varchar}
@@ -55,14 +53,3 @@ table_named tables name = find (λ t. same_name t.name name) tables
 abbrev pub cross : List (List (List Value)) → List (List Value)
 cross [] = [] ∷ []
 cross (rows ∷ more) = flat_map (λ row. map (λ rest. row ++ rest) (cross more)) rows
-
--- a table as the slow evaluator is given it
-abbrev pub table_of : SlowTable → Table
-table_of t = record { name = t.name; columns = t.columns.items; rows = map (λ (row : Vec Value Global). row.items) t.rows.items }
-
-abbrev pub tables_of : List SlowTable → List Table
-tables_of ts = map table_of ts
-
--- rows of values as lists
-abbrev pub rows_seen : List (Vec Value Global) → List (List Value)
-rows_seen rows = map (λ (row : Vec Value Global). row.items) rows

@@ -3,19 +3,13 @@
 //! pages, frames or runs.
 #![tactic(auto)]
 
-mod compare;
-mod evaluate;
 mod names;
-mod scope;
-mod slow;
-mod slow_groups;
-mod slow_rows;
 mod tables;
 mod trees;
 mod values;
 
 pub use names::Name;
-pub use tables::{FromColumn, SlowTable, SortKey, Target};
+pub use tables::{FromColumn, SortKey, Target};
 pub use trees::{
     Cmp, ColRef, Column, Command, Count, Delete, Fold, FromTable, Insert, Literal, NewColumn,
     NewIndex, NewTable, Node, Nodes, Op, OrderBy, OrderKey, Output, Parsed, Select, Span, SqlType,

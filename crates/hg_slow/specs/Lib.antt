@@ -1,0 +1,2 @@
+pub mod SlowPlaces
+pub mod SlowTables
