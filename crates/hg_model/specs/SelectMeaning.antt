@@ -70,8 +70,11 @@ row_leaf row (node.IsNull a) p = Null
 row_leaf row (node.NotNull a) p = Null
 
 -- what each node stands for over one row
+abbrev pub node_values : List ℕ → List ℕ → List Node → List Value → List NodeValue
+node_values texts positions nodes row = values_of (leaves_of (row_leaf row) nodes positions) texts nodes
+
 unfoldable pub row_values : Setting → List Value → List NodeValue
-row_values s row = values_of (leaves_of (row_leaf row) s.query.nodes s.positions) s.texts s.query.nodes
+row_values s row = node_values s.texts s.positions s.query.nodes row
 
 -- the conditions that a row has to meet: those of ON in order, and WHERE
 abbrev pub on_conditions : List FromTable → List ℕ
