@@ -7,6 +7,7 @@ use Rattle.std.proofs.lemmas.List.{get_or_append_left}
 use borrow.Author.Tests.{ltb-true}
 use Rattle.hg_model.proofs.Folds.{EachBelow, OperandsBelow, aggregate_below}
 use Rattle.hg_model.proofs.Widths.{Zipped, LeafBelow, LeavesBelow, values_below, zipped_at, narrow_next}
+use Rattle.hg_model.specs.Laws.{RowValuesLieBelow, GroupValuesLieBelow}
 use Rattle.hg_model.specs.Evaluation.{value_at, value_of, values_of}
 use Rattle.hg_model.specs.SelectMeaning.{Setting, leaves_of, row_leaf, row_values, group_leaf, group_values, operands, first_row}
 use Rattle.hg_model.specs.Types.{bound_of, bounds_from, bounds_of, bound_at, is_narrow}
@@ -168,10 +169,23 @@ module _ (s : Setting) (rows : List (List Value)) (sound : IsSound s.texts s.que
   pub group_fits : AllByRecursion (LeafFits s rows) s.query.nodes
   group_fits = each_node (bounds_of s.query.nodes) (LeafFits s rows) (λ n ns bs is before narrow. (fold_below n ns bs 0 is before narrow).0) s.query.nodes [] refl sound.tree sound.narrow
 
-  pub group_below : AllBelow (leaves_of (group_leaf s rows) s.query.nodes s.positions) s.texts s.query.nodes []
-  group_below =
-      (values_below (leaves_of (group_leaf s rows) s.query.nodes s.positions) s.texts s.query.nodes [] [] tt
+  both_below : AllBelow (leaves_of (group_leaf s rows) s.query.nodes s.positions) s.texts s.query.nodes [] × Zipped (bounds_of s.query.nodes) (group_values s rows)
+  unfolding group_values
+  both_below =
+      values_below (leaves_of (group_leaf s rows) s.query.nodes s.positions) s.texts s.query.nodes [] [] tt
       (leaves_below (bounds_of s.query.nodes) (group_leaf s rows) (λ n ns bs p is before narrow. (fold_below n ns bs p is before narrow).1)
       s.query.nodes s.positions [] (leaves_of (group_leaf s rows) s.query.nodes s.positions)
       (nothing_done (leaves_of (group_leaf s rows) s.query.nodes s.positions)) refl sound.tree sound.narrow)
-      sound.narrow).0
+      sound.narrow
+
+  pub group_below : AllBelow (leaves_of (group_leaf s rows) s.query.nodes s.positions) s.texts s.query.nodes []
+  group_below = both_below.0
+
+  pub group_zipped : Zipped (bounds_of s.query.nodes) (group_values s rows)
+  group_zipped = both_below.1
+
+pub row_values_lie_below : RowValuesLieBelow
+row_values_lie_below s row sound small k = zipped_at (bounds_of s.query.nodes) (row_values s row) k (row_below s row sound small).1
+
+pub group_values_lie_below : GroupValuesLieBelow
+group_values_lie_below s rows sound small few k = zipped_at (bounds_of s.query.nodes) (group_values s rows) k (group_zipped s rows sound small few)

@@ -1,3 +1,4 @@
+pub mod InTurn
 pub mod Folds
 pub mod KeyOrder
 pub mod Leaves

@@ -57,10 +57,10 @@ unfoldable pub insert_refusal : List Table → InsertTree → Option Refusal
 insert_refusal tables i =
     let columns = columns_of (table_named tables i.table) in
     first_cause
-        ( table_cause tables i.table
-        ∷ first_cause (columns_cause columns [] i.columns)
-        ∷ cause_if (not (list_all (tuple_fits columns (insert_targets columns i.columns)) (tuples_from 0 i.ends i.values))) TypeMismatch
-        ∷ [] )
+    (table_cause tables i.table
+    ∷ first_cause (columns_cause columns [] i.columns)
+    ∷ cause_if (not (list_all (tuple_fits columns (insert_targets columns i.columns)) (tuples_from 0 i.ends i.values))) TypeMismatch
+    ∷ [])
 
 -- the columns that the nodes of an UPDATE or a DELETE may name, with or without the table's own name
 abbrev pub table_scope : List Table → List ℕ → List FromColumn
@@ -115,22 +115,22 @@ update_refusal tables u =
     let scope = table_scope tables u.table in
     let kinds = change_kinds scope u.nodes in
     first_cause
-        ( table_cause tables u.table
-        ∷ first_cause (columns_cause columns [] (map (λ (s : List ℕ × ℕ). s.0) u.sets))
-        ∷ first_cause (map (node_name_cause scope) u.nodes)
-        ∷ cause_if (not (all_well_typed u.nodes kinds && (sets_fit columns kinds u.sets && filter_fits kinds u.filter))) TypeMismatch
-        ∷ cause_if (list_any is_aggregate u.nodes) NotGrouped
-        ∷ cause_if (not (all_narrow u.nodes)) TooWide
-        ∷ [] )
+    (table_cause tables u.table
+    ∷ first_cause (columns_cause columns [] (map (λ (s : List ℕ × ℕ). s.0) u.sets))
+    ∷ first_cause (map (node_name_cause scope) u.nodes)
+    ∷ cause_if (not (all_well_typed u.nodes kinds && (sets_fit columns kinds u.sets && filter_fits kinds u.filter))) TypeMismatch
+    ∷ cause_if (list_any is_aggregate u.nodes) NotGrouped
+    ∷ cause_if (not (all_narrow u.nodes)) TooWide
+    ∷ [])
 
 unfoldable pub delete_refusal : List Table → DeleteTree → Option Refusal
 delete_refusal tables d =
     let scope = table_scope tables d.table in
     let kinds = change_kinds scope d.nodes in
     first_cause
-        ( table_cause tables d.table
-        ∷ first_cause (map (node_name_cause scope) d.nodes)
-        ∷ cause_if (not (all_well_typed d.nodes kinds && filter_fits kinds d.filter)) TypeMismatch
-        ∷ cause_if (list_any is_aggregate d.nodes) NotGrouped
-        ∷ cause_if (not (all_narrow d.nodes)) TooWide
-        ∷ [] )
+    (table_cause tables d.table
+    ∷ first_cause (map (node_name_cause scope) d.nodes)
+    ∷ cause_if (not (all_well_typed d.nodes kinds && filter_fits kinds d.filter)) TypeMismatch
+    ∷ cause_if (list_any is_aggregate d.nodes) NotGrouped
+    ∷ cause_if (not (all_narrow d.nodes)) TooWide
+    ∷ [])

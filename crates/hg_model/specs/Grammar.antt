@@ -44,20 +44,28 @@ IsName w = is_reserved w ≡ false
 
 abbrev pub open_sign : Token
 open_sign = Sign (40 ∷ [])
+
 abbrev pub close_sign : Token
 close_sign = Sign (41 ∷ [])
+
 abbrev pub comma : Token
 comma = Sign (44 ∷ [])
+
 abbrev pub dot : Token
 dot = Sign (46 ∷ [])
+
 abbrev pub semicolon : Token
 semicolon = Sign (59 ∷ [])
+
 abbrev pub star : Token
 star = Sign (42 ∷ [])
+
 abbrev pub plus : Token
 plus = Sign (43 ∷ [])
+
 abbrev pub minus : Token
 minus = Sign (45 ∷ [])
+
 abbrev pub equals : Token
 equals = Sign (61 ∷ [])
 
@@ -122,11 +130,11 @@ pub data Expression : Rule → ℕ → Read → List Token → Read → ℕ → 
   pred_between : {d : ℕ} {r s t u : Read} {ts us vs : List Token} {m a b : ℕ} → Expression Sum d r ts s m → Expression Sum d s us t a
       → Expression Sum d (with_node t (node.Compare cmp.Ge m a)) vs u b
       → Expression Pred d r (ts ++ Word (codes "between") ∷ (us ++ Word (codes "and") ∷ vs))
-        (with_node (with_node u (node.Compare cmp.Le m b)) (node.Both (next t) (next u))) (next u + 1)
+      (with_node (with_node u (node.Compare cmp.Le m b)) (node.Both (next t) (next u))) (next u + 1)
   pred_not_between : {d : ℕ} {r s t u : Read} {ts us vs : List Token} {m a b : ℕ} → Expression Sum d r ts s m → Expression Sum d s us t a
       → Expression Sum d (with_node t (node.Compare cmp.Ge m a)) vs u b
       → Expression Pred d r (ts ++ Word (codes "not") ∷ Word (codes "between") ∷ (us ++ Word (codes "and") ∷ vs))
-        (with_node (with_node (with_node u (node.Compare cmp.Le m b)) (node.Both (next t) (next u))) (node.Not (next u + 1))) (next u + 2)
+      (with_node (with_node (with_node u (node.Compare cmp.Le m b)) (node.Both (next t) (next u))) (node.Not (next u + 1))) (next u + 2)
   pred_in : {d : ℕ} {r s t : Read} {ts us : List Token} {m n : ℕ} → Expression Sum d r ts s m → Expression (Items m) d s us t n
       → Expression Pred d r (ts ++ Word (codes "in") ∷ open_sign ∷ (us ++ close_sign ∷ [])) t n
   pred_not_in : {d : ℕ} {r s t : Read} {ts us : List Token} {m n : ℕ} → Expression Sum d r ts s m → Expression (Items m) d s us t n
@@ -158,7 +166,6 @@ pub data Expression : Rule → ℕ → Read → List Token → Read → ℕ → 
       → Expression Prim (suc d) r (Word (codes "count") ∷ open_sign ∷ star ∷ close_sign ∷ []) (with_node r (node.Aggregate of.CountRows None)) (next r)
   agg_one : {d : ℕ} {r s : Read} {ts : List Token} {n : ℕ} {w : Token} {f : Fold} → IsFold w f → Expression Or d r ts s n
       → Expression Prim (suc d) r (w ∷ open_sign ∷ (ts ++ close_sign ∷ [])) (with_node s (node.Aggregate f (Some n))) (next s)
-
   -- the items of IN behind the left operand m: an equality each, joined by OR
   items_one : {d : ℕ} {r s : Read} {ts : List Token} {m n : ℕ} → Expression Sum d r ts s n
       → Expression (Items m) d r ts (with_node s (node.Compare cmp.Eq m n)) (next s)
@@ -256,8 +263,8 @@ pub data IsSelect : List Token → Query → List ℕ → Type 0 where
       → Head hs distinct → Columns cs a star outputs → Tables a fs b tables → Clause (codes "where") b ws c filter → Group c gs d group
       → Clause (codes "having") d vs e having → Order e os f order
       → IsSelect (hs ++ (cs ++ Word (codes "from") ∷ (fs ++ (ws ++ (gs ++ (vs ++ os))))))
-        (record { distinct = distinct; star = star; outputs = outputs; tables = tables; filter = filter; group = group; having = having; order = order; nodes = f.nodes })
-        f.texts
+      (record { distinct = distinct; star = star; outputs = outputs; tables = tables; filter = filter; group = group; having = having; order = order; nodes = f.nodes })
+      f.texts
 
 -- const = ["+" | "-"] number | text | NULL
 pub data IsConstant : List ℕ → List Token → List ℕ → Literal → Type 0 where
@@ -329,10 +336,10 @@ pub data IsCommand : List Token → CommandTree → List ℕ → Type 0 where
       → IsCommand (Word (codes "create") ∷ Word (codes "table") ∷ Word t ∷ open_sign ∷ (ts ++ close_sign ∷ [])) (CreateTable (record { name = t; columns = cs })) []
   create_index : {us ts : List Token} {u : Bool} {cs : List (List ℕ)} (i t : List ℕ) → IsUnique us u → IsName i → IsName t → Names ts cs
       → IsCommand (Word (codes "create") ∷ (us ++ Word (codes "index") ∷ Word i ∷ Word (codes "on") ∷ Word t ∷ open_sign ∷ (ts ++ close_sign ∷ [])))
-        (CreateIndex (record { name = i; table = t; unique = u; columns = cs })) []
+      (CreateIndex (record { name = i; table = t; unique = u; columns = cs })) []
   insert : {ts us : List Token} {cs : List (List ℕ)} {x : List ℕ} {vs : List Literal} {es : List ℕ} (t : List ℕ) → IsName t → Listed ts cs → Tuples [] us x vs es
       → IsCommand (Word (codes "insert") ∷ Word (codes "into") ∷ Word t ∷ (ts ++ Word (codes "values") ∷ us))
-        (InsertRows (record { table = t; columns = cs; values = vs; ends = es })) x
+      (InsertRows (record { table = t; columns = cs; values = vs; ends = es })) x
   update : {ts us : List Token} {r s : Read} {xs : List (List ℕ × ℕ)} {f : Option ℕ} (t : List ℕ) → IsName t → Sets nothing_read ts r xs → Clause (codes "where") r us s f
       → IsCommand (Word (codes "update") ∷ Word t ∷ Word (codes "set") ∷ (ts ++ us)) (UpdateRows (record { table = t; sets = xs; filter = f; nodes = s.nodes })) s.texts
   delete : {ts : List Token} {r : Read} {f : Option ℕ} (t : List ℕ) → IsName t → Clause (codes "where") nothing_read ts r f

@@ -6,6 +6,7 @@ pub mod Changes
 pub mod Evaluation
 pub mod Grammar
 pub mod Groups
+pub mod Laws
 pub mod Name
 pub mod NullLogic
 pub mod Order

@@ -166,7 +166,7 @@ first_count (b ∷ bs) = if b.0 then Some b.1 else first_count bs
 -- the first kind, in this order, of which a line has too many
 abbrev pub too_many_of : List Token → CommandTree → Option Count
 too_many_of ts c = first_count
-    ( (list_any is_long_name ts, count.NameLetters)
+    ((list_any is_long_name ts, count.NameLetters)
     ∷ (list_any is_long_text ts, count.TextLetters)
     ∷ (nat_lt 16 (columns_in c), count.Columns)
     ∷ (nat_lt 64 (of_insert (λ (i : InsertTree). length i.ends) c), count.Rows)
@@ -176,7 +176,7 @@ too_many_of ts c = first_count
     ∷ (nat_lt 16 (of_query (λ (q : Query). length q.group) c), count.GroupColumns)
     ∷ (nat_lt 8 (of_query (λ (q : Query). length q.order) c), count.OrderKeys)
     ∷ (nat_lt 96 (nodes_in c), count.Nodes)
-    ∷ [] )
+    ∷ [])
 
 -- what a line may be read as
 pub data Reading : Type 0 where

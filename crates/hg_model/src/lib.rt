@@ -3,11 +3,13 @@
 //! pages, frames or runs.
 #![tactic(auto)]
 
+mod laws;
 mod names;
 mod tables;
 mod trees;
 mod values;
 
+pub use laws::{bags, turns_give_all, values_lie_below_their_bounds};
 pub use names::Name;
 pub use tables::{FromColumn, SortKey, Target};
 pub use trees::{
