@@ -5,11 +5,13 @@
 
 mod compare;
 mod evaluate;
+mod laws;
 mod scope;
 mod slow;
 mod slow_groups;
 mod slow_rows;
 mod tables;
 
+pub use laws::bound_is_narrow;
 pub use slow::slow_select;
 pub use tables::SlowTable;
