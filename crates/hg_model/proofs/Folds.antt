@@ -1,5 +1,5 @@
 -- Aggregates over values below a bound.
-use Rattle.std.proofs.Common.{◌≡◌, ℕ, zero, suc, ◌+◌, ◌-◌, ◌*◌, ◌^◌, ◌<◌, ◌≤◌, refl, sym, ap, subst, ◌∙◌, arith, pos, Bool, true, false, cond, List, [], ◌∷◌, length, Option, Some, None, ◌+ℤ◌, le_trans, lt_of_lt_of_le, lt_of_le_of_lt, mul-le-mul_right, zero-mul}
+use Rattle.std.proofs.Common.{◌≡◌, ℕ, zero, suc, ◌+◌, ◌*◌, ◌^◌, ◌<◌, ◌≤◌, sym, subst, arith, Bool, true, false, cond, List, [], ◌∷◌, length, Option, Some, None, le_trans, lt_of_lt_of_le, lt_of_le_of_lt, zero-mul}
 use Rattle.std.specs.Prelude.{nat_abs, ⊤}
 use Rattle.std.specs.List.{fold}
 use Rattle.std.specs.Ordering.{is_lt}

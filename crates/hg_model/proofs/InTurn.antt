@@ -1,10 +1,10 @@
 -- The laws of bags, and of pairs given in turn.
-use Rattle.std.proofs.Common.{◌≡◌, ℕ, zero, suc, ◌+◌, ◌<◌, Bool, false, List, [], ◌∷◌, ◌++◌, length, get_or, refl, sym, subst, arith, cond}
-use Rattle.std.specs.List.{All, AllByRecursion, count_by, sum_by}
+use Rattle.std.proofs.Common.{◌≡◌, ℕ, suc, ◌<◌, false, List, [], ◌∷◌, length, get_or, sym, subst, arith, cond}
+use Rattle.std.specs.List.{All, AllByRecursion}
 use Rattle.std.specs.List.Sorted.{IsPermutation}
 use Rattle.std.proofs.lemmas.List.Sorted.{IsPermutation-refl, IsPermutation-sym, IsPermutation-trans, IsPermutation-cons, IsPermutation-append, IsPermutation-middle, All-permutation, sum_by-IsPermutation}
-use Rattle.hg_model.specs.Laws.{InOrder, TurnsGiveAll, BagsAreEqual, BagsCountAlike, BagsAppend, BagsTakeOne}
-use Rattle.hg_model.specs.Order.{Pair, GivenInTurn, stands_before}
+use Rattle.hg_model.specs.Laws.{TurnsGiveAll, BagsAreEqual, BagsCountAlike, BagsAppend, BagsTakeOne}
+use Rattle.hg_model.specs.Order.{Pair, stands_before}
 
 all_later : (P : Pair → Type 0) (ps : List Pair) → ((k : ℕ) (d : Pair) → k < length ps → P (get_or ps k d)) → AllByRecursion P ps
 all_later P [] h = tt

@@ -1,6 +1,6 @@
 -- Over rows of small numbers each column and each aggregate has a value below its node's bound.
-use Rattle.std.proofs.Common.{◌≡◌, ℕ, zero, suc, ◌+◌, ◌-◌, ◌^◌, ◌<◌, ◌≤◌, refl, sym, ap, subst, ◌∙◌, arith, Bool, true, false, ◌&&◌, List, [], ◌∷◌, ◌++◌, length, map, get_or, length-append, IsTrue, Option, Some, None, add-zero}
-use Rattle.std.specs.Prelude.{nat_abs, nat_lt, ⊤}
+use Rattle.std.proofs.Common.{◌≡◌, ℕ, zero, suc, ◌+◌, ◌^◌, ◌<◌, ◌≤◌, refl, sym, ap, subst, ◌∙◌, arith, true, List, [], ◌∷◌, ◌++◌, length, map, length-append, Option, Some, None, add-zero}
+use Rattle.std.specs.Prelude.{nat_abs, nat_lt}
 use Rattle.std.specs.List.{list_all, AllByRecursion}
 use Rattle.std.specs.Cmp.{first_so, second_so}
 use Rattle.std.proofs.lemmas.List.{get_or_append_left}
@@ -8,10 +8,10 @@ use borrow.Author.Tests.{ltb-true}
 use Rattle.hg_model.proofs.Folds.{EachBelow, OperandsBelow, aggregate_below}
 use Rattle.hg_model.proofs.Widths.{Zipped, LeafBelow, LeavesBelow, values_below, zipped_at, narrow_next}
 use Rattle.hg_model.specs.Laws.{RowValuesLieBelow, GroupValuesLieBelow}
-use Rattle.hg_model.specs.Evaluation.{value_at, value_of, values_of}
+use Rattle.hg_model.specs.Evaluation.{value_at, value_of}
 use Rattle.hg_model.specs.SelectMeaning.{Setting, leaves_of, row_leaf, row_values, group_leaf, group_values, operands, first_row}
 use Rattle.hg_model.specs.Types.{bound_of, bounds_from, bounds_of, bound_at, is_narrow}
-use Rattle.hg_model.specs.Width.{IsBelow, AllBelow, FoldFits, LeafFits, IsSound, is_small, is_small_row, is_tree_from, has_children_before, stands_before_place}
+use Rattle.hg_model.specs.Width.{IsBelow, AllBelow, LeafFits, IsSound, is_small, is_small_row, is_tree_from, has_children_before, stands_before_place}
 use Rattle.hg_model.specs.declared.values.Value.{Value}
 use Rattle.hg_model.specs.declared.values.Value.TheVariants.{Null, Int, Text}
 use Rattle.hg_model.specs.declared.trees.Node.{Node}

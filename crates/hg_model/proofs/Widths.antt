@@ -1,20 +1,18 @@
 -- Each number that a node gives lies below 2^bound in magnitude.
-use Rattle.std.proofs.Common.{◌≡◌, ℕ, zero, suc, ◌+◌, ◌-◌, ◌*◌, ◌^◌, ◌<◌, ◌≤◌, max, refl, sym, ap, subst, ◌∙◌, arith, pos, negsuc, Bool, true, false, cond, ◌&&◌, List, [], ◌∷◌, ◌++◌, length, get_or, length-append, IsTrue, Option, Some, None, lt_of_lt_of_le, le_trans}
-use Rattle.std.specs.Prelude.{nat_abs, nat_le, nat_lt, slice_index, ⊤}
+use Rattle.std.proofs.Common.{◌≡◌, ℕ, zero, suc, ◌+◌, ◌^◌, ◌<◌, ◌≤◌, refl, sym, ap, subst, ◌∙◌, arith, Bool, true, List, [], ◌∷◌, ◌++◌, length, lt_of_lt_of_le, le_trans}
+use Rattle.std.specs.Prelude.{nat_abs, nat_lt, ⊤}
 use Rattle.std.specs.List.{list_all, position_or_len, range_with_len}
 use Rattle.std.specs.Cmp.{first_so, second_so}
 use Rattle.std.proofs.lemmas.Bool.Decides.{nat_tests}
 use Rattle.std.proofs.lemmas.List.Folds.{list_all-append}
-use Rattle.std.proofs.lemmas.List.{get_or_append_left}
 use borrow.Author.Tests.{ltb-true, leb-true}
 use Rattle.hg_model.proofs.Magnitudes.{nat_abs-neg, pow_up, add_below, sub_below, mul_below}
 use Rattle.hg_model.specs.Width.{IsBelow, AllBelow}
-use Rattle.hg_model.specs.Evaluation.{value_at, value_of, as_value, node_value, values_from, values_of, arithmetic, negative, literal_value}
-use Rattle.hg_model.specs.Types.{bound_of, bounds_from, bounds_of, bound_at, literal_bound, arithmetic_bound, is_narrow, binary_digits, digits_within}
+use Rattle.hg_model.specs.Evaluation.{value_at, value_of, as_value, node_value, values_from, arithmetic, negative, literal_value}
+use Rattle.hg_model.specs.Types.{bound_of, bounds_from, bound_at, literal_bound, arithmetic_bound, is_narrow, binary_digits, digits_within}
 use Rattle.hg_model.specs.declared.values.Value.{Value}
 use Rattle.hg_model.specs.declared.values.Value.TheVariants.{Null, Int, Text}
 use Rattle.hg_model.specs.declared.values.NodeValue.{NodeValue}
-use Rattle.hg_model.specs.declared.values.NodeValue.TheVariants.{Plain, Condition}
 use Rattle.hg_model.specs.declared.trees.Literal.{Literal}
 use Rattle.hg_model.specs.declared.trees.Literal.TheVariants as literal
 use Rattle.hg_model.specs.declared.trees.Op.{Op}

@@ -1,6 +1,6 @@
 -- The five aggregates. SQL-92, section 6.5: COUNT(*) counts rows, the others pass NULL over; of no
 -- value COUNT is 0 and SUM, MIN and MAX are NULL.
-use Rattle.std.specs.Prelude.{ℕ, suc, List, [], ◌∷◌, pos, ◌+ℤ◌, cond, length}
+use Rattle.std.specs.Prelude.{ℕ, suc, List, pos, ◌+ℤ◌, cond, length}
 use Rattle.std.specs.List.{fold}
 use Rattle.std.specs.Ordering.{is_lt}
 use Rattle.hg_model.specs.Order.{value_cmp}

@@ -1,7 +1,6 @@
 -- A bag is a list whose order does not count: two lists are one bag where one is the other in another
 -- order, so that every test counts the same in both. Our own rule.
-use Rattle.std.specs.Prelude.{◌≡◌, ℕ, Bool, List, [], ◌∷◌, ◌++◌}
-use Rattle.std.specs.List.{count_by, Contains, remove}
+use Rattle.std.specs.Prelude.{List, ◌∷◌}
 use Rattle.std.specs.List.Sorted.{IsPermutation}
 
 abbrev pub SameBag : {X : Type 0} → List X → List X → Type 0

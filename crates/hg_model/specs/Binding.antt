@@ -1,17 +1,17 @@
 -- Whether a statement may stand over its tables, and the first cause against it. Our own rule, for the
 -- order of the causes and the words after them.
-use Rattle.std.specs.Prelude.{ℕ, suc, zero, Bool, true, false, List, [], ◌∷◌, ◌++◌, Option, Some, None, is_some, is_none, map, length, ◌&&◌, ◌||◌, not, nat_lt, nat_le, nat_eq, slice_index, slice_index_or, slice_get, take, drop, ◌+◌, if◌then◌else◌}
-use Rattle.std.specs.List.{list_any, list_all, filter, filter_map, count_by, sum, sum_by, position_or_len}
+use Rattle.std.specs.Prelude.{ℕ, suc, zero, Bool, true, false, List, [], ◌∷◌, ◌++◌, Option, Some, None, is_some, map, length, ◌&&◌, ◌||◌, not, nat_lt, nat_le, nat_eq, slice_index, slice_index_or, ◌+◌, if◌then◌else◌}
+use Rattle.std.specs.List.{list_any, list_all, filter, count_by, sum_by}
 use Rattle.std.specs.Option.{option_to_list}
 use Rattle.hg_model.specs.Query.{Query}
 use Rattle.hg_model.specs.Refusal.{Refusal, UnknownTable, UnknownColumn, AmbiguousColumn, TypeMismatch, TooWide, NameTaken, TooMany, NotGrouped, BadNumber, RowTooLong, first_cause}
 use Rattle.hg_model.specs.declared.tables.FromColumn.{FromColumn}
 use Rattle.hg_model.specs.declared.tables.Target.{Target}
 use Rattle.hg_model.specs.declared.tables.Target.TheVariants.{ToOutput, ToNode}
-use Rattle.hg_model.specs.Scope.{scope_of, is_named, is_meant, tables_seen, positions_of, columns_from, columns_of, finds_output, output_found, output_count, column_place, target_of}
+use Rattle.hg_model.specs.Scope.{scope_of, is_named, is_meant, tables_seen, positions_of, finds_output, output_count, column_place, target_of}
 use Rattle.hg_model.specs.SelectMeaning.{is_grouped, is_aggregate, conditions}
 use Rattle.hg_model.specs.Tables.{Table, table_named, same_name}
-use Rattle.hg_model.specs.Types.{Kind, Nothing, kind_of_type, kind_of_literal, kind_at, kinds_from, all_well_typed, is_condition, is_value, agree, all_narrow, type_length, lengths_from}
+use Rattle.hg_model.specs.Types.{Kind, Nothing, kind_of_type, kind_at, kinds_from, all_well_typed, is_condition, is_value, all_narrow, type_length, lengths_from}
 use Rattle.hg_model.specs.declared.trees.Count.TheVariants as count
 use Rattle.hg_model.specs.declared.trees.FromTable.{FromTable}
 use Rattle.hg_model.specs.declared.trees.Column.{Column}
@@ -20,7 +20,6 @@ use Rattle.hg_model.specs.declared.trees.Output.{Output}
 use Rattle.hg_model.specs.declared.trees.OrderKey.{OrderKey}
 use Rattle.hg_model.specs.declared.trees.OrderBy.{OrderBy}
 use Rattle.hg_model.specs.declared.trees.OrderBy.TheVariants.{Position, Column as ByColumn}
-use Rattle.hg_model.specs.declared.trees.Literal.{Literal}
 use Rattle.hg_model.specs.declared.trees.Node.{Node}
 use Rattle.hg_model.specs.declared.trees.Node.TheVariants as node
 

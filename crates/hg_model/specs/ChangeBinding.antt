@@ -1,6 +1,6 @@
 -- Whether an INSERT, an UPDATE or a DELETE may stand over its tables, and the first cause against it.
 -- Our own rule.
-use Rattle.std.specs.Prelude.{ℕ, suc, zero, Bool, true, false, List, [], ◌∷◌, ◌++◌, Option, Some, None, is_some, map, length, ◌==◌, ◌&&◌, ◌||◌, not, nat_lt, slice_index, if◌then◌else◌}
+use Rattle.std.specs.Prelude.{ℕ, suc, zero, Bool, true, false, List, [], ◌∷◌, ◌++◌, Option, Some, None, is_some, map, length, ◌&&◌, not, if◌then◌else◌}
 use Rattle.std.specs.List.{list_any, list_all, position_or_len, range_with_len, count_by}
 use Rattle.std.specs.Option.{option_to_list}
 use Rattle.hg_model.specs.Binding.{cause_if, cause_of_count, type_at}
@@ -13,7 +13,6 @@ use Rattle.hg_model.specs.Tables.{Table, table_named, same_name}
 use Rattle.hg_model.specs.Types.{Kind, Nothing, kind_of_type, kind_of_literal, kind_at, kinds_from, all_well_typed, is_condition, agree, all_narrow}
 use Rattle.hg_model.specs.declared.tables.FromColumn.{FromColumn}
 use Rattle.hg_model.specs.declared.trees.Column.{Column}
-use Rattle.hg_model.specs.declared.trees.ColRef.{ColRef}
 use Rattle.hg_model.specs.declared.trees.Literal.{Literal}
 use Rattle.hg_model.specs.declared.trees.Node.{Node}
 use Rattle.hg_model.specs.declared.trees.Node.TheVariants as node

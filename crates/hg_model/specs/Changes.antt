@@ -1,7 +1,7 @@
 -- What INSERT, UPDATE and DELETE make of a table's rows. SQL-92, sections 13.8, 13.10 and 13.7: every
 -- right side of UPDATE is computed from the old row. That unique keys are checked after the whole
 -- statement, that rows have at most 1,000 coded bytes, and the order of the causes are our own rules.
-use Rattle.std.specs.Prelude.{ℕ, suc, Bool, true, false, List, [], ◌∷◌, ◌++◌, Option, Some, None, map, length, take, drop, ◌+◌, ◌-◌, ◌==◌, ◌&&◌, ◌||◌, not, nat_lt, slice_set, if◌then◌else◌}
+use Rattle.std.specs.Prelude.{ℕ, suc, Bool, false, List, [], ◌∷◌, ◌++◌, Option, Some, None, map, length, take, drop, ◌+◌, ◌-◌, ◌==◌, ◌&&◌, ◌||◌, not, nat_lt, slice_set, if◌then◌else◌}
 use Rattle.std.specs.List.{list_any, list_all, filter, count_by, sum_by, range_with_len}
 use Rattle.std.specs.Option.{option_to_list}
 use Rattle.hg_model.specs.Evaluation.{value_at, value_of, truth_of, literal_value}
@@ -13,7 +13,6 @@ use Rattle.hg_model.specs.Statements.{InsertTree, UpdateTree, DeleteTree}
 use Rattle.hg_model.specs.Tables.{Table, fits_type, fits_integer}
 use Rattle.hg_model.specs.declared.trees.Column.{Column}
 use Rattle.hg_model.specs.declared.trees.Literal.{Literal}
-use Rattle.hg_model.specs.declared.trees.Node.{Node}
 use Rattle.hg_model.specs.declared.values.Value.{Value}
 use Rattle.hg_model.specs.declared.values.Value.TheVariants.{Null, Int, Text}
 use Rattle.hg_model.specs.declared.values.NodeValue.{NodeValue}

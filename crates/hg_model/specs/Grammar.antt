@@ -1,13 +1,12 @@
 -- Which tree a list of tokens stands for: one case for each rule of the grammar. SQL-92 in part; the
 -- grammar is our own rule.
-use Rattle.std.specs.Prelude.{◌≡◌, ℕ, suc, Bool, true, false, List, [], ◌∷◌, ◌++◌, Option, Some, None, IsTrue, not, length, ◌+◌, pos, neg_ℤ, codes}
+use Rattle.std.specs.Prelude.{◌≡◌, ℕ, suc, Bool, true, false, List, [], ◌∷◌, ◌++◌, Option, Some, None, length, ◌+◌, pos, neg_ℤ, codes}
 use Rattle.hg_model.specs.Query.{Query}
-use Rattle.hg_model.specs.Statements.{TableTree, IndexTree, InsertTree, UpdateTree, DeleteTree, CommandTree, CreateTable, CreateIndex, InsertRows, UpdateRows, DeleteRows, Vacuum, SelectRows, OpenCursor, Start, Work, Fetch, Close, Pool, Mpl, ShowMemory}
+use Rattle.hg_model.specs.Statements.{CommandTree, CreateTable, CreateIndex, InsertRows, UpdateRows, DeleteRows, Vacuum, SelectRows, OpenCursor, Start, Work, Fetch, Close, Pool, Mpl, ShowMemory}
 use Rattle.hg_model.specs.Tokens.{Token, Word, Digits, Letters, Sign, is_reserved, number_of}
 use Rattle.hg_model.specs.declared.trees.Cmp.{Cmp}
 use Rattle.hg_model.specs.declared.trees.Cmp.TheVariants as cmp
 use Rattle.hg_model.specs.declared.trees.ColRef.{ColRef}
-use Rattle.hg_model.specs.declared.trees.Column.{Column}
 use Rattle.hg_model.specs.declared.trees.Fold.{Fold}
 use Rattle.hg_model.specs.declared.trees.Fold.TheVariants as of
 use Rattle.hg_model.specs.declared.trees.FromTable.{FromTable}

@@ -1,6 +1,6 @@
 -- Groups. SQL-92, section 7.7: rows with equal values in the grouping columns form one group, two
 -- NULLs being equal. That groups stand in order of first appearance is our own rule; it shows nowhere.
-use Rattle.std.specs.Prelude.{ℕ, Bool, true, false, List, [], ◌∷◌, ◌++◌, ◌&&◌, if◌then◌else◌, map}
+use Rattle.std.specs.Prelude.{Bool, List, [], ◌∷◌, ◌++◌, if◌then◌else◌, map}
 use Rattle.std.specs.List.{list_any, filter}
 use lib.Pointwise.{pointwise}
 use Rattle.hg_model.specs.NullLogic.{same_value}

@@ -1,7 +1,7 @@
 -- The three-valued logic of conditions, and comparison. SQL-92, section 8.12 (the tables of AND, OR
 -- and NOT) and section 8.2 (comparison: NULL on either side is unknown). That texts compare byte by
 -- byte and without padding, a proper prefix being less, is our own rule.
-use Rattle.std.specs.Prelude.{ℕ, Bool, true, false, List, ℤ, not}
+use Rattle.std.specs.Prelude.{Bool, true, false}
 use Rattle.std.specs.declared.cmp.Ordering.{Ordering}
 use Rattle.std.specs.Ordering.{is_eq, is_lt, is_gt, is_le, is_ge, is_ne, int_cmp, nat_cmp}
 use Rattle.std.specs.Cmp.Lexicographic.{slice_cmp}

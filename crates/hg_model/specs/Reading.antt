@@ -1,11 +1,11 @@
 -- What a line of a script is read as. Our own rule: the first of these causes, in this order, that
 -- applies refuses a line that is not blank: it is not in the grammar, a number in it is out of range,
 -- it has too many of something.
-use Rattle.std.specs.Prelude.{◌≡◌, ℕ, Bool, true, false, List, [], ◌∷◌, ◌++◌, Option, Some, None, ◌^◌, ◌<◌, ◌≤◌, nat_lt, nat_le, nat_abs, ◌&&◌, ◌||◌, not, length, IsTrue, if◌then◌else◌}
+use Rattle.std.specs.Prelude.{◌≡◌, ℕ, Bool, true, false, List, [], ◌∷◌, Option, Some, None, ◌^◌, nat_lt, nat_le, nat_abs, ◌&&◌, ◌||◌, not, length, if◌then◌else◌}
 use Rattle.std.specs.List.{list_any}
 use Rattle.hg_model.specs.Grammar.{IsLine}
 use Rattle.hg_model.specs.Query.{Query}
-use Rattle.hg_model.specs.Statements.{TableTree, IndexTree, InsertTree, UpdateTree, DeleteTree, CommandTree, CreateTable, CreateIndex, InsertRows, UpdateRows, DeleteRows, Vacuum, SelectRows, OpenCursor, Start, Work, Fetch, Close, Pool, Mpl, ShowMemory}
+use Rattle.hg_model.specs.Statements.{InsertTree, CommandTree, CreateTable, CreateIndex, InsertRows, UpdateRows, DeleteRows, Vacuum, SelectRows, OpenCursor, Start, Work, Fetch, Close, Pool, Mpl, ShowMemory}
 use Rattle.hg_model.specs.Tokens.{Token, Word, Digits, Letters, Sign, Spells, is_reserved}
 use Rattle.hg_model.specs.declared.trees.Count.{Count}
 use Rattle.hg_model.specs.declared.trees.Count.TheVariants as count

@@ -1,6 +1,6 @@
 -- What a column's name in a SELECT stands for. SQL-92, section 6.4. That a condition of ON may name
 -- any table to its left, and the rule for names in ORDER BY, are our own rules.
-use Rattle.std.specs.Prelude.{ℕ, suc, Bool, true, false, List, [], ◌∷◌, ◌++◌, Option, Some, None, map, length, ◌&&◌, ◌||◌, nat_lt, nat_le, cond, slice_index, slice_get, ◌-◌, if◌then◌else◌}
+use Rattle.std.specs.Prelude.{ℕ, suc, Bool, true, false, List, [], ◌∷◌, ◌++◌, Option, Some, None, length, ◌&&◌, ◌||◌, nat_lt, nat_le, slice_index, slice_get, ◌-◌, if◌then◌else◌}
 use Rattle.std.specs.List.{position_or_len}
 use Rattle.hg_model.specs.declared.values.Value.{Value}
 use Rattle.hg_model.specs.Query.{Query}
@@ -12,7 +12,6 @@ use Rattle.hg_model.specs.declared.trees.FromTable.{FromTable}
 use Rattle.hg_model.specs.declared.trees.Column.{Column}
 use Rattle.hg_model.specs.declared.trees.ColRef.{ColRef}
 use Rattle.hg_model.specs.declared.trees.Output.{Output}
-use Rattle.hg_model.specs.declared.trees.OrderKey.{OrderKey}
 use Rattle.hg_model.specs.declared.trees.OrderBy.{OrderBy}
 use Rattle.hg_model.specs.declared.trees.OrderBy.TheVariants.{Position, Column as ByColumn}
 use Rattle.hg_model.specs.declared.trees.Node.{Node}

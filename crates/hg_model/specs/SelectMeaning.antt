@@ -3,7 +3,7 @@
 -- DISTINCT each output row once. A filter keeps the rows whose condition is true. The meaning is a list
 -- of pairs of an output row and its keys of ORDER BY; as a bag it says which rows come, and
 -- `MayComeNext` in which order.
-use Rattle.std.specs.Prelude.{ℕ, Bool, true, false, List, [], ◌∷◌, ◌++◌, Option, Some, None, map, length, is_some, ◌||◌, ◌&&◌, not, nat_lt, ◌^◌, if◌then◌else◌}
+use Rattle.std.specs.Prelude.{ℕ, Bool, true, false, List, [], ◌∷◌, ◌++◌, Option, Some, None, map, length, is_some, ◌||◌, ◌&&◌, nat_lt, ◌^◌, if◌then◌else◌}
 use Rattle.std.specs.List.{list_any, list_all, filter}
 use Rattle.std.specs.Option.{option_to_list}
 use Rattle.hg_model.specs.Aggregates.{aggregate}
@@ -19,12 +19,11 @@ use Rattle.hg_model.specs.declared.tables.Target.{Target}
 use Rattle.hg_model.specs.declared.tables.Target.TheVariants.{ToOutput, ToNode}
 use Rattle.hg_model.specs.Tables.{Table, table_named, cross}
 use Rattle.hg_model.specs.declared.values.Value.{Value}
-use Rattle.hg_model.specs.declared.values.Value.TheVariants.{Null, Int, Text}
+use Rattle.hg_model.specs.declared.values.Value.TheVariants.{Null}
 use Rattle.hg_model.specs.declared.values.NodeValue.{NodeValue}
 use Rattle.hg_model.specs.declared.trees.FromTable.{FromTable}
 use Rattle.hg_model.specs.declared.trees.Output.{Output}
 use Rattle.hg_model.specs.declared.trees.OrderKey.{OrderKey}
-use Rattle.hg_model.specs.declared.trees.Fold.{Fold}
 use Rattle.hg_model.specs.declared.trees.Node.{Node}
 use Rattle.hg_model.specs.declared.trees.Node.TheVariants as node
 

@@ -1,5 +1,5 @@
 -- The trees of all statements as lists, as the grammar gives them. A SELECT is a `Query`.
-use Rattle.std.specs.Prelude.{ℕ, Bool, List, Option, map}
+use Rattle.std.specs.Prelude.{ℕ, Bool, List, Option}
 use Rattle.hg_model.specs.Query.{Query, query_of}
 use Rattle.hg_model.specs.declared.trees.Command.{Command}
 use Rattle.hg_model.specs.declared.trees.Command.TheVariants as command
@@ -10,7 +10,6 @@ use Rattle.hg_model.specs.declared.trees.NewColumn.{NewColumn}
 use Rattle.hg_model.specs.declared.trees.NewIndex.{NewIndex}
 use Rattle.hg_model.specs.declared.trees.NewTable.{NewTable}
 use Rattle.hg_model.specs.declared.trees.Node.{Node}
-use Rattle.hg_model.specs.declared.trees.Parsed.{Parsed}
 use Rattle.hg_model.specs.declared.trees.Update.{Update}
 
 pub record TableTree : Type 0 where

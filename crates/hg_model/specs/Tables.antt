@@ -1,5 +1,5 @@
 -- Tables as the definitions see them: a name, columns and a list of rows. Our own rule.
-use Rattle.std.specs.Prelude.{ℕ, Bool, true, false, List, [], ◌∷◌, ◌++◌, Option, Some, None, ℤ, pos, negsuc, nat_le, nat_lt, ◌^◌, not, ◌&&◌, map, length, nat_eq}
+use Rattle.std.specs.Prelude.{ℕ, Bool, true, false, List, [], ◌∷◌, ◌++◌, Option, ℤ, pos, negsuc, nat_le, nat_lt, ◌^◌, not, ◌&&◌, map, length, nat_eq}
 use Rattle.std.specs.List.{find, flat_map, list_all}
 use lib.Pointwise.{pointwise}
 use Rattle.hg_model.specs.NullLogic.{is_null}

@@ -1,9 +1,9 @@
 -- The tokens of a line. Our own rule, after SQL-92, section 5.2: words and names are read without regard
 -- to case and kept in lower case; the longest sign is read; a comment runs from `--` to the end of the
 -- line.
-use Rattle.std.specs.Prelude.{◌≡◌, ℕ, Bool, true, false, List, [], ◌∷◌, ◌++◌, ◌+◌, ◌-◌, ◌*◌, ◌&&◌, ◌||◌, ◌==◌, not, cond, IsTrue, length, nat_lt, nat_le, map, codes}
+use Rattle.std.specs.Prelude.{ℕ, Bool, false, List, [], ◌∷◌, ◌++◌, ◌+◌, ◌-◌, ◌*◌, ◌&&◌, ◌||◌, ◌==◌, not, cond, IsTrue, length, nat_lt, nat_le, map, codes}
 use Rattle.std.specs.List.{list_all, list_any, fold}
-use Rattle.hg_model.specs.Name.{begins_word, is_in_word, is_digit, is_letter}
+use Rattle.hg_model.specs.Name.{begins_word, is_in_word, is_digit}
 use Rattle.hg_model.specs.Tables.{same_name}
 use Rattle.hg_model.specs.Value.{is_printable}
 

@@ -1,8 +1,8 @@
 -- The types of the nodes of an expression, and their bounds on width and length. That a number and a
 -- text are never mixed, and that a condition is no value, is SQL-92, sections 8.2 and 6.11; the bounds
 -- are our own rule.
-use Rattle.std.specs.Prelude.{ℕ, Bool, true, false, List, [], ◌∷◌, ◌++◌, Option, Some, None, ◌+◌, max, nat_abs, nat_lt, nat_le, ◌^◌, ◌&&◌, ◌||◌, not, slice_index, slice_index_or, length, map}
-use Rattle.std.specs.List.{position_or_len, range_with_len, list_any, list_all}
+use Rattle.std.specs.Prelude.{ℕ, Bool, true, false, List, [], ◌∷◌, ◌++◌, Option, Some, None, ◌+◌, max, nat_abs, nat_lt, nat_le, ◌^◌, ◌&&◌, not, slice_index, slice_index_or, length}
+use Rattle.std.specs.List.{position_or_len, range_with_len, list_all}
 use Rattle.hg_model.specs.declared.trees.SqlType.{SqlType}
 use Rattle.hg_model.specs.declared.trees.SqlType.TheVariants.{Integer, Varchar}
 use Rattle.hg_model.specs.declared.trees.Literal.{Literal}

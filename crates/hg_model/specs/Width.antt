@@ -1,5 +1,5 @@
 -- Whether values and the nodes of a statement may be evaluated in 128 bits. Our own rule.
-use Rattle.std.specs.Prelude.{ℕ, suc, Bool, true, false, List, [], ◌∷◌, ◌++◌, Option, Some, None, ◌+◌, ◌<◌, ◌≤◌, ◌^◌, nat_abs, nat_le, nat_lt, length, ◌&&◌, IsTrue, ⊤}
+use Rattle.std.specs.Prelude.{ℕ, suc, Bool, true, List, [], ◌∷◌, ◌++◌, Option, Some, None, ◌+◌, ◌<◌, ◌^◌, nat_abs, nat_le, nat_lt, length, ◌&&◌, IsTrue, ⊤}
 use Rattle.std.specs.List.{list_all}
 use Rattle.hg_model.specs.Aggregates.{add_value}
 use Rattle.hg_model.specs.Evaluation.{part_of, as_value, node_value, value_at}

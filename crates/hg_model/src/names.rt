@@ -1,4 +1,8 @@
 //! Names of tables, columns, indexes and cursors.
+ghost use Rattle.std.specs.Prelude.{◌≡◌};
+ghost use Rattle.std.specs.List.{list_all};
+ghost use Rattle.hg_model.specs.Name.{begins_word, is_in_word, is_letter, is_name};
+
 use arrayvec::ArrayString;
 use std::hash::{Hash, Hasher};
 use std::marker::Model;
@@ -22,9 +26,10 @@ impl Model for Name {
 }
 
 impl Name {
-    ghost use Rattle.std.specs.Prelude.{◌≡◌, IsTrue};
+    ghost use Rattle.std.specs.Prelude.{◌≡◌, ◌↔◌, IsTrue, IfSome, IsSome};
     ghost use Rattle.hg_model.specs.Name.{is_name};
 
+    /// The name that is spelled so.
     pub fn new(s: &str) -> Name
         requires { IsTrue (is_name s.now) }
         ensures { result ≡ s.now }
@@ -34,6 +39,19 @@ impl Name {
         Name { text }
     }
 
+    /// The name that is spelled so, where it is one.
+    pub fn parse(s: &str) -> Option<Name>
+        ensures some { IfSome result (λ n. n ≡ s.now) }
+        ensures variant { IsSome result ↔ IsTrue (is_name s.now) }
+    {
+        if is_name(s.as_bytes()) {
+            Some(Name::new(s))
+        } else {
+            None
+        }
+    }
+
+    /// An equal name.
     pub fn copy(&self) -> Name
         ensures { result ≡ self.now }
     {
@@ -45,6 +63,44 @@ impl Name {
         ensures name { IsTrue (is_name self.now) }
     {
         self.text.as_str()
+    }
+}
+
+fn is_letter(b: u8) -> bool
+    ensures { result ≡ is_letter b }
+{
+    (97 <= b && b <= 122) || (65 <= b && b <= 90)
+}
+
+fn begins_word(b: u8) -> bool
+    ensures { result ≡ begins_word b }
+{
+    is_letter(b) || b == 95
+}
+
+fn is_in_word(b: u8) -> bool
+    ensures { result ≡ is_in_word b }
+{
+    begins_word(b) || (48 <= b && b <= 57)
+}
+
+fn all_in_word(bytes: &[u8]) -> bool
+    ensures { result ≡ list_all is_in_word bytes.now }
+{
+    for byte in bytes {
+        if !is_in_word(*byte) {
+            return false;
+        }
+    }
+    true
+}
+
+fn is_name(bytes: &[u8]) -> bool
+    ensures { result ≡ is_name bytes.now }
+{
+    match bytes {
+        [] => false,
+        [first, rest @ ..] => begins_word(*first) && all_in_word(rest) && rest.len() <= 29,
     }
 }
 
