@@ -1,3 +1,4 @@
+pub mod Answerable
 pub mod Bound
 pub mod SlowPlaces
 pub mod SlowTables

@@ -3,6 +3,7 @@
 //! memory. Its one contract is that of `slow_select`.
 #![tactic(auto)]
 
+mod answerable;
 mod compare;
 mod evaluate;
 mod laws;
@@ -12,6 +13,7 @@ mod slow_groups;
 mod slow_rows;
 mod tables;
 
+pub use answerable::is_answerable;
 pub use laws::bound_is_narrow;
 pub use slow::slow_select;
 pub use tables::SlowTable;

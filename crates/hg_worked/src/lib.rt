@@ -7,3 +7,6 @@ mod rows;
 pub use rows::{
     changed_tables, filters, grouped_statements, joins, ordered_statements, refused_statements,
 };
+
+#[cfg(test)]
+mod tests;
