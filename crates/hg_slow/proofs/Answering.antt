@@ -1,10 +1,9 @@
 -- What the test of `is_answerable` shows.
-use Rattle.std.proofs.Common.{◌≡◌, ℕ, zero, suc, ◌+◌, ◌-◌, ◌*◌, ◌^◌, ◌<◌, ◌≤◌, refl, sym, ap, subst, ◌∙◌, arith, Bool, true, false, cond, ◌&&◌, not, List, [], ◌∷◌, ◌++◌, length, map, get_or, take, drop, length-append, le_trans}
+use Rattle.std.proofs.Common.{◌≡◌, ℕ, suc, ◌+◌, ◌-◌, ◌*◌, ◌^◌, ◌<◌, ◌≤◌, refl, sym, ap, ◌∙◌, arith, Bool, true, false, cond, ◌&&◌, not, List, [], ◌∷◌, ◌++◌, length, map, get_or, take, drop, length-append, le_trans}
 use Rattle.std.specs.Prelude.{nat_lt}
-use Rattle.std.specs.List.{list_all, filter, flat_map, position_or_len, range_with_len}
+use Rattle.std.specs.List.{filter, flat_map, position_or_len, range_with_len}
 use Rattle.std.proofs.lemmas.List.{take_all}
 use borrow.Author.Tests.{le-ltb}
-use Rattle.hg_model.specs.NullLogic.{is_null}
 use Rattle.hg_model.specs.Query.{Query}
 use Rattle.hg_model.specs.SelectMeaning.{too_many, kept_rows, keeps_row, from_rows, setting_of, is_grouped}
 use Rattle.hg_model.specs.declared.trees.FromTable.{FromTable}

@@ -12,9 +12,7 @@ use Rattle.hg_model.specs.declared.trees.Op.TheVariants as op
 use Rattle.hg_model.specs.declared.trees.Node.TheVariants as node
 use Rattle.hg_model.specs.declared.values.Value.TheVariants.{Null, Int, Text}
 use Rattle.std.specs.Prelude.{refl}
-use Rattle.hg_model.specs.SelectMeaning.{meaning, kept_rows, keeps_row, row_values, group_values, group_key, keeps_group, pair_of, row_pair, group_pair, pairs_of}
 use Rattle.hg_model.specs.Refusal.{first_cause}
-use Rattle.hg_model.specs.Types.{binary_digits, digits_within}
 use Rattle.hg_worked.specs.Changes.{ChangesHold}
 
 too_big : insert_change [] (record { name = codes "t"; columns = (record { name = codes "a"; ty = Integer; not_null = false } ∷ []); rows = [] }) [] (range_with_len 0 1) (record { table = codes "t"; columns = []; values = (literal.Int (pos 1) ∷ literal.Int (pos 2) ∷ literal.Int (pos 2147483648) ∷ []); ends = (1 ∷ 2 ∷ 3 ∷ []) }) ≡ Refused (DoesNotFit (codes "a"))

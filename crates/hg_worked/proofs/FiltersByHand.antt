@@ -8,8 +8,6 @@ use Rattle.hg_model.specs.declared.values.Value.TheVariants.{Null, Int, Text}
 use Rattle.hg_worked.specs.Answers.{answer, ordered}
 use Rattle.std.specs.Prelude.{refl}
 use Rattle.hg_model.specs.SelectMeaning.{meaning, kept_rows, keeps_row, row_values, group_values, group_key, keeps_group, pair_of, row_pair, group_pair, pairs_of}
-use Rattle.hg_model.specs.Refusal.{first_cause}
-use Rattle.hg_model.specs.Types.{binary_digits, digits_within}
 use Rattle.hg_worked.specs.Samples.{tables_1, tables_2, tables_3, tables_4, tables_5, tables_6}
 use Rattle.hg_worked.specs.Filters.{FiltersHold}
 

@@ -10,8 +10,6 @@ use Rattle.hg_model.specs.declared.values.Value.TheVariants.{Null, Int, Text}
 use Rattle.hg_worked.specs.Answers.{answer, ordered}
 use Rattle.std.specs.Prelude.{refl}
 use Rattle.hg_model.specs.SelectMeaning.{meaning, kept_rows, keeps_row, row_values, group_values, group_key, keeps_group, pair_of, row_pair, group_pair, pairs_of}
-use Rattle.hg_model.specs.Refusal.{first_cause}
-use Rattle.hg_model.specs.Types.{binary_digits, digits_within}
 use Rattle.hg_worked.specs.Samples.{tables_10, tables_11, tables_12, tables_13, tables_14, tables_5, tables_6, tables_9}
 use Rattle.hg_worked.specs.Grouping.{GroupingHold}
 

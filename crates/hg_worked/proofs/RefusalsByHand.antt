@@ -8,7 +8,6 @@ use Rattle.hg_model.specs.declared.trees.Op.TheVariants as op
 use Rattle.hg_model.specs.declared.trees.Fold.TheVariants as of
 use Rattle.hg_model.specs.declared.trees.Node.TheVariants as node
 use Rattle.std.specs.Prelude.{refl}
-use Rattle.hg_model.specs.SelectMeaning.{meaning, kept_rows, keeps_row, row_values, group_values, group_key, keeps_group, pair_of, row_pair, group_pair, pairs_of}
 use Rattle.hg_model.specs.Refusal.{first_cause}
 use Rattle.hg_model.specs.Types.{binary_digits, digits_within}
 use Rattle.hg_worked.specs.Samples.{tables_18, tables_9}
