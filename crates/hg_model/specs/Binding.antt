@@ -89,16 +89,7 @@ is_order_key q n = list_any (λ (k : OrderKey). is_key_of n k.by) q.order
 abbrev pub name_cause : List FromColumn → List ℕ → Query → ℕ → Node → Option Refusal
 name_cause scope positions q n (node.Col c) =
     if is_order_key q n then key_cause scope positions q c else column_cause scope (tables_seen q n) c
-name_cause scope positions q n (node.Lit l) = None
-name_cause scope positions q n (node.Neg a) = None
-name_cause scope positions q n (node.Arith o a b) = None
-name_cause scope positions q n (node.Compare c a b) = None
-name_cause scope positions q n (node.Both a b) = None
-name_cause scope positions q n (node.Either a b) = None
-name_cause scope positions q n (node.Not a) = None
-name_cause scope positions q n (node.IsNull a) = None
-name_cause scope positions q n (node.NotNull a) = None
-name_cause scope positions q n (node.Aggregate f a) = None
+name_cause scope positions q n _ = None
 
 -- over the column names in order of text, which is the order of the nodes
 abbrev pub names_from : List FromColumn → List ℕ → Query → ℕ → List Node → List (Option Refusal)
@@ -156,16 +147,7 @@ aggregates_from (n ∷ ns) done = aggregates_from ns (done ++ has_aggregate n do
 
 abbrev pub nests_aggregate : List Bool → Node → Bool
 nests_aggregate has (node.Aggregate f a) = below_operand has a
-nests_aggregate has (node.Lit l) = false
-nests_aggregate has (node.Col c) = false
-nests_aggregate has (node.Neg a) = false
-nests_aggregate has (node.Arith o a b) = false
-nests_aggregate has (node.Compare c a b) = false
-nests_aggregate has (node.Both a b) = false
-nests_aggregate has (node.Either a b) = false
-nests_aggregate has (node.Not a) = false
-nests_aggregate has (node.IsNull a) = false
-nests_aggregate has (node.NotNull a) = false
+nests_aggregate has _ = false
 
 -- for each node: the places of the columns at it and below it, outside aggregates
 abbrev pub columns_at : List (List ℕ) → ℕ → List ℕ
@@ -227,16 +209,7 @@ is_output_target (ToNode n) = false
 abbrev pub is_named_by : List FromColumn → List ℕ → Query → ℕ → ℕ → Node → Bool
 is_named_by scope positions q p n (node.Col c) =
     nat_eq p (slice_index positions n) && not (is_order_key q n && is_output_target (target_of scope positions q (ByColumn n)))
-is_named_by scope positions q p n (node.Lit l) = false
-is_named_by scope positions q p n (node.Neg a) = false
-is_named_by scope positions q p n (node.Arith o a b) = false
-is_named_by scope positions q p n (node.Compare c a b) = false
-is_named_by scope positions q p n (node.Both a b) = false
-is_named_by scope positions q p n (node.Either a b) = false
-is_named_by scope positions q p n (node.Not a) = false
-is_named_by scope positions q p n (node.IsNull a) = false
-is_named_by scope positions q p n (node.NotNull a) = false
-is_named_by scope positions q p n (node.Aggregate f a) = false
+is_named_by scope positions q p n _ = false
 
 abbrev pub some_names : List FromColumn → List ℕ → Query → ℕ → ℕ → List Node → Bool
 some_names scope positions q p k [] = false

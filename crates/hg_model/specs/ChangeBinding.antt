@@ -67,16 +67,7 @@ table_scope tables name = columns_from 0 name 0 (columns_of (table_named tables 
 
 abbrev pub place_of_node : List FromColumn → Node → ℕ
 place_of_node scope (node.Col c) = position_or_len (is_named c) scope
-place_of_node scope (node.Lit l) = length scope
-place_of_node scope (node.Neg a) = length scope
-place_of_node scope (node.Arith o a b) = length scope
-place_of_node scope (node.Compare c a b) = length scope
-place_of_node scope (node.Both a b) = length scope
-place_of_node scope (node.Either a b) = length scope
-place_of_node scope (node.Not a) = length scope
-place_of_node scope (node.IsNull a) = length scope
-place_of_node scope (node.NotNull a) = length scope
-place_of_node scope (node.Aggregate f a) = length scope
+place_of_node scope _ = length scope
 
 -- for each node the number of its column; behind the last where the node is no column
 abbrev pub change_positions : List FromColumn → List Node → List ℕ
@@ -84,16 +75,7 @@ change_positions scope nodes = map (place_of_node scope) nodes
 
 abbrev pub node_name_cause : List FromColumn → Node → Option Refusal
 node_name_cause scope (node.Col c) = cause_of_count (count_by (is_named c) scope) c
-node_name_cause scope (node.Lit l) = None
-node_name_cause scope (node.Neg a) = None
-node_name_cause scope (node.Arith o a b) = None
-node_name_cause scope (node.Compare c a b) = None
-node_name_cause scope (node.Both a b) = None
-node_name_cause scope (node.Either a b) = None
-node_name_cause scope (node.Not a) = None
-node_name_cause scope (node.IsNull a) = None
-node_name_cause scope (node.NotNull a) = None
-node_name_cause scope (node.Aggregate f a) = None
+node_name_cause scope _ = None
 
 abbrev pub change_kinds : List FromColumn → List Node → List Kind
 change_kinds scope nodes = kinds_from (map (type_at (λ (c : Column). kind_of_type c.ty) Nothing scope) (change_positions scope nodes)) nodes []

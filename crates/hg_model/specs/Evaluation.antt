@@ -67,11 +67,7 @@ condition (node.Either a b) done = either (truth_of done a) (truth_of done b)
 condition (node.Not a) done = opposite (truth_of done a)
 condition (node.IsNull a) done = known (is_null (value_of done a))
 condition (node.NotNull a) done = known (not (is_null (value_of done a)))
-condition (node.Lit l) done = Unknown
-condition (node.Col c) done = Unknown
-condition (node.Neg a) done = Unknown
-condition (node.Arith o a b) done = Unknown
-condition (node.Aggregate f a) done = Unknown
+condition _ done = Unknown
 
 -- One node. `leaf` is its value where it is a column or an aggregate.
 abbrev pub node_value : Value → List ℕ → Node → List NodeValue → NodeValue

@@ -31,16 +31,7 @@ is_long_literal (literal.Text s) = false
 
 abbrev pub has_long_number : Node → Bool
 has_long_number (node.Lit l) = is_long_literal l
-has_long_number (node.Col c) = false
-has_long_number (node.Neg a) = false
-has_long_number (node.Arith o a b) = false
-has_long_number (node.Compare o a b) = false
-has_long_number (node.Both a b) = false
-has_long_number (node.Either a b) = false
-has_long_number (node.Not a) = false
-has_long_number (node.IsNull a) = false
-has_long_number (node.NotNull a) = false
-has_long_number (node.Aggregate f a) = false
+has_long_number _ = false
 
 -- VARCHAR has 1 to 255 characters
 abbrev pub is_bad_type : SqlType → Bool
@@ -83,68 +74,23 @@ columns_in (CreateTable t) = length t.columns
 columns_in (CreateIndex i) = length i.columns
 columns_in (InsertRows i) = length i.columns
 columns_in (UpdateRows u) = length u.sets
-columns_in (DeleteRows d) = 0
-columns_in (Vacuum t) = 0
-columns_in (SelectRows q) = 0
-columns_in (OpenCursor c q) = 0
-columns_in (Start c n) = 0
-columns_in (Work n) = 0
-columns_in (Fetch c n) = 0
-columns_in (Close c) = 0
-columns_in (Pool n) = 0
-columns_in (Mpl n) = 0
-columns_in ShowMemory = 0
+columns_in _ = 0
 
 abbrev pub of_insert : (InsertTree → ℕ) → CommandTree → ℕ
 of_insert f (InsertRows i) = f i
-of_insert f (CreateTable t) = 0
-of_insert f (CreateIndex i) = 0
-of_insert f (UpdateRows u) = 0
-of_insert f (DeleteRows d) = 0
-of_insert f (Vacuum t) = 0
-of_insert f (SelectRows q) = 0
-of_insert f (OpenCursor c q) = 0
-of_insert f (Start c n) = 0
-of_insert f (Work n) = 0
-of_insert f (Fetch c n) = 0
-of_insert f (Close c) = 0
-of_insert f (Pool n) = 0
-of_insert f (Mpl n) = 0
-of_insert f ShowMemory = 0
+of_insert f _ = 0
 
 abbrev pub of_query : (Query → ℕ) → CommandTree → ℕ
 of_query f (SelectRows q) = f q
 of_query f (OpenCursor c q) = f q
-of_query f (InsertRows i) = 0
-of_query f (CreateTable t) = 0
-of_query f (CreateIndex i) = 0
-of_query f (UpdateRows u) = 0
-of_query f (DeleteRows d) = 0
-of_query f (Vacuum t) = 0
-of_query f (Start c n) = 0
-of_query f (Work n) = 0
-of_query f (Fetch c n) = 0
-of_query f (Close c) = 0
-of_query f (Pool n) = 0
-of_query f (Mpl n) = 0
-of_query f ShowMemory = 0
+of_query f _ = 0
 
 abbrev pub nodes_in : CommandTree → ℕ
 nodes_in (SelectRows q) = length q.nodes
 nodes_in (OpenCursor c q) = length q.nodes
 nodes_in (UpdateRows u) = length u.nodes
 nodes_in (DeleteRows d) = length d.nodes
-nodes_in (InsertRows i) = 0
-nodes_in (CreateTable t) = 0
-nodes_in (CreateIndex i) = 0
-nodes_in (Vacuum t) = 0
-nodes_in (Start c n) = 0
-nodes_in (Work n) = 0
-nodes_in (Fetch c n) = 0
-nodes_in (Close c) = 0
-nodes_in (Pool n) = 0
-nodes_in (Mpl n) = 0
-nodes_in ShowMemory = 0
+nodes_in _ = 0
 
 -- a name has at most 30 letters and a text 255
 abbrev pub is_long_name : Token → Bool

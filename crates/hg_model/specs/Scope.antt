@@ -79,16 +79,7 @@ column_meant scope seen c = position_or_len (is_meant c seen) scope
 
 abbrev pub position_of : List FromColumn → ℕ → Node → ℕ
 position_of scope seen (node.Col c) = column_meant scope seen c
-position_of scope seen (node.Lit l) = length scope
-position_of scope seen (node.Neg a) = length scope
-position_of scope seen (node.Arith o a b) = length scope
-position_of scope seen (node.Compare c a b) = length scope
-position_of scope seen (node.Both a b) = length scope
-position_of scope seen (node.Either a b) = length scope
-position_of scope seen (node.Not a) = length scope
-position_of scope seen (node.IsNull a) = length scope
-position_of scope seen (node.NotNull a) = length scope
-position_of scope seen (node.Aggregate f a) = length scope
+position_of scope seen _ = length scope
 
 abbrev pub positions_from : List FromColumn → Query → ℕ → List Node → List ℕ
 positions_from scope q k [] = []
@@ -119,16 +110,7 @@ is_column_named scope c (Some p) = is_among_named c (slice_get scope p)
 -- the place in a row of the cross product, where a node is a column alone
 abbrev pub place_if_column : ℕ → Node → Option ℕ
 place_if_column p (node.Col c) = Some p
-place_if_column p (node.Lit l) = None
-place_if_column p (node.Neg a) = None
-place_if_column p (node.Arith o a b) = None
-place_if_column p (node.Compare c a b) = None
-place_if_column p (node.Both a b) = None
-place_if_column p (node.Either a b) = None
-place_if_column p (node.Not a) = None
-place_if_column p (node.IsNull a) = None
-place_if_column p (node.NotNull a) = None
-place_if_column p (node.Aggregate f a) = None
+place_if_column p _ = None
 
 abbrev pub place_if_node : ℕ → Option Node → Option ℕ
 place_if_node p None = None

@@ -57,16 +57,7 @@ leaves_of leaf (n ∷ ns) (p ∷ ps) = leaf n p ∷ leaves_of leaf ns ps
 -- over one row a column has the value at its place, and an aggregate none
 abbrev pub row_leaf : List Value → Node → ℕ → Value
 row_leaf row (node.Col c) p = value_at row p
-row_leaf row (node.Aggregate f a) p = Null
-row_leaf row (node.Lit l) p = Null
-row_leaf row (node.Neg a) p = Null
-row_leaf row (node.Arith o a b) p = Null
-row_leaf row (node.Compare c a b) p = Null
-row_leaf row (node.Both a b) p = Null
-row_leaf row (node.Either a b) p = Null
-row_leaf row (node.Not a) p = Null
-row_leaf row (node.IsNull a) p = Null
-row_leaf row (node.NotNull a) p = Null
+row_leaf row _ p = Null
 
 -- what each node stands for over one row
 abbrev pub node_values : List ℕ → List ℕ → List Node → List Value → List NodeValue
@@ -92,16 +83,7 @@ kept_rows s tables = filter (keeps_row s) (from_rows s.query tables)
 
 abbrev pub is_aggregate : Node → Bool
 is_aggregate (node.Aggregate f a) = true
-is_aggregate (node.Lit l) = false
-is_aggregate (node.Col c) = false
-is_aggregate (node.Neg a) = false
-is_aggregate (node.Arith o a b) = false
-is_aggregate (node.Compare c a b) = false
-is_aggregate (node.Both a b) = false
-is_aggregate (node.Either a b) = false
-is_aggregate (node.Not a) = false
-is_aggregate (node.IsNull a) = false
-is_aggregate (node.NotNull a) = false
+is_aggregate _ = false
 
 -- a statement is grouped where it has GROUP BY, HAVING or an aggregate
 abbrev pub is_grouped : Query → Bool
@@ -127,15 +109,7 @@ first_row (row ∷ rows) = row
 abbrev pub group_leaf : Setting → List (List Value) → Node → ℕ → Value
 group_leaf s rows (node.Aggregate f a) p = aggregate f (operands s a rows)
 group_leaf s rows (node.Col c) p = value_at (first_row rows) p
-group_leaf s rows (node.Lit l) p = Null
-group_leaf s rows (node.Neg a) p = Null
-group_leaf s rows (node.Arith o a b) p = Null
-group_leaf s rows (node.Compare c a b) p = Null
-group_leaf s rows (node.Both a b) p = Null
-group_leaf s rows (node.Either a b) p = Null
-group_leaf s rows (node.Not a) p = Null
-group_leaf s rows (node.IsNull a) p = Null
-group_leaf s rows (node.NotNull a) p = Null
+group_leaf s rows _ p = Null
 
 -- what each node stands for over a group
 unfoldable pub group_values : Setting → List (List Value) → List NodeValue

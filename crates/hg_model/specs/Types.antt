@@ -50,13 +50,8 @@ kind_of leaf (node.Lit l) done = kind_of_literal l
 kind_of leaf (node.Col c) done = leaf
 kind_of leaf (node.Neg a) done = Number
 kind_of leaf (node.Arith o a b) done = Number
-kind_of leaf (node.Compare c a b) done = Condition
-kind_of leaf (node.Both a b) done = Condition
-kind_of leaf (node.Either a b) done = Condition
-kind_of leaf (node.Not a) done = Condition
-kind_of leaf (node.IsNull a) done = Condition
-kind_of leaf (node.NotNull a) done = Condition
 kind_of leaf (node.Aggregate f a) done = kind_of_fold f (operand_kind done a)
+kind_of leaf _ done = Condition
 
 abbrev pub is_condition : Kind → Bool
 is_condition Condition = true
@@ -158,13 +153,8 @@ bound_of (node.Lit l) done = literal_bound l
 bound_of (node.Col c) done = 32
 bound_of (node.Neg a) done = bound_at done a
 bound_of (node.Arith o a b) done = arithmetic_bound o (bound_at done a) (bound_at done b)
-bound_of (node.Compare c a b) done = 1
-bound_of (node.Both a b) done = 1
-bound_of (node.Either a b) done = 1
-bound_of (node.Not a) done = 1
-bound_of (node.IsNull a) done = 1
-bound_of (node.NotNull a) done = 1
 bound_of (node.Aggregate f a) done = fold_bound f done a
+bound_of _ done = 1
 
 abbrev pub bounds_from : List Node → List ℕ → List ℕ
 bounds_from [] done = done
@@ -212,13 +202,8 @@ length_of kinds leaf (node.Lit l) done = literal_length l
 length_of kinds leaf (node.Col c) done = leaf
 length_of kinds leaf (node.Neg a) done = 17
 length_of kinds leaf (node.Arith o a b) done = 17
-length_of kinds leaf (node.Compare c a b) done = 0
-length_of kinds leaf (node.Both a b) done = 0
-length_of kinds leaf (node.Either a b) done = 0
-length_of kinds leaf (node.Not a) done = 0
-length_of kinds leaf (node.IsNull a) done = 0
-length_of kinds leaf (node.NotNull a) done = 0
 length_of kinds leaf (node.Aggregate f a) done = fold_length f kinds done a
+length_of kinds leaf _ done = 0
 
 abbrev pub lengths_from : List Kind → List ℕ → List Node → List ℕ → List ℕ
 lengths_from kinds leaves [] done = done

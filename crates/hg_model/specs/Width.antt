@@ -30,16 +30,7 @@ literal_fits texts (literal.Text s) = nat_le (s.at + s.len) (length texts) && is
 
 abbrev pub text_fits : List ℕ → Node → Bool
 text_fits texts (node.Lit l) = literal_fits texts l
-text_fits texts (node.Col c) = true
-text_fits texts (node.Neg a) = true
-text_fits texts (node.Arith o a b) = true
-text_fits texts (node.Compare c a b) = true
-text_fits texts (node.Both a b) = true
-text_fits texts (node.Either a b) = true
-text_fits texts (node.Not a) = true
-text_fits texts (node.IsNull a) = true
-text_fits texts (node.NotNull a) = true
-text_fits texts (node.Aggregate f a) = true
+text_fits texts _ = true
 
 -- every number that the nodes give one after the other lies below 2^126 in magnitude
 abbrev pub AllBelow : List Value → List ℕ → List Node → List NodeValue → Type 0
@@ -105,16 +96,7 @@ pub record IsSound (texts : List ℕ) (nodes : List Node) : Type 0 where
 -- the sum of a group may be computed in 128 bits, where the node is one
 abbrev pub LeafFits : Setting → List (List Value) → Node → Type 0
 LeafFits s rows (node.Aggregate f a) = FoldFits f (operands s a rows)
-LeafFits s rows (node.Lit l) = ⊤
-LeafFits s rows (node.Col c) = ⊤
-LeafFits s rows (node.Neg a) = ⊤
-LeafFits s rows (node.Arith o a b) = ⊤
-LeafFits s rows (node.Compare c a b) = ⊤
-LeafFits s rows (node.Both a b) = ⊤
-LeafFits s rows (node.Either a b) = ⊤
-LeafFits s rows (node.Not a) = ⊤
-LeafFits s rows (node.IsNull a) = ⊤
-LeafFits s rows (node.NotNull a) = ⊤
+LeafFits s rows _ = ⊤
 
 -- a group of small rows, not too many for a sum of them
 abbrev pub is_small_group : List (List Value) → Bool
