@@ -3,8 +3,18 @@
 //! pages, frames or runs.
 #![tactic(auto)]
 
+mod laws;
 mod names;
+mod tables;
+mod trees;
 mod values;
 
+pub use laws::{bags, turns_give_all, values_lie_below_their_bounds};
 pub use names::Name;
-pub use values::{Chars, Value};
+pub use tables::{FromColumn, SortKey, Target};
+pub use trees::{
+    Cmp, ColRef, Column, Command, Count, Delete, Fold, FromTable, Insert, Literal, NewColumn,
+    NewIndex, NewTable, Node, Nodes, Op, OrderBy, OrderKey, Output, Parsed, Select, Span, SqlType,
+    Truth, Update,
+};
+pub use values::{Chars, NodeValue, Value};

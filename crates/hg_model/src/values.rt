@@ -1,4 +1,9 @@
 //! Values of a column.
+ghost use Rattle.std.specs.Prelude.{◌≡◌};
+ghost use Rattle.std.specs.List.{list_all};
+ghost use Rattle.hg_model.specs.Value.{is_chars, is_printable};
+
+use crate::trees::Truth;
 use arrayvec::ArrayString;
 use std::marker::Model;
 
@@ -20,9 +25,10 @@ impl Model for Chars {
 }
 
 impl Chars {
-    ghost use Rattle.std.specs.Prelude.{◌≡◌, IsTrue};
+    ghost use Rattle.std.specs.Prelude.{◌≡◌, ◌↔◌, IsTrue, IfSome, IsSome};
     ghost use Rattle.hg_model.specs.Value.{is_chars};
 
+    /// The text of these characters.
     pub fn new(s: &str) -> Chars
         requires { IsTrue (is_chars s.now) }
         ensures { result ≡ s.now }
@@ -32,6 +38,31 @@ impl Chars {
         Chars { text }
     }
 
+    /// The text of these bytes.
+    pub fn from_bytes(bytes: &[u8]) -> Chars
+        requires { IsTrue (is_chars bytes.now) }
+        ensures { result ≡ bytes.now }
+    {
+        let mut text = ArrayString::new();
+        for byte in bytes {
+            text.push(*byte as char);
+        }
+        Chars { text }
+    }
+
+    /// The text of these characters, where it is one.
+    pub fn parse(s: &str) -> Option<Chars>
+        ensures some { IfSome result (λ t. t ≡ s.now) }
+        ensures variant { IsSome result ↔ IsTrue (is_chars s.now) }
+    {
+        if is_chars(s.as_bytes()) {
+            Some(Chars::new(s))
+        } else {
+            None
+        }
+    }
+
+    /// An equal text.
     pub fn copy(&self) -> Chars
         ensures { result ≡ self.now }
     {
@@ -44,6 +75,23 @@ impl Chars {
     {
         self.text.as_str()
     }
+}
+
+fn all_printable(bytes: &[u8]) -> bool
+    ensures { result ≡ list_all is_printable bytes.now }
+{
+    for byte in bytes {
+        if *byte < 32 || *byte > 126 {
+            return false;
+        }
+    }
+    true
+}
+
+fn is_chars(bytes: &[u8]) -> bool
+    ensures { result ≡ is_chars bytes.now }
+{
+    all_printable(bytes) && bytes.len() <= 255
 }
 
 /// A value: NULL, a whole number or a text.
@@ -67,4 +115,11 @@ impl Value {
             Value::Text(text) => Value::Text(text.copy()),
         }
     }
+}
+
+/// What a node of an expression stands for over a row or a group: a value, or a condition's truth.
+#[derive(Drop)]
+pub enum NodeValue {
+    Plain(Value),
+    Condition(Truth),
 }

@@ -1,0 +1,4 @@
+pub mod Answering
+pub mod Loops
+pub mod Premises
+pub mod Turns

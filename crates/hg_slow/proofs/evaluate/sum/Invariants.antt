@@ -1,0 +1,9 @@
+use Rattle.std.proofs.Common.{◌≡◌, drop}
+use Rattle.std.specs.List.{fold}
+use Rattle.hg_model.specs.Aggregates as aggregates
+use Rattle.hg_model.specs.Width.{SumsBelow}
+use Rattle.hg_model.specs.declared.values.Value.TheVariants.{Null}
+use Rattle.hg_slow.proofs.evaluate.sum.Given as goal
+
+abbrev pub invariant-loop-value : goal.invariant-loop-value
+invariant-loop-value l = (fold aggregates.add_value l.sum (drop l.value-index l.values) ≡ fold aggregates.add_value Null l.values) × SumsBelow (drop l.value-index l.values) l.sum

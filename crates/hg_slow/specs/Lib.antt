@@ -1,0 +1,4 @@
+pub mod Answerable
+pub mod Bound
+pub mod SlowPlaces
+pub mod SlowTables

@@ -1,0 +1,12 @@
+//! Worked statements: many small ones, each with the answer that was worked out by hand, against the
+//! definitions of `hg_model`, and some of them run by the slow evaluator.
+#![tactic(auto)]
+
+mod rows;
+
+pub use rows::{
+    changed_tables, filters, grouped_statements, joins, ordered_statements, refused_statements,
+};
+
+#[cfg(test)]
+mod tests;
