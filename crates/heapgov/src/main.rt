@@ -6,6 +6,8 @@
 #![tactic(auto)]
 
 mod streams;
+#[cfg(test)]
+mod tests;
 
 use hg_io::MemDevice;
 use hg_serve::{Status, run};
