@@ -76,6 +76,14 @@ pub struct PageId {
     pub no: u32,
 }
 
+/// Where a table's pages stand in the main file: the number of the first and of the last page, which
+/// are linked by their successors; neither where the table has no page.
+#[derive(Clone, Copy, PartialEq, Eq, Debug)]
+pub struct Table {
+    pub first: Option<u32>,
+    pub last: Option<u32>,
+}
+
 /// What a reader of a page found wrong with it.
 #[derive(Clone, Copy, PartialEq, Eq, Debug)]
 pub enum Check {
