@@ -214,7 +214,7 @@ empty_not_taken : (q : ℕ) → is_taken q empty_slot ≡ false
 empty_not_taken q = and-false (is_key q)
 
 -- with no slots no page is taken
-pub shown-start : shown (λ _. empty_slot) 0 (record { main = 0; temp = 0; main_full = 0; temp_full = 0 }) ≡ plain_start
+pub shown-start : shown (λ _. empty_slot) 0 (record { main_device = 0; temp_device = 0; main = 0; temp = 0; main_full = 0; temp_full = 0 }) ≡ plain_start
 shown-start = λ i. record plain_start {
   taken = λ q. empty_not_taken q i;
   bytes = λ q. if empty_not_taken q i then Some [] else None;
@@ -223,8 +223,8 @@ shown-start = λ i. record plain_start {
 }
 
 -- a list of no slots
-pub list-start : (slots : List Slot) → slots ≡ [] → shown (slot_at slots) 0 (record { main = 0; temp = 0; main_full = 0; temp_full = 0 }) ≡ plain_start
-list-start slots e = ap (λ l. shown (slot_at l) 0 (record { main = 0; temp = 0; main_full = 0; temp_full = 0 })) e ∙ shown-start
+pub list-start : (slots : List Slot) → slots ≡ [] → shown (slot_at slots) 0 (record { main_device = 0; temp_device = 0; main = 0; temp = 0; main_full = 0; temp_full = 0 }) ≡ plain_start
+list-start slots e = ap (λ l. shown (slot_at l) 0 (record { main_device = 0; temp_device = 0; main = 0; temp = 0; main_full = 0; temp_full = 0 })) e ∙ shown-start
 
 pub start-no_pins : (s : Space) → s ≡ plain_start → NoPins s
 start-no_pins s e =

@@ -65,5 +65,5 @@ plain_start = record {
   next = λ _. None;
   of_heap = λ _. false;
   heaps = no_heaps;
-  counts = record { main = 0; temp = 0; main_full = 0; temp_full = 0 };
+  counts = record { main_device = 0; temp_device = 0; main = 0; temp = 0; main_full = 0; temp_full = 0 };
 }

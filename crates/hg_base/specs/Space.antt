@@ -20,8 +20,12 @@ key page = key_in page.file page.no
 abbrev pub at : {X : Type 0} → (ℕ → X) → ℕ → X → ℕ → X
 at f p x q = if q == p then x else f q
 
--- How often each device failed so far, and how often each file was full. A count stops at 2 ^ 64 - 1.
+-- How often each device failed so far, by its own count; how often a call over this space was answered
+-- so, which is what the space itself tells; and how often each file was full. A count stops at
+-- 2 ^ 64 - 1.
 pub record Counts : Type 0 where
+  pub main_device : ℕ
+  pub temp_device : ℕ
   pub main : ℕ
   pub temp : ℕ
   pub main_full : ℕ

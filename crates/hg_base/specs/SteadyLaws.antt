@@ -8,10 +8,24 @@ use Rattle.hg_base.specs.declared.pages.PageFault.{PageFault}
 use Rattle.hg_base.specs.declared.pages.PageFault.TheVariants as fault
 
 pub Later_same : (a : Counts) → Later a a
-Later_same a = record { main = omega arith; temp = omega arith; main_full = omega arith; temp_full = omega arith }
+Later_same a = record {
+  main_device = omega arith;
+  temp_device = omega arith;
+  main = omega arith;
+  temp = omega arith;
+  main_full = omega arith;
+  temp_full = omega arith;
+}
 
 pub Later_then : (a b c : Counts) → Later a b → Later b c → Later a c
-Later_then a b c p q = record { main = omega arith; temp = omega arith; main_full = omega arith; temp_full = omega arith }
+Later_then a b c p q = record {
+  main_device = omega arith;
+  temp_device = omega arith;
+  main = omega arith;
+  temp = omega arith;
+  main_full = omega arith;
+  temp_full = omega arith;
+}
 
 pub IsSamePage_then : (a b c : Space) (q : ℕ) → IsSamePage a b q → IsSamePage b c q → IsSamePage a c q
 IsSamePage_then a b c q p r = record {
@@ -94,8 +108,8 @@ Steady_refused m a b h e l =
 
 -- a cause in the second of two calls is one in both
 pub Licensed_behind : (a b c : Space) (f : PageFault) → b.told ≡ a.told → Later a.counts b.counts → Licensed b c f → Licensed a c f
-Licensed_behind a b c fault.MainFault t l h = omega arith
-Licensed_behind a b c fault.TempFault t l h = omega arith
+Licensed_behind a b c fault.MainFault t l h = (let seen = h.0 in omega arith, let own = h.1 in omega arith)
+Licensed_behind a b c fault.TempFault t l h = (let seen = h.0 in omega arith, let own = h.1 in omega arith)
 Licensed_behind a b c fault.MainFull t l h = omega arith
 Licensed_behind a b c fault.TempFull t l h = omega arith
 Licensed_behind a b c (fault.Damaged page check) t l h = sym t ∙ h

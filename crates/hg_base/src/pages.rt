@@ -104,11 +104,11 @@ pub trait Pages {
         requires no_heap { (state self.old).of_heap (key page) ≡ false }
         ensures { state self.new ≡ with_next (state self.old) (key page) next };
 
-    /// How often the device of the main file failed so far.
+    /// How often a call was answered by a fault of the main file's device so far.
     fn main_faults(&self) -> u64
         ensures { result ≡ (state self.now).counts.main };
 
-    /// How often the device of the temporary file failed so far.
+    /// How often a call was answered by a fault of the temporary file's device so far.
     fn temp_faults(&self) -> u64
         ensures { result ≡ (state self.now).counts.temp };
 
