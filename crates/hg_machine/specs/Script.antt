@@ -1,7 +1,7 @@
 -- How a script is cut into lines. Our own rule: a line is the bytes up to a line feed; a last line
 -- without a line feed is a line where it has a byte; a line has at most 4,096 bytes before its line
 -- feed; one carriage return directly before the line feed is not of its text.
-use Rattle.std.specs.Prelude.{ℕ, ◌<◌, Bool, true, false, List, [], ◌∷◌, ◌++◌, length, ◌==◌, if◌then◌else◌}
+use Rattle.std.specs.Prelude.{ℕ, ◌<◌, Bool, true, false, List, [], ◌∷◌, ◌++◌, length, ◌==◌, ◌&&◌, if◌then◌else◌}
 
 pub record Line : Type 0 where
   pub bytes : List ℕ
@@ -44,3 +44,13 @@ text_of_line line = if line.ended then without_return line.bytes else line.bytes
 
 abbrev pub IsTooLong : Line → Type 0
 IsTooLong line = 4096 < length line.bytes
+
+-- what stands before a comment: two hyphens begin one, and it ends with the line (SQL-92, section 5.2)
+unfoldable pub without_comment : List ℕ → List ℕ
+without_comment [] = []
+without_comment (b ∷ []) = b ∷ []
+without_comment (b ∷ c ∷ bs) = if (b == 45) && (c == 45) then [] else b ∷ without_comment (c ∷ bs)
+
+-- what a line says: its text before a comment
+abbrev pub said_by : Line → List ℕ
+said_by line = without_comment (text_of_line line)

@@ -1,16 +1,18 @@
-//! Statements, and the rows in them.
+//! Statements, and the rows in them. None takes memory.
+use arrayvec::ArrayVec;
 use hg_model::Name;
 use std::marker::Model;
 
 /// What stands in a column of INTEGER: NULL or a number of 32 bits.
-#[derive(Clone, Copy, PartialEq, Eq, Debug)]
+#[derive(Clone, Copy, PartialEq, Eq, Debug, Default)]
 pub enum Content {
+    #[default]
     Null,
     Int(i32),
 }
 
 /// One value of a row, which contracts see as a value.
-#[derive(Drop)]
+#[derive(Drop, Default)]
 pub struct Cell {
     content: Content,
 }
@@ -42,9 +44,9 @@ impl Cell {
 }
 
 /// A row of at most 16 values, which contracts see as their list.
-#[derive(Drop)]
+#[derive(Drop, Default)]
 pub struct Row {
-    cells: Vec<Cell>,
+    cells: ArrayVec<Cell, 16>,
 }
 
 impl Model for Row {
@@ -61,8 +63,7 @@ impl Model for Row {
 impl Row {
     ghost use Rattle.std.specs.Prelude.{◌≡◌, ◌≤◌, length};
 
-    pub fn new(cells: Vec<Cell>) -> Row
-        requires { length cells.items ≤ 16 }
+    pub fn new(cells: ArrayVec<Cell, 16>) -> Row
         ensures { result ≡ cells.items }
     {
         Row { cells }
@@ -79,7 +80,15 @@ impl Row {
 /// What a line asks for.
 #[derive(Drop)]
 pub enum Statement {
-    CreateTable { name: Name, columns: Vec<Name> },
-    Insert { table: Name, rows: Vec<Row> },
-    Select { table: Name },
+    CreateTable {
+        name: Name,
+        columns: ArrayVec<Name, 16>,
+    },
+    Insert {
+        table: Name,
+        rows: ArrayVec<Row, 64>,
+    },
+    Select {
+        table: Name,
+    },
 }
