@@ -1,0 +1,27 @@
+-- What one small step of an engine promises, in the words of the plain machine. Our own rule.
+use Rattle.std.specs.Prelude.{◌≡◌, ℕ, ◌≤◌, Bool, true, List}
+use Rattle.hg_base.specs.declared.File.TheVariants.{Main, Temp}
+use Rattle.hg_io.specs.Count.{raised}
+use Rattle.hg_machine.specs.Outcome.{Setting}
+use Rattle.hg_machine.specs.Reply.{Reply as Line, text_of, has_error, fault_lines}
+use Rattle.hg_machine.specs.State.{State}
+use Rattle.hg_reply.specs.declared.reply.Reply.{Reply}
+
+-- the counts of faults of the two devices, as the devices have them
+pub record DeviceFaults : Type 0 where
+  pub main : ℕ
+  pub temp : ℕ
+
+-- these reply lines are what the step said, and no more of them say that a device failed than that
+-- device's count rose in the step
+pub record Says (reply : Reply) (before after : DeviceFaults) (lines : List Line) : Type 0 where
+  pub text : reply.text.items ≡ text_of lines
+  pub errors : reply.has_error ≡ has_error lines
+  pub main_faults : raised before.main (fault_lines Main lines) ≤ after.main
+  pub temp_faults : raised before.temp (fault_lines Temp lines) ≤ after.temp
+
+-- The step is one of the machine: whatever state the engine stood for, it stands for a state that the
+-- machine reaches with these lines, where both devices tell their pages.
+pub record Moves {E : Type 0} (Stands : E → State → Type 0) (told : Bool) (old new : E)
+    (Step : State → List Line → State → Type 0) (lines : List Line) : Type 0 where
+  pub to : (before : State) → Stands old before → (after : State) × Stands new after × (told ≡ true → Step before lines after)

@@ -1,0 +1,62 @@
+//! What answers statements in small steps.
+use crate::reply::Reply;
+use hg_machine::Statement;
+
+/// Whether a statement at work has more to give.
+#[derive(Clone, Copy, PartialEq, Eq, Debug)]
+pub enum Next {
+    Done,
+    More,
+}
+
+/// What answers statements: one call is one small step of the plain machine, so that the reply of a
+/// call is short. A statement is answered by `command`, and by `more` as long as the answer is
+/// [`Next::More`]. No call takes memory.
+///
+/// In the clauses `stands` ties the engine to a state of the plain machine: its tables with their
+/// rows, what the SELECT at work has still to give, the pages in use and the stamps given. Where a
+/// device does not tell its pages, nothing is said of the rows.
+pub trait Machine {
+    ghost use Rattle.std.specs.Prelude.{◌≡◌, ◌<◌, ◌≤◌, ◌↔◌, ℕ, List, Bool, true, false, IsSome, is_some};
+    ghost use Rattle.hg_machine.specs.Outcome.{Setting};
+    ghost use Rattle.hg_machine.specs.Reply.{Reply as Line};
+    ghost use Rattle.hg_machine.specs.Run.{Begins, Turn};
+    ghost use Rattle.hg_machine.specs.State.{State};
+    ghost use Rattle.hg_reply.specs.Steps.{DeviceFaults, Says, Moves};
+
+    /// Which states of the plain machine the engine stands for.
+    ghost stands: { Self → State → Type 0 };
+
+    /// Whether both devices tell their pages, and how many pages the main file may have.
+    ghost setting: { Self → Setting };
+
+    /// The devices' own counts of faults.
+    ghost faults: { Self → DeviceFaults };
+
+    /// Whether a statement at work has more to give.
+    ghost pending: { Self → Bool };
+
+    /// At most so many calls of `more` are left.
+    ghost turns: { Self → ℕ };
+
+    /// Answers a statement up to its first turn.
+    fn command(&mut self, statement: Statement, reply: &mut Reply) -> Next
+        requires idle { pending self.old ≡ false }
+        ensures step { (lines : List Line) × Says reply.new (faults self.old) (faults self.new) lines
+            × Moves stands (setting self.old).told self.old self.new (λ before lines after. Begins before statement lines after) lines }
+        ensures more { (result ≡ Next.More) ↔ (pending self.new ≡ true) }
+        ensures setting { setting self.new ≡ setting self.old }
+        ensures later { ((faults self.old).main ≤ (faults self.new).main) × ((faults self.old).temp ≤ (faults self.new).temp) };
+
+    /// Gives one turn of the statement at work.
+    fn more(&mut self, reply: &mut Reply) -> Next
+        requires pending { pending self.old ≡ true }
+        ensures step { (lines : List Line) × Says reply.new (faults self.old) (faults self.new) lines
+            × Moves stands (setting self.old).told self.old self.new Turn lines }
+        ensures nearer { turns self.new < turns self.old }
+        ensures more { (result ≡ Next.More) ↔ (pending self.new ≡ true) }
+        ensures setting { setting self.new ≡ setting self.old }
+        ensures later { ((faults self.old).main ≤ (faults self.new).main) × ((faults self.old).temp ≤ (faults self.new).temp) };
+
+    ghost pends: { (e : Self) (s : State) → stands e s → pending e ≡ is_some s.left };
+}
