@@ -1,3 +1,4 @@
 pub mod PageMap
 pub mod Bits
+pub mod Summary
 pub mod Shown
