@@ -1,0 +1,139 @@
+//! The map, as callers see it.
+ghost use Rattle.std.specs.Prelude.{◌≡◌, ◌↔◌, true, IsNone, IfOk, IfSome, IfNone};
+ghost use Rattle.hg_space.specs.PageMap.{unused_pages, used_count, IsFull, IsLowestFree, IsSound, with_page, without_page, with_next};
+ghost use Rattle.hg_space.specs.Shown.{pages_of};
+
+use crate::bits::{clear, is_set, set};
+use crate::levels::{Levels, free_all, levels_for};
+use crate::summary::{clear_up, first_below, set_up};
+use hg_base::NoMemory;
+use std::alloc::Global;
+use std::marker::Model;
+
+/// Which pages of a file are used, and their successors. Contracts see `pages_of` it, a `PageMap`.
+/// It has some 4.3 bytes for each page.
+#[derive(Drop)]
+pub struct Space {
+    limit: u32,
+    used: u32,
+    levels: Levels,
+    /// The bits of the free pages, below bits that say which words have some.
+    free: Vec<u64>,
+    /// The bits of the pages that have a successor, if they are used.
+    linked: Vec<u64>,
+    links: Vec<u32>,
+}
+
+impl Model for Space {
+    ghost use Rattle.hg_space.specs.Shown.{Kept, IsKept};
+
+    ghost Value = { Kept };
+
+    ghost view = { λ s. record { limit = s.limit; free = s.free.items; first = s.levels.first; linked = s.linked.items; links = s.links.items } };
+
+    ghost invariant = { λ s. IsKept (record { limit = s.limit; free = s.free.items; first = s.levels.first; linked = s.linked.items; links = s.links.items }) s.levels.above s.used };
+}
+
+impl Space {
+    /// The map of pages 0 to `pages` - 1, none of them used. Memory is taken here alone, and the only
+    /// error is want of it.
+    pub fn new(alloc: Global, pages: u32) -> Result<Space, NoMemory>
+        ensures made { IfOk result (λ space. pages_of space ≡ unused_pages pages) }
+        ensures sound { IfOk result (λ space. IsSound (pages_of space)) }
+    {
+        let count = pages as usize;
+        let levels = levels_for(count);
+        let Ok(mut free) = Vec::from_elem(alloc, 0u64, (levels.first + count) / 64 + 1) else {
+            return Err(NoMemory);
+        };
+        let Ok(linked) = Vec::from_elem(alloc, 0u64, count / 64 + 1) else {
+            return Err(NoMemory);
+        };
+        let Ok(links) = Vec::from_elem(alloc, 0u32, count) else {
+            return Err(NoMemory);
+        };
+        free_all(&mut free, levels.first, count);
+        Ok(Space {
+            limit: pages,
+            used: 0,
+            levels,
+            free,
+            linked,
+            links,
+        })
+    }
+
+    /// Takes the lowest page that is not used. It is used from then on and has no successor. None
+    /// where all are used. Its time does not grow with the number of used pages.
+    pub fn take(&mut self) -> Option<u32>
+        ensures lowest { IfSome result (λ no. IsLowestFree (pages_of self.old) no) }
+        ensures taken { IfSome result (λ no. pages_of self.new ≡ with_page (pages_of self.old) no) }
+        ensures full { IsNone result ↔ IsFull (pages_of self.old) }
+        ensures unchanged { IfNone result (pages_of self.new ≡ pages_of self.old) }
+        ensures sound { IsSound (pages_of self.new) }
+    {
+        if self.free[0] == 0 {
+            return None;
+        }
+        let bit = first_below(&self.free, self.levels.above);
+        let lowest = bit - self.levels.first;
+        clear_up(&mut self.free, bit);
+        let _ = clear(&mut self.linked, lowest);
+        self.used += 1;
+        Some(lowest as u32)
+    }
+
+    /// Gives a page back: it is not used any more.
+    pub fn release(&mut self, no: u32)
+        requires used { (pages_of self.old).used no ≡ true }
+        ensures released { pages_of self.new ≡ without_page (pages_of self.old) no }
+        ensures sound { IsSound (pages_of self.new) }
+    {
+        set_up(&mut self.free, self.levels.first + no as usize);
+        self.used -= 1;
+    }
+
+    /// How many pages are used.
+    pub fn used(&self) -> u32
+        ensures count { result ≡ used_count (pages_of self.now) }
+        ensures sound { IsSound (pages_of self.now) }
+    {
+        self.used
+    }
+
+    /// Whether the page is used; false for each number that no page has.
+    pub fn is_used(&self, no: u32) -> bool
+        ensures answer { result ≡ (pages_of self.now).used no }
+        ensures sound { IsSound (pages_of self.now) }
+    {
+        no < self.limit && !is_set(&self.free, self.levels.first + no as usize)
+    }
+
+    /// The number of a page's successor.
+    pub fn next(&self, no: u32) -> Option<u32>
+        requires used { (pages_of self.now).used no ≡ true }
+        ensures { result ≡ (pages_of self.now).next no }
+    {
+        let page = no as usize;
+        if is_set(&self.linked, page) {
+            Some(self.links[page])
+        } else {
+            None
+        }
+    }
+
+    /// Sets or takes away a page's successor.
+    pub fn set_next(&mut self, no: u32, to: Option<u32>)
+        requires used { (pages_of self.old).used no ≡ true }
+        ensures changed { pages_of self.new ≡ with_next (pages_of self.old) no to }
+        ensures sound { IsSound (pages_of self.new) }
+    {
+        let page = no as usize;
+        let Some(successor) = to else {
+            let _ = clear(&mut self.linked, page);
+            return;
+        };
+        let _ = set(&mut self.linked, page);
+        self.links[page] = successor;
+    }
+}
