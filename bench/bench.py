@@ -52,17 +52,35 @@ def write_script(path, rows, head=""):
         script.write("SELECT * FROM t;\n")
 
 
+def peak_so_far(pid):
+    """The most memory that a running process had, in bytes; 0 where it has ended."""
+    try:
+        found = re.search(r"VmHWM:\s+(\d+) kB", Path(f"/proc/{pid}/status").read_text())
+    except OSError:
+        return 0
+    return int(found[1]) * 1024 if found else 0
+
+
 def measure(command, script, output, folder):
-    """Runs the command; its processor time and wall time in seconds, and peak memory in bytes."""
+    """Runs the command; its processor time and wall time in seconds, and peak memory in bytes.
+
+    The system's own peak of an ended process counts this script's memory too, which it begins with:
+    so the peak is looked up every two milliseconds.
+    """
+    peak = 0
     with open(script) as source, open(output, "w") as sink:
         begin = time.monotonic()
         process = subprocess.Popen(command, stdin=source, stdout=sink, cwd=folder)
-        _, status, used = os.wait4(process.pid, 0)
+        ended = 0
+        while ended == 0:
+            peak = max(peak, peak_so_far(process.pid))
+            time.sleep(0.002)
+            ended, status, used = os.wait4(process.pid, os.WNOHANG)
         wall = time.monotonic() - begin
     process.returncode = os.waitstatus_to_exitcode(status)
     if process.returncode != 0:
         sys.exit(f"bench: {command[0]} ended with status {process.returncode}")
-    return used.ru_utime + used.ru_stime, wall, used.ru_maxrss * 1024
+    return used.ru_utime + used.ru_stime, wall, peak
 
 
 def lines_with_rows(path, start):
