@@ -1,5 +1,5 @@
 //! A file as a device of pages. It tells no bytes: what a file holds or gives, no proof says.
-ghost use Rattle.std.specs.Prelude.{◌≡◌, ◌≤◌, ◌<◌, ◌*◌, IfSome, false, [], length};
+ghost use Rattle.std.specs.Prelude.{◌≡◌, ◌≤◌, ◌<◌, ◌*◌, ◌↔◌, IsOk, IsSome, IfSome, false, [], length};
 ghost use Rattle.hg_io.specs.Count.{HasCause};
 
 use hg_io::{Failed, PAGE_BYTES, PAGE_LIMIT, PageDevice};
@@ -120,7 +120,8 @@ impl<R: Files + Drop> FileDevice<R> {
 
     /// The answer of a call, which counts a fault where its work was not done.
     fn answer(&mut self, done: Option<()>) -> Result<(), Failed>
-        ensures { HasCause self.old.faults self.new.faults result }
+        ensures said { IsOk result ↔ IsSome done }
+        ensures cause { HasCause self.old.faults self.new.faults result }
     {
         if done.is_none() {
             self.faults = self.faults.saturating_add(1);
