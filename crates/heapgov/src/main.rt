@@ -5,6 +5,7 @@
 //! streams are the trusted edge.
 #![tactic(auto)]
 
+mod files;
 mod streams;
 #[cfg(test)]
 mod tests;

@@ -1,5 +1,5 @@
 -- what a copy of the front of the bytes that are left says of a read
-use Rattle.std.proofs.Common.{◌≡◌, ℕ, ◌+◌, ◌<◌, ◌≤◌, min, List, [], ◌++◌, length, take, drop, Some, sym, ap, ◌∙◌, arith, length-drop}
+use Rattle.std.proofs.Common.{◌≡◌, ℕ, ◌+◌, ◌<◌, min, List, [], ◌++◌, length, take, drop, sym, ap, ◌∙◌, arith, length-drop}
 use Rattle.std.proofs.lemmas.List.{take-append-drop, drop-drop, drop_all}
 
 pub reads_front : (bytes buffer : List ℕ) (at n : ℕ) → take n buffer ≡ take n (drop at bytes)

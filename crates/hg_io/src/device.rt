@@ -3,13 +3,10 @@ ghost use Rattle.std.specs.Prelude.{◌≡◌, ◌<◌, ◌≤◌, ◌↔◌, �
 ghost use Rattle.hg_io.specs.Count.{raised, Rose, HasCause};
 ghost use Rattle.hg_io.specs.Device.{SamePages, SameButOne, GivesPage, page_at, zeros};
 
+use crate::page::{Page, put_zeros};
 use crate::stream::Failed;
 use std::alloc::Global;
 use std::collections::BTreeMap;
-use std::marker::Model;
-
-/// The bytes of a page.
-pub const PAGE_BYTES: usize = 4096;
 
 /// How many pages the devices in memory and over a file have.
 pub const PAGE_LIMIT: u32 = 1_048_576;
@@ -50,38 +47,6 @@ pub trait PageDevice {
         ensures same_limit { pages self.new ≡ pages self.old }
         ensures same_told { told self.new ≡ told self.old }
         ensures cause { HasCause (faults self.old) (faults self.new) result };
-}
-
-/// A page's bytes.
-#[derive(Drop)]
-struct Page {
-    bytes: Vec<u8>,
-}
-
-impl Model for Page {
-    ghost use Rattle.std.specs.Prelude.{◌≡◌, ℕ, List, length};
-
-    ghost Value = { List ℕ };
-
-    ghost view = { λ p. p.bytes.items };
-
-    ghost invariant = { λ p. length p.bytes.items ≡ 4096 };
-}
-
-impl Page {
-    fn bytes(&self) -> &[u8]
-        ensures value { result.now ≡ self.now }
-        ensures whole_page { length result.now ≡ 4096 }
-    {
-        self.bytes.as_slice()
-    }
-}
-
-fn put_zeros(page: &mut [u8])
-    requires { length page.old ≡ 4096 }
-    ensures { page.new ≡ zeros }
-{
-    page.fill(0);
 }
 
 /// A device in memory, which tells its pages. A listed call fails, and any other only where memory
@@ -155,7 +120,12 @@ impl PageDevice for MemDevice {
         ensures gives { OnOk result (GivesPage true (page_at self.old.pages) no buf.new) }
         ensures keeps { SamePages true (page_at self.old.pages) (page_at self.new.pages) }
         ensures cause { HasCause self.old.faults self.new.faults result }
+
+        // Each read has the next number, and fails exactly where its number is in the list of reads.
         ensures counted { self.new.reads ≡ raised self.old.reads 1 }
+        ensures same_writes { self.new.writes ≡ self.old.writes }
+        ensures same_fail_reads { self.new.fail_reads ≡ self.old.fail_reads }
+        ensures same_fail_writes { self.new.fail_writes ≡ self.old.fail_writes }
         ensures fails_as_listed { IsErr result ↔ Contains self.old.fail_reads.items (raised self.old.reads 1) }
     {
         self.reads = self.reads.saturating_add(1);
@@ -175,17 +145,22 @@ impl PageDevice for MemDevice {
         ensures puts { OnOk result (GivesPage true (page_at self.new.pages) no bytes.now) }
         ensures keeps { SameButOne true (page_at self.old.pages) (page_at self.new.pages) no }
         ensures cause { HasCause self.old.faults self.new.faults result }
+
+        // Each write has the next number, and fails where its number is in the list of writes.
+        ensures counted { self.new.writes ≡ raised self.old.writes 1 }
         ensures same_reads { self.new.reads ≡ self.old.reads }
+        ensures same_fail_reads { self.new.fail_reads ≡ self.old.fail_reads }
+        ensures same_fail_writes { self.new.fail_writes ≡ self.old.fail_writes }
         ensures fails_as_listed { Contains self.old.fail_writes.items (raised self.old.writes 1) → IsErr result }
     {
         self.writes = self.writes.saturating_add(1);
         if self.fail_writes.contains(&self.writes) {
             return Err(self.fault());
         }
-        let Ok(copy) = Vec::from_slice(self.alloc, bytes) else {
+        let Ok(page) = Page::of(self.alloc, bytes) else {
             return Err(self.fault());
         };
-        match self.pages.insert(no, Page { bytes: copy }) {
+        match self.pages.insert(no, page) {
             Ok(_) => Ok(()),
             Err(_) => Err(self.fault()),
         }

@@ -56,6 +56,10 @@ impl Source for MemSource {
         ensures given { IfOk result (λ n. self.new.given ≡ raised self.old.given n) }
         ensures given_stays { OnErr result (self.new.given ≡ self.old.given) }
         ensures cause { HasCause self.old.faults self.new.faults result }
+
+        // Each call has the next number, and fails exactly where its number is in the list.
+        ensures counted { self.new.calls ≡ raised self.old.calls 1 }
+        ensures same_list { self.new.fail ≡ self.old.fail }
         ensures fails_as_listed { IsErr result ↔ Contains self.old.fail.items (raised self.old.calls 1) }
     {
         self.calls = self.calls.saturating_add(1);
@@ -125,6 +129,10 @@ impl Sink for MemSink {
         ensures bound { IfOk result (λ n. n ≤ length bytes.now) }
         ensures bytes { Writes (Some self.old.bytes.items) (Some self.new.bytes.items) result bytes.now }
         ensures cause { HasCause self.old.faults self.new.faults result }
+
+        // Each call has the next number, and fails where its number is in the list.
+        ensures counted { self.new.calls ≡ raised self.old.calls 1 }
+        ensures same_list { self.new.fail ≡ self.old.fail }
         ensures fails_as_listed { Contains self.old.fail.items (raised self.old.calls 1) → IsErr result }
     {
         self.calls = self.calls.saturating_add(1);

@@ -1,5 +1,5 @@
 //! The objects in memory, called once each and at a fault.
-use crate::{Failed, MemDevice, MemSink, MemSource, PageDevice, Sink, Source};
+use crate::{CleanDevice, Failed, MemDevice, MemSink, MemSource, PageDevice, Sink, Source};
 use std::test::Fail;
 
 #[test]
@@ -50,5 +50,22 @@ fn a_device_keeps_its_pages(rt: HostRuntime) -> Result<(), Fail> {
     assert_eq!(rt; written, (Ok(()), Err(Failed)));
     assert_eq!(rt; (kept, five, failed), (Ok(()), 5, Err(Failed)));
     assert_eq!(rt; (device.reads(), device.limit()), (3, 1_048_576));
+    Ok(())
+}
+
+#[test]
+fn a_clean_device_keeps_its_pages(rt: HostRuntime) -> Result<(), Fail> {
+    let mut device = CleanDevice::new(rt.alloc(), 64)?;
+    let mut buf = [9; 4096];
+    let fresh = device.read(63, &mut buf);
+    assert_eq!(rt; (device.limit(), fresh), (64, Ok(())));
+    assert_eq!(rt; buf, [0; 4096]);
+    let written = device.write(63, &[5; 4096]);
+    let kept = device.read(63, &mut buf);
+    assert_eq!(rt; (written, kept), (Ok(()), Ok(())));
+    assert_eq!(rt; buf, [5; 4096]);
+    let other = device.read(62, &mut buf);
+    assert_eq!(rt; other, Ok(()));
+    assert_eq!(rt; buf, [0; 4096]);
     Ok(())
 }

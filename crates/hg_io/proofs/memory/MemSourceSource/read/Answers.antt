@@ -1,4 +1,4 @@
-use Rattle.std.proofs.Common.{◌≡◌, Some, ap, ◌∙◌, drop, take, length, min}
+use Rattle.std.proofs.Common.{◌≡◌, Some, ap, ◌∙◌, drop, take}
 use Rattle.hg_io.proofs.Fronts.{reads_front, nothing_left}
 use Rattle.hg_io.proofs.memory.MemSourceSource.read.Goals as goal
 

@@ -1,6 +1,6 @@
 use Rattle.std.proofs.Common.{ap, replicate, ◌∙◌}
 use Rattle.hg_io.specs.Device.{zeros}
-use Rattle.hg_io.proofs.device.put_zeros.Goals as goal
+use Rattle.hg_io.proofs.page.put_zeros.Goals as goal
 
 pub returns : goal.returns
 unfolding zeros

@@ -1,0 +1,167 @@
+//! A file as a device of pages. It tells no bytes: what a file holds or gives, no proof says.
+ghost use Rattle.std.specs.Prelude.{◌≡◌, ◌≤◌, ◌<◌, ◌*◌, ◌↔◌, IsOk, IsSome, IfSome, false, [], length};
+ghost use Rattle.hg_io.specs.Count.{HasCause};
+
+use hg_io::{Failed, PAGE_BYTES, PAGE_LIMIT, PageDevice};
+use std::fs::OpenOptions;
+use std::io::ErrorKind;
+use std::os::unix::fs::FileExt;
+use std::rt::Files;
+
+/// How often a call that was interrupted is made again.
+const TRIES: u32 = 1000;
+
+/// Reads once at a place of the file, again where the call was interrupted.
+fn read_at<F: FileExt>(file: &F, buf: &mut [u8], place: u64) -> Option<usize>
+    ensures { IfSome result (λ n. n ≤ length buf.old) }
+{
+    for _ in 0..TRIES {
+        match file.read_at(buf, place) {
+            Ok(count) => return Some(count),
+            Err(error) => {
+                if error.kind() != ErrorKind::Interrupted {
+                    return None;
+                }
+            }
+        }
+    }
+    None
+}
+
+/// Writes once at a place of the file, again where the call was interrupted. A write that takes
+/// nothing failed.
+fn write_at<F: FileExt>(file: &F, bytes: &[u8], place: u64) -> Option<usize>
+    ensures { IfSome result (λ n. (n ≤ length bytes.now) × (0 < n)) }
+{
+    for _ in 0..TRIES {
+        match file.write_at(bytes, place) {
+            Ok(0) => return None,
+            Ok(count) => return Some(count),
+            Err(error) => {
+                if error.kind() != ErrorKind::Interrupted {
+                    return None;
+                }
+            }
+        }
+    }
+    None
+}
+
+/// Fills `buf` from the file, with zeros beyond its end. None where a read failed.
+fn read_all<F: FileExt>(file: &F, buf: &mut [u8], place: u64) -> Option<()> {
+    let mut done = 0;
+    while done < buf.len() {
+        let rest = &mut buf[done..];
+        match read_at(file, rest, place.saturating_add(done as u64))? {
+            0 => {
+                rest.fill(0);
+                return Some(());
+            }
+            count => done += count,
+        }
+    }
+    Some(())
+}
+
+/// Writes all of `bytes`. None where a write failed; any part of them may then be written.
+fn write_all<F: FileExt>(file: &F, bytes: &[u8], place: u64) -> Option<()> {
+    let mut done = 0;
+    while done < bytes.len() {
+        done += write_at(file, &bytes[done..], place.saturating_add(done as u64))?;
+    }
+    Some(())
+}
+
+/// Where a page begins in its file, in bytes.
+fn place_of(no: u32) -> u64
+    ensures { result ≡ 4096 * no }
+{
+    PAGE_BYTES as u64 * u64::from(no)
+}
+
+/// A file of the file system `R` as a device: page n is the 4,096 bytes from 4,096 * n on, and what
+/// lies beyond the end of the file is zeros. The file is made at the first call; what stood in it is
+/// lost.
+#[derive(Drop)]
+pub struct FileDevice<R: Files + Drop> {
+    files: R,
+    name: &'static str,
+    file: Option<R::File>,
+    faults: u64,
+}
+
+impl<R: Files + Drop> FileDevice<R> {
+    /// A device over the file of that name, of which nothing is asked yet.
+    pub fn new(files: R, name: &'static str) -> FileDevice<R>
+        ensures { result.faults ≡ 0 }
+    {
+        FileDevice {
+            files,
+            name,
+            file: None,
+            faults: 0,
+        }
+    }
+
+    /// Makes the file where it is not made yet. Where that fails, the device still has none.
+    fn make(&mut self)
+        ensures { self.new.faults ≡ self.old.faults }
+    {
+        if self.file.is_none() {
+            self.file = OpenOptions::new()
+                .read(true)
+                .write(true)
+                .create(true)
+                .truncate(true)
+                .open(&self.files, self.name)
+                .ok();
+        }
+    }
+
+    /// The answer of a call, which counts a fault where its work was not done.
+    fn answer(&mut self, done: Option<()>) -> Result<(), Failed>
+        ensures said { IsOk result ↔ IsSome done }
+        ensures cause { HasCause self.old.faults self.new.faults result }
+    {
+        if done.is_none() {
+            self.faults = self.faults.saturating_add(1);
+            return Err(Failed);
+        }
+        Ok(())
+    }
+}
+
+impl<R: Files + Drop> PageDevice for FileDevice<R>
+where
+    R::File: FileExt,
+{
+    ghost pages = { λ _. 1048576 };
+
+    ghost told = { λ _. false };
+
+    ghost page = { λ _ _. [] };
+
+    ghost faults = { λ d. d.faults };
+
+    fn limit(&self) -> u32 {
+        PAGE_LIMIT
+    }
+
+    fn read(&mut self, no: u32, buf: &mut [u8]) -> Result<(), Failed> {
+        self.make();
+        let done = match &self.file {
+            Some(file) => read_all(file, buf, place_of(no)),
+            None => None,
+        };
+        self.answer(done)
+    }
+
+    fn write(&mut self, no: u32, bytes: &[u8]) -> Result<(), Failed> {
+        self.make();
+        let done = match &self.file {
+            Some(file) => write_all(file, bytes, place_of(no)),
+            None => None,
+        };
+        self.answer(done)
+    }
+}
