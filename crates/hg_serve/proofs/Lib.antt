@@ -2,15 +2,4 @@ pub mod Scanning
 pub mod Commas
 pub mod Values
 pub mod Commands
-pub mod Writing
-pub mod Places
-pub mod Says
-pub mod States
-pub mod Turning
 pub mod LineLemmas
-pub mod Telling
-pub mod Running
-pub mod Scripts
-pub mod ServeLemmas
-pub mod Closing
-pub mod Endings

@@ -1,8 +1,3 @@
 pub mod Parse
-pub mod Output
-pub mod Tables
 pub mod Lines
-pub mod Session
-pub mod Serving
-pub mod Ending
 pub mod Number
