@@ -9,8 +9,12 @@
 #![tactic(auto)]
 
 mod lines;
+mod output;
 mod parse;
 mod scan;
+mod serve;
+mod session;
 mod statuses;
 
+pub use serve::serve_lines;
 pub use statuses::Status;

@@ -1,0 +1,268 @@
+//! A session: the reply lines that wait, the line at hand, and the way of a line through the engine.
+ghost use Rattle.std.specs.Prelude.{◌≡◌, ◌↔◌, List, true, false, OnOk, OnErr};
+ghost use Rattle.hg_io.specs.Count.{HasCause};
+ghost use Rattle.hg_machine.specs.Reply.{Reply as ReplyOf, reply_text, is_error};
+ghost use Rattle.hg_machine.specs.Run.{Turns};
+ghost use Rattle.hg_reply.specs.Lines.{reply_of};
+ghost use Rattle.hg_reply.specs.Steps.{Says, Moves};
+ghost use Rattle.hg_serve.specs.Output.{seen, Counted, NoneFell, Tells, TellsInPart};
+ghost use Rattle.hg_serve.specs.Session.{BeginsAsked};
+
+use crate::lines::{Asked, read_line};
+use crate::output::Output;
+use crate::scan::Tokens;
+use crate::statuses::Status;
+use arrayvec::ArrayVec;
+use hg_io::{Failed, Sink};
+use hg_reply::{Machine, Next, Reply, ReplyLine};
+
+/// Says one line and nothing else.
+fn say_alone(reply: &mut Reply, line: &ReplyLine) -> Next
+    ensures done { result ≡ Next.Done }
+    ensures text { reply.new.text.items ≡ reply_text (reply_of line.now) }
+    ensures errors { reply.new.has_error ≡ is_error (reply_of line.now) }
+{
+    reply.clear();
+    reply.say(line);
+    Next::Done
+}
+
+/// The immediate replies of what a line asks for.
+fn begin<E: Machine>(engine: &mut E, asked: Asked, reply: &mut Reply) -> Next
+    requires idle { E.pending engine.old ≡ false }
+    ensures step { (lines : List ReplyOf) × Says reply.new (E.faults engine.old) (E.faults engine.new) lines
+        × Moves E.stands (E.setting engine.old).told engine.old engine.new (BeginsAsked asked) lines }
+    ensures more { (result ≡ Next.More) ↔ (E.pending engine.new ≡ true) }
+    ensures setting { E.setting engine.new ≡ E.setting engine.old }
+    ensures later { NoneFell (E.faults engine.old) (E.faults engine.new) }
+{
+    match asked {
+        Asked::Nothing => {
+            reply.clear();
+            Next::Done
+        }
+        Asked::SyntaxError => say_alone(reply, &ReplyLine::SyntaxError),
+        Asked::TooLong => say_alone(reply, &ReplyLine::LineTooLong),
+        Asked::Statement(statement) => engine.command(statement, reply),
+    }
+}
+
+/// Runs the statement at work to its end, where the sink failed. Its lines are dropped.
+fn run_out<E: Machine>(engine: &mut E, next: Next, reply: &mut Reply)
+    requires more { (next ≡ Next.More) ↔ (E.pending engine.old ≡ true) }
+    ensures turns { (lines : List ReplyOf) × Counted (E.faults engine.old) (E.faults engine.new) lines
+        × Moves E.stands (E.setting engine.old).told engine.old engine.new Turns lines }
+    ensures idle { E.pending engine.new ≡ false }
+    ensures setting { E.setting engine.new ≡ E.setting engine.old }
+    ensures later { NoneFell (E.faults engine.old) (E.faults engine.new) }
+{
+    let mut left = next;
+    while let Next::More = left {
+        left = engine.more(reply);
+    }
+}
+
+/// Gives the turns of the statement at work to its end. Where the sink fails, what was written is a
+/// front of what waited and of the lines of all turns.
+fn give_turns<E: Machine, K: Sink>(
+    engine: &mut E,
+    next: Next,
+    reply: &mut Reply,
+    output: &mut Output,
+    sink: &mut K,
+) -> Result<(), Failed>
+    requires more { (next ≡ Next.More) ↔ (E.pending engine.old ≡ true) }
+    ensures ok { OnOk result ((lines : List ReplyOf)
+        × Tells (seen (K.written sink.old) (E.faults engine.old)) (seen (K.written sink.new) (E.faults engine.new)) output.old output.new lines
+        × Moves E.stands (E.setting engine.old).told engine.old engine.new Turns lines) }
+    ensures part { OnErr result ((lines : List ReplyOf)
+        × TellsInPart (seen (K.written sink.old) (E.faults engine.old)) (seen (K.written sink.new) (E.faults engine.new)) output.old.bytes.items lines
+        × Moves E.stands (E.setting engine.old).told engine.old engine.new Turns lines) }
+    ensures idle { E.pending engine.new ≡ false }
+    ensures setting { E.setting engine.new ≡ E.setting engine.old }
+    ensures later { NoneFell (E.faults engine.old) (E.faults engine.new) }
+    ensures cause { HasCause (K.faults sink.old) (K.faults sink.new) result }
+{
+    let mut left = next;
+    while let Next::More = left {
+        left = engine.more(reply);
+        if let Err(Failed) = output.put(reply, sink) {
+            run_out(engine, left, reply);
+            return Err(Failed);
+        }
+    }
+    Ok(())
+}
+
+/// The bytes of a line that are kept: one more than it may have, so that a longer one is known.
+const KEPT_BYTES: usize = 4097;
+
+/// The reply lines that wait, and the front of the line at hand. `reply` and `tokens` are room for the
+/// lines of a step and for the tokens of a line.
+#[derive(Drop)]
+pub struct Session {
+    output: Output,
+    reply: Reply,
+    tokens: Tokens,
+    line: ArrayVec<u8, KEPT_BYTES>,
+}
+
+impl Session {
+    ghost use Rattle.std.specs.Prelude.{◌≡◌, ◌≤◌, ◌∷◌, [], ◌++◌, ℕ, List, true, false, take, OnOk, OnErr};
+    ghost use Rattle.hg_io.specs.Count.{Rose, HasCause};
+    ghost use Rattle.hg_machine.specs.Script.{Line, whole_lines, lines_of};
+    ghost use Rattle.hg_serve.specs.Output.{Seen, seen, NoneFell, Passes, Breaks};
+    ghost use Rattle.hg_serve.specs.Session.{AnswersLine, BreaksInLine};
+    ghost use Rattle.hg_serve.specs.Serving.{Serves, Halts, Finishes, Closes};
+
+    pub fn new() -> Session
+        ensures empty { result.output.bytes.items ≡ [] }
+        ensures errors { result.output.errors ≡ false }
+        ensures line { result.line.items ≡ [] }
+    {
+        Session {
+            output: Output::new(),
+            reply: Reply::new(),
+            tokens: ArrayVec::new(),
+            line: ArrayVec::new(),
+        }
+    }
+
+    /// Answers the line at hand.
+    fn answer_line<E: Machine, K: Sink>(
+        &mut self,
+        ended: bool,
+        engine: &mut E,
+        sink: &mut K,
+    ) -> Result<(), Failed>
+        requires idle { E.pending engine.old ≡ false }
+        ensures ok { OnOk result ((whole : List ℕ) → self.old.line.items ≡ take 4097 whole
+            → AnswersLine E.stands (E.setting engine.old).told engine.old engine.new (seen (K.written sink.old) (E.faults engine.old))
+            (seen (K.written sink.new) (E.faults engine.new)) self.old.output self.new.output (record { bytes = whole; ended = ended })) }
+        ensures part { OnErr result ((whole : List ℕ) → self.old.line.items ≡ take 4097 whole
+            → BreaksInLine E.stands (E.setting engine.old).told engine.old engine.new (seen (K.written sink.old) (E.faults engine.old))
+            (seen (K.written sink.new) (E.faults engine.new)) self.old.output.bytes.items (record { bytes = whole; ended = ended })) }
+        ensures idle { E.pending engine.new ≡ false }
+        ensures setting { E.setting engine.new ≡ E.setting engine.old }
+        ensures later { NoneFell (E.faults engine.old) (E.faults engine.new) }
+        ensures cause { HasCause (K.faults sink.old) (K.faults sink.new) result }
+    {
+        let asked = read_line(self.line.as_slice(), ended, &mut self.tokens);
+        let next = begin(engine, asked, &mut self.reply);
+        if let Err(Failed) = self.output.put(&self.reply, sink) {
+            run_out(engine, next, &mut self.reply);
+            return Err(Failed);
+        }
+        give_turns(engine, next, &mut self.reply, &mut self.output, sink)?;
+        Ok(())
+    }
+
+    /// Takes one byte of the script, and answers the line that it ends.
+    fn take_byte<E: Machine, K: Sink>(
+        &mut self,
+        b: u8,
+        engine: &mut E,
+        sink: &mut K,
+    ) -> Result<(), Failed>
+        requires idle { E.pending engine.old ≡ false }
+        ensures ok { OnOk result ((first : E) (w : Seen) (taken : List ℕ)
+            → Serves E.stands (E.setting engine.old).told first engine.old w (seen (K.written sink.old) (E.faults engine.old)) self.old taken
+            → Serves E.stands (E.setting engine.old).told first engine.new w (seen (K.written sink.new) (E.faults engine.new)) self.new (taken ++ b ∷ [])) }
+        ensures part { OnErr result ((first : E) (w : Seen) (taken : List ℕ)
+            → Serves E.stands (E.setting engine.old).told first engine.old w (seen (K.written sink.old) (E.faults engine.old)) self.old taken
+            → Halts E.stands (E.setting engine.old).told first engine.new w (seen (K.written sink.new) (E.faults engine.new)) (whole_lines (taken ++ b ∷ []))) }
+        ensures idle { E.pending engine.new ≡ false }
+        ensures setting { E.setting engine.new ≡ E.setting engine.old }
+        ensures later { NoneFell (E.faults engine.old) (E.faults engine.new) }
+        ensures cause { HasCause (K.faults sink.old) (K.faults sink.new) result }
+    {
+        if b != b'\n' {
+            if self.line.len() < KEPT_BYTES {
+                self.line.push(b);
+            }
+            return Ok(());
+        }
+        if let Err(Failed) = self.answer_line(true, engine, sink) {
+            return Err(Failed);
+        }
+        self.line.clear();
+        Ok(())
+    }
+
+    /// Takes bytes of the script, and answers the lines that they end.
+    pub fn feed<E: Machine, K: Sink>(
+        &mut self,
+        bytes: &[u8],
+        engine: &mut E,
+        sink: &mut K,
+    ) -> Result<(), Failed>
+        requires idle { E.pending engine.old ≡ false }
+        ensures ok { OnOk result ((first : E) (w : Seen) (taken : List ℕ)
+            → Serves E.stands (E.setting engine.old).told first engine.old w (seen (K.written sink.old) (E.faults engine.old)) self.old taken
+            → Serves E.stands (E.setting engine.old).told first engine.new w (seen (K.written sink.new) (E.faults engine.new)) self.new (taken ++ bytes.now)) }
+        ensures part { OnErr result ((first : E) (w : Seen) (taken : List ℕ)
+            → Serves E.stands (E.setting engine.old).told first engine.old w (seen (K.written sink.old) (E.faults engine.old)) self.old taken
+            → Halts E.stands (E.setting engine.old).told first engine.new w (seen (K.written sink.new) (E.faults engine.new)) (whole_lines (taken ++ bytes.now))) }
+        ensures idle { E.pending engine.new ≡ false }
+        ensures setting { E.setting engine.new ≡ E.setting engine.old }
+        ensures later { NoneFell (E.faults engine.old) (E.faults engine.new) }
+        ensures cause { HasCause (K.faults sink.old) (K.faults sink.new) result }
+    {
+        for b in bytes {
+            if let Err(Failed) = self.take_byte(*b, engine, sink) {
+                return Err(Failed);
+            }
+        }
+        Ok(())
+    }
+
+    /// Writes the reply lines that wait.
+    pub fn flush<K: Sink>(&mut self, sink: &mut K) -> Result<(), Failed>
+        ensures ok { OnOk result (Passes (K.written sink.old) (K.written sink.new) self.old.output.bytes.items [] []) }
+        ensures empty { OnOk result (self.new.output.bytes.items ≡ []) }
+        ensures part { OnErr result (Breaks (K.written sink.old) (K.written sink.new) self.old.output.bytes.items []) }
+        ensures errors { self.new.output.errors ≡ self.old.output.errors }
+        ensures line { self.new.line ≡ self.old.line }
+        ensures cause { HasCause (K.faults sink.old) (K.faults sink.new) result }
+    {
+        self.output.flush(sink)?;
+        Ok(())
+    }
+
+    /// Writes the reply lines that wait at the end of the script.
+    fn finish<K: Sink>(&mut self, sink: &mut K) -> Status
+        ensures finishes { Finishes (K.written sink.old) (K.written sink.new) self.old.output result }
+        ensures later { K.faults sink.old ≤ K.faults sink.new }
+        ensures cause { result ≡ Status.SinkFault → Rose (K.faults sink.old) (K.faults sink.new) }
+    {
+        if let Err(Failed) = self.output.flush(sink) {
+            return Status::SinkFault;
+        }
+        if self.output.errors {
+            Status::Errors
+        } else {
+            Status::Clean
+        }
+    }
+
+    /// Answers a last line that no line feed ends, and closes the session.
+    pub fn end<E: Machine, K: Sink>(&mut self, engine: &mut E, sink: &mut K) -> Status
+        requires idle { E.pending engine.old ≡ false }
+        ensures closes { (first : E) (w : Seen) (taken : List ℕ)
+            → Serves E.stands (E.setting engine.old).told first engine.old w (seen (K.written sink.old) (E.faults engine.old)) self.old taken
+            → Closes E.stands (E.setting engine.old).told first engine.new w (seen (K.written sink.new) (E.faults engine.new)) (lines_of taken) result }
+        ensures idle { E.pending engine.new ≡ false }
+        ensures setting { E.setting engine.new ≡ E.setting engine.old }
+        ensures later { NoneFell (E.faults engine.old) (E.faults engine.new) }
+        ensures sink_later { K.faults sink.old ≤ K.faults sink.new }
+        ensures cause { result ≡ Status.SinkFault → Rose (K.faults sink.old) (K.faults sink.new) }
+    {
+        if self.line.is_empty() {
+            return self.finish(sink);
+        }
+        if let Err(Failed) = self.answer_line(false, engine, sink) {
+            return Status::SinkFault;
+        }
+        self.finish(sink)
+    }
+}
