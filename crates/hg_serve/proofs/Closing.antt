@@ -4,7 +4,7 @@ use Rattle.std.proofs.lemmas.List.{nil_from_length}
 use Rattle.hg_io.specs.Bytes.{then}
 use Rattle.hg_machine.specs.Script.{Line, last_part, unended, whole_lines, lines_of}
 use Rattle.hg_machine.specs.State.{State}
-use Rattle.hg_machine.specs.Reply.{text_of, has_error}
+use Rattle.hg_machine.specs.Reply.{has_error}
 use Rattle.hg_reply.specs.Steps.{DeviceFaults}
 use Rattle.hg_serve.specs.declared.output.Output.{Output}
 use Rattle.hg_serve.specs.declared.session.Session.{Session}

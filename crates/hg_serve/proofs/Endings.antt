@@ -1,7 +1,7 @@
 -- from where a session stands to how a script ends
-use Rattle.std.proofs.Common.{◌≡◌, ◌≢◌, ℕ, ◌<◌, ◌≤◌, ◌+◌, ◌-◌, ◌^◌, true, Bool, List, [], ◌++◌, length, take, Option, None, Some, refl, sym, ap, ◌∙◌, arith, inl, inr, ◌⊎◌, append_assoc, append-nil, length-append}
+use Rattle.std.proofs.Common.{◌≡◌, ◌≢◌, ℕ, ◌<◌, ◌+◌, ◌-◌, ◌^◌, Bool, List, [], ◌++◌, length, take, Option, None, Some, refl, sym, ap, ◌∙◌, arith, inl, inr, ◌⊎◌, append_assoc, append-nil, length-append}
 use Rattle.hg_io.specs.Bytes.{then, before, AtEnd, before-before}
-use Rattle.hg_io.specs.Count.{raised, Rose}
+use Rattle.hg_io.specs.Count.{raised}
 use Rattle.hg_machine.specs.Script.{Line, last_part, unended, whole_lines, lines_of}
 use Rattle.hg_machine.specs.State.{State, first_state}
 use Rattle.hg_machine.specs.Reply.{Reply, text_of}

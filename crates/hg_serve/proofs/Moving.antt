@@ -1,10 +1,10 @@
 -- how the moves of an engine add up to turns, lines and scripts
-use Rattle.std.proofs.Common.{◌≡◌, ℕ, Bool, true, false, List, [], ◌∷◌, ◌++◌, Option, None, Some, refl, sym, ap, ◌∙◌, subst}
+use Rattle.std.proofs.Common.{◌≡◌, Bool, true, false, List, [], ◌∷◌, ◌++◌, Option, None, Some, refl, sym, ◌∙◌}
 use Rattle.std.specs.Option.{is_some}
 use Rattle.hg_machine.specs.Script.{Line}
 use Rattle.hg_machine.specs.State.{State}
 use Rattle.hg_machine.specs.Reply.{Reply}
-use Rattle.hg_machine.specs.Run.{Turn, Turns, RunsLine, RunsLines}
+use Rattle.hg_machine.specs.Run.{Turn, Turns}
 use Rattle.hg_reply.specs.Steps.{Moves}
 use Rattle.hg_serve.specs.declared.lines.Asked.{Asked}
 use Rattle.hg_serve.specs.Lines.{AsksFor}

@@ -1,10 +1,9 @@
 -- how what goes to the sink, the error lines and the fault lines add up
-use Rattle.std.proofs.Common.{◌≡◌, ℕ, ◌+◌, ◌≤◌, List, [], ◌∷◌, ◌++◌, ◌||◌, Bool, true, false, Option, None, Some, Result, Ok, Err, OnErr, refl, sym, ap, ◌∙◌, subst, arith, append_assoc, append-nil}
+use Rattle.std.proofs.Common.{◌≡◌, ℕ, ◌+◌, List, [], ◌∷◌, ◌++◌, ◌||◌, Bool, true, false, Option, None, Some, Result, Ok, Err, OnErr, refl, sym, ap, ◌∙◌, subst, arith, append_assoc, append-nil}
 use Rattle.std.proofs.lemmas.Grind.{flat_map-append}
 use Rattle.hg_base.specs.declared.File.{File}
 use Rattle.hg_base.specs.declared.File.TheVariants.{Main, Temp}
 use Rattle.hg_io.specs.Bytes.{then, then-then}
-use Rattle.hg_io.specs.Count.{raised}
 use Rattle.hg_machine.specs.Reply.{Reply, reply_text, is_error, is_fault_of, text_of, has_error, fault_lines}
 use Rattle.hg_reply.specs.declared.reply.Reply.{Reply as Said}
 use Rattle.hg_reply.specs.Steps.{DeviceFaults, Says}

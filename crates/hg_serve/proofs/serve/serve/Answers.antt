@@ -1,6 +1,6 @@
 use Rattle.std.proofs.Common.{◌<◌, [], ◌++◌, refl, sym, ap, ◌∙◌, arith, length-append}
 use Rattle.hg_machine.specs.Outcome.{Setting}
-use Rattle.hg_machine.specs.Script.{whole_lines, lines_of}
+use Rattle.hg_machine.specs.Script.{lines_of}
 use Rattle.hg_serve.specs.Ending.{outside}
 use Rattle.hg_serve.proofs.Telling.{fell-none, fell-then}
 use Rattle.hg_serve.proofs.ServeLemmas.{serves-start, serves-flushed, serves-as, halts-as, closes-as}
