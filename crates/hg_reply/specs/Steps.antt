@@ -2,7 +2,6 @@
 use Rattle.std.specs.Prelude.{◌≡◌, ℕ, ◌≤◌, Bool, true, List}
 use Rattle.hg_base.specs.declared.File.TheVariants.{Main, Temp}
 use Rattle.hg_io.specs.Count.{raised}
-use Rattle.hg_machine.specs.Outcome.{Setting}
 use Rattle.hg_machine.specs.Reply.{Reply as Line, text_of, has_error, fault_lines}
 use Rattle.hg_machine.specs.State.{State}
 use Rattle.hg_reply.specs.declared.reply.Reply.{Reply}

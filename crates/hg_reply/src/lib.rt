@@ -11,3 +11,6 @@ mod reply;
 
 pub use machine::{Machine, Next};
 pub use reply::{REPLY_BYTES, Reply, ReplyLine};
+
+#[cfg(test)]
+mod tests;

@@ -1,20 +1,20 @@
 -- how a session is closed
-use Rattle.std.proofs.Common.{◌≡◌, ℕ, ◌<◌, false, List, [], ◌∷◌, ◌++◌, ◌||◌, length, take, Option, refl, sym, ap, ◌∙◌, subst, arith, append-nil, length-take}
+use Rattle.std.proofs.Common.{◌≡◌, ℕ, ◌<◌, Bool, true, false, List, [], ◌∷◌, ◌++◌, ◌||◌, length, take, Option, refl, sym, ap, ◌∙◌, subst, arith, append-nil, length-take}
 use Rattle.std.proofs.lemmas.List.{nil_from_length}
 use Rattle.hg_io.specs.Bytes.{then}
 use Rattle.hg_machine.specs.Script.{Line, last_part, unended, whole_lines, lines_of}
 use Rattle.hg_machine.specs.State.{State}
-use Rattle.hg_machine.specs.Reply.{Reply, text_of, has_error}
-use Rattle.hg_machine.specs.Run.{IsRun}
+use Rattle.hg_machine.specs.Reply.{has_error}
+use Rattle.hg_reply.specs.Steps.{DeviceFaults}
 use Rattle.hg_serve.specs.declared.output.Output.{Output}
 use Rattle.hg_serve.specs.declared.session.Session.{Session}
-use Rattle.hg_serve.specs.declared.session.Stop.{Stop}
-use Rattle.hg_serve.specs.declared.session.Stop.TheVariants as stop
-use Rattle.hg_serve.specs.Output.{Passes, Breaks}
-use Rattle.hg_serve.specs.Session.{AnswersLine, StopsIn}
-use Rattle.hg_serve.specs.Serving.{Serves, FirstOf, Halts, Answers}
-use Rattle.hg_serve.proofs.Telling.{passes-then, breaks-then, text_of-append, has_error-append, text_of-nil}
-use Rattle.hg_serve.proofs.Scripts.{runs-push}
+use Rattle.hg_serve.specs.declared.statuses.Status.{Status}
+use Rattle.hg_serve.specs.declared.statuses.Status.TheVariants as status
+use Rattle.hg_serve.specs.Output.{Seen, seen, Passes, Breaks}
+use Rattle.hg_serve.specs.Session.{AnswersLine, BreaksInLine}
+use Rattle.hg_serve.specs.Serving.{Serves, Halts, Answers, AllAnswered, Finishes, Closes}
+use Rattle.hg_serve.proofs.Telling.{passes-then, breaks-then, text_of-append, has_error-append, counted-then}
+use Rattle.hg_serve.proofs.Moving.{moves-lines}
 
 passes-empty : (w0 w1 : Option (List ℕ)) (t : List ℕ) → Passes w0 w1 [] [] t → w1 ≡ then w0 t
 passes-empty w0 w1 t p =
@@ -22,33 +22,16 @@ passes-empty w0 w1 t p =
     p.written ∙ ap (then w0) same
 
 -- all of it was written
-pub written-all : (w0 w1 w2 : Option (List ℕ)) (waiting t : List ℕ) → Passes w0 w1 [] waiting t → Passes w1 w2 waiting [] [] → w2 ≡ then w0 t
+written-all : (w0 w1 w2 : Option (List ℕ)) (waiting t : List ℕ) → Passes w0 w1 [] waiting t → Passes w1 w2 waiting [] [] → w2 ≡ then w0 t
 written-all w0 w1 w2 waiting t p q =
     passes-empty w0 w2 t (subst (λ l. Passes w0 w2 [] [] l) (append-nil t) (passes-then w0 w1 w2 [] waiting [] t [] p q))
 
 -- a front of it was written
-pub broke-all : (w0 w1 w2 : Option (List ℕ)) (waiting t : List ℕ) → Passes w0 w1 [] waiting t → Breaks w1 w2 waiting [] → Breaks w0 w2 [] t
+broke-all : (w0 w1 w2 : Option (List ℕ)) (waiting t : List ℕ) → Passes w0 w1 [] waiting t → Breaks w1 w2 waiting [] → Breaks w0 w2 [] t
 broke-all w0 w1 w2 waiting t p q = subst (λ l. Breaks w0 w2 [] l) (append-nil t) (breaks-then w0 w1 w2 [] waiting t [] p q)
 
-pub all-of : (lines : List Line) (replies : List Reply) → IsRun lines replies → FirstOf lines
-all-of lines replies run = record { front = lines; later = []; first = sym (append-nil lines); replies = replies; run = run }
-
-pub breaks-serves : (first now after : Option (List ℕ)) (s : Session) (taken : List ℕ) → Serves first now s taken
-    → Breaks now after s.output.bytes.items []
-    → (f : FirstOf (whole_lines taken)) × Breaks first after [] (text_of f.replies)
-unfolding all-of
-breaks-serves first now after s taken serves broke = (
-  all-of (whole_lines taken) serves.replies (record { last = s.tables; runs = serves.runs }),
-  broke-all _ _ _ _ _ serves.passes broke,
-)
-
-pub breaks-answers : (first now after : Option (List ℕ)) (output : Output) (lines : List Line) → Answers first now output lines
-    → Breaks now after output.bytes.items [] → (f : FirstOf lines) × Breaks first after [] (text_of f.replies)
-unfolding all-of
-breaks-answers first now after output lines a broke = (all-of lines a.replies a.run, broke-all _ _ _ _ _ a.passes broke)
-
 -- the script ends with a line feed, or has no byte
-pub no-last-line : (taken : List ℕ) → last_part [] taken ≡ [] → lines_of taken ≡ whole_lines taken
+no-last-line : (taken : List ℕ) → last_part [] taken ≡ [] → lines_of taken ≡ whole_lines taken
 unfolding lines_of
 no-last-line taken none = rw none (append-nil (whole_lines taken))
 
@@ -62,68 +45,90 @@ unended-some (b ∷ bs) some = refl
 abbrev pub last_line : List ℕ → Line
 last_line taken = record { bytes = last_part [] taken; ended = false }
 
-pub with-last-line : (taken : List ℕ) → 0 < length (last_part [] taken) → lines_of taken ≡ whole_lines taken ++ last_line taken ∷ []
+with-last-line : (taken : List ℕ) → 0 < length (last_part [] taken) → lines_of taken ≡ whole_lines taken ++ last_line taken ∷ []
 unfolding lines_of
 with-last-line taken some = ap (λ l. whole_lines taken ++ l) (unended-some (last_part [] taken) some)
 
 pub something-kept : (kept part : List ℕ) → kept ≡ take 4097 part → 0 < length kept → 0 < length part
 something-kept kept part is some = omega (arith, ap length is, length-take 4097 part)
 
-pub answers-serves : (first now : Option (List ℕ)) (s : Session) (taken : List ℕ) → Serves first now s taken → last_part [] taken ≡ []
-    → Answers first now s.output (lines_of taken)
-answers-serves first now s taken serves none = record {
-  replies = serves.replies;
-  run = record { last = s.tables; runs = rw (no-last-line taken none) serves.runs };
-  passes = serves.passes;
-  errors = serves.errors;
-}
-
-module _ (first now after : Option (List ℕ)) (s : Session) (tables : State) (output : Output) (taken : List ℕ)
-    (serves : Serves first now s taken) (some : 0 < length (last_part [] taken)) where
-  pub answers-last : AnswersLine now after s.tables tables s.output output (last_line taken) → Answers first after output (lines_of taken)
-  answers-last a = record {
-    replies = serves.replies ++ a.replies;
-    run = record { last = tables; runs = rw (with-last-line taken some) (runs-push _ _ _ _ _ _ _ serves.runs a.runs) };
-    passes = rw (text_of-append serves.replies a.replies) (passes-then _ _ _ _ _ _ _ _ serves.passes a.tells.passes);
-    errors = a.tells.errors ∙ ap (λ e. e || has_error a.replies) serves.errors ∙ sym (has_error-append serves.replies a.replies);
+module _ {E : Type 0} (Stands : E → State → Type 0) (told : Bool) where
+  pub breaks-serves : (first now : E) (old : Seen) (w1 w2 : Option (List ℕ)) (f : DeviceFaults) (s : Session) (taken : List ℕ)
+      → Serves Stands told first now old (seen w1 f) s taken → Breaks w1 w2 s.output.bytes.items []
+      → Halts Stands told first now old (seen w2 f) (whole_lines taken)
+  breaks-serves first now old w1 w2 f s taken serves broke = record {
+    front = whole_lines taken;
+    later = [];
+    parts = sym (append-nil (whole_lines taken));
+    replies = serves.replies;
+    moves = serves.moves;
+    tells = record { breaks = broke-all _ _ _ _ _ serves.passes broke; counted = serves.counted };
   }
 
-pub halts-last : (first now after : Option (List ℕ)) (s : Session) (output : Output) (taken : List ℕ) → Serves first now s taken
-    → 0 < length (last_part [] taken) → (k : Stop) → StopsIn now after s.tables s.output output (last_line taken) k
-    → Halts first after output.bytes.items (lines_of taken) k
-halts-last first now after s output taken serves some stop.NoMemory told = (
-  record {
-    front = whole_lines taken;
-    later = last_line taken ∷ [];
-    first = with-last-line taken some;
+  pub answers-serves : (first now : E) (old new : Seen) (s : Session) (taken : List ℕ) → Serves Stands told first now old new s taken
+      → last_part [] taken ≡ [] → Answers Stands told first now old new s.output (lines_of taken)
+  answers-serves first now old new s taken serves none = record {
     replies = serves.replies;
-    run = record { last = s.tables; runs = serves.runs };
-  },
-  subst (λ l. Passes first after [] output.bytes.items l)
-      (ap (λ l. text_of serves.replies ++ l) text_of-nil ∙ append-nil (text_of serves.replies))
-      (passes-then _ _ _ _ _ _ _ _ serves.passes told.passes),
-)
-halts-last first now after s output taken serves some stop.SinkFault (replies, last, run, broke) = (
-  record {
-    front = lines_of taken;
-    later = [];
-    first = sym (append-nil (lines_of taken));
-    replies = serves.replies ++ replies;
-    run = record { last = last; runs = rw (with-last-line taken some) (runs-push _ _ _ _ _ _ _ serves.runs run) };
-  },
-  rw (text_of-append serves.replies replies) (breaks-then _ _ _ _ _ _ _ serves.passes broke),
-)
+    moves = rw (no-last-line taken none) serves.moves;
+    passes = serves.passes;
+    errors = serves.errors;
+    counted = serves.counted;
+  }
 
-pub serves-flushed : (first now after : Option (List ℕ)) (s t : Session) (taken : List ℕ) → Serves first now s taken
-    → t.tables ≡ s.tables → t.line ≡ s.line → Passes now after s.output.bytes.items [] [] → t.output.bytes.items ≡ []
-    → t.output.errors ≡ s.output.errors → Serves first after t taken
-serves-flushed first now after s t taken serves tables line passes empty errors = record {
-  replies = serves.replies;
-  runs = rw tables serves.runs;
-  passes =
-      rw empty
-      (subst (λ l. Passes first after [] [] l) (append-nil (text_of serves.replies))
-      (passes-then first now after [] s.output.bytes.items [] (text_of serves.replies) [] serves.passes passes));
-  errors = errors ∙ serves.errors;
-  part = rw line serves.part;
-}
+  module _ (first now after : E) (old new later : Seen) (s : Session) (taken : List ℕ)
+      (serves : Serves Stands told first now old new s taken) (some : 0 < length (last_part [] taken)) where
+    pub answers-last : (output : Output) → AnswersLine Stands told now after new later s.output output (last_line taken)
+        → Answers Stands told first after old later output (lines_of taken)
+    answers-last output a = record {
+      replies = serves.replies ++ a.replies;
+      moves = rw (with-last-line taken some) (moves-lines Stands told told first now after (whole_lines taken) (last_line taken) serves.replies a.replies refl serves.moves a.moves);
+      passes = rw (text_of-append serves.replies a.replies) (passes-then _ _ _ _ _ _ _ _ serves.passes a.tells.passes);
+      errors = a.tells.errors ∙ ap (λ e. e || has_error a.replies) serves.errors ∙ sym (has_error-append serves.replies a.replies);
+      counted = counted-then _ _ _ serves.replies a.replies serves.counted a.tells.counted;
+    }
+
+    pub halts-last : BreaksInLine Stands told now after new later s.output.bytes.items (last_line taken)
+        → Halts Stands told first after old later (lines_of taken)
+    halts-last a = record {
+      front = lines_of taken;
+      later = [];
+      parts = sym (append-nil (lines_of taken));
+      replies = serves.replies ++ a.replies;
+      moves = rw (with-last-line taken some) (moves-lines Stands told told first now after (whole_lines taken) (last_line taken) serves.replies a.replies refl serves.moves a.moves);
+      tells = record {
+        breaks = rw (text_of-append serves.replies a.replies) (breaks-then _ _ _ _ _ _ _ serves.passes a.tells.breaks);
+        counted = counted-then _ _ _ serves.replies a.replies serves.counted a.tells.counted;
+      };
+    }
+
+  all-answered : (first now : E) (old : Seen) (w1 w2 : Option (List ℕ)) (f : DeviceFaults) (output : Output) (lines : List Line) (errors : Bool)
+      → Answers Stands told first now old (seen w1 f) output lines → Passes w1 w2 output.bytes.items [] [] → output.errors ≡ errors
+      → AllAnswered Stands told first now old (seen w2 f) lines errors
+  all-answered first now old w1 w2 f output lines errors a passes shown = record {
+    replies = a.replies;
+    moves = a.moves;
+    text = written-all _ _ _ _ _ a.passes passes;
+    counted = a.counted;
+    shown = sym a.errors ∙ shown;
+  }
+
+  -- what waited was written at the end
+  pub closes-answers : (first now : E) (old : Seen) (w1 w2 : Option (List ℕ)) (f : DeviceFaults) (output : Output) (lines : List Line) (s : Status)
+      → Answers Stands told first now old (seen w1 f) output lines → Finishes w1 w2 output s
+      → Closes Stands told first now old (seen w2 f) lines s
+  closes-answers first now old w1 w2 f output lines status.Clean a (passes, shown) =
+      all-answered first now old w1 w2 f output lines false a passes shown
+  closes-answers first now old w1 w2 f output lines status.Errors a (passes, shown) =
+      all-answered first now old w1 w2 f output lines true a passes shown
+  closes-answers first now old w1 w2 f output lines status.SinkFault a broke = record {
+    front = lines;
+    later = [];
+    parts = sym (append-nil lines);
+    replies = a.replies;
+    moves = a.moves;
+    tells = record { breaks = broke-all _ _ _ _ _ a.passes broke; counted = a.counted };
+  }
+  closes-answers first now old w1 w2 f output lines status.Usage a never = absurd never
+  closes-answers first now old w1 w2 f output lines status.NoMemory a never = absurd never
+  closes-answers first now old w1 w2 f output lines status.SourceFault a never = absurd never
+  closes-answers first now old w1 w2 f output lines status.TooLong a never = absurd never

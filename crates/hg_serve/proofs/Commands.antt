@@ -117,3 +117,8 @@ pub last-command : (tokens : List Token) (answer : Option Statement)
     → MatchOption answer ((s : Statement) → ¬ StandsFor s tokens) (λ s. StandsFor s tokens)
 last-command tokens None creates inserts sound complete = λ s. no-command tokens s creates inserts complete
 last-command tokens (Some s) creates inserts sound complete = sound
+
+-- whatever is said of none
+pub on_none : {T : Type 0} {P : Type 0} (answer : Option T) → P → IfNone answer P
+on_none None p = p
+on_none (Some x) p = tt

@@ -1,5 +1,5 @@
 -- a list of parts with commas between them, read from its front
-use Rattle.std.proofs.Common.{◌≡◌, ◌<◌, List, [], ◌∷◌, ◌++◌, length, refl, sym, ap, ◌∙◌, subst, append_assoc, arith, length-append}
+use Rattle.std.proofs.Common.{◌≡◌, ◌<◌, ◌≤◌, ℕ, List, [], ◌∷◌, ◌++◌, length, refl, sym, ap, ◌∙◌, subst, append_assoc, arith, length-append}
 use Rattle.hg_machine.specs.declared.tokens.Token.{Token}
 use Rattle.hg_machine.specs.declared.tokens.Token.TheVariants as token
 use Rattle.hg_machine.specs.declared.tokens.Sign.TheVariants as sign
@@ -158,3 +158,15 @@ pub shorter : (rest front behind more : List Token) → rest ≡ front ++ behind
 shorter rest front behind more parts follows =
     let all : rest ≡ front ++ comma ∷ more = parts ∙ ap (λ l. front ++ l) follows in
     omega (arith, ap length all, length-append front (comma ∷ more))
+
+-- as many parts as may be were read, and a comma follows
+pub progress-full : {X : Type 0} (P : X → List Token → Type 0) (tokens : List Token) (items : List X) (rest : List Token)
+    (xs : List X) (last : List Token) (most : ℕ) → Progress P tokens items rest → most ≤ length items → length xs ≤ most
+    → StandsFirst (Separated P) tokens xs last → BeginsWithNoComma last → ⊥
+unfolding Separated
+progress-full {X} P tokens items rest xs last most progress full few stands ends =
+    let a = progress.ahead xs last stands ends in by_parts a.others a.stands.reads a.is
+  where
+    by_parts : (others : List X) → Separated P others (progress.ahead xs last stands ends).stands.front → xs ≡ items ++ others → ⊥
+    by_parts [] sep is = sep
+    by_parts (y ∷ ys) sep is = omega (arith, ap length is, length-append items (y ∷ ys))

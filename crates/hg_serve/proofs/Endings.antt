@@ -1,21 +1,20 @@
--- from where a session stands to how a run ends
-use Rattle.std.proofs.Common.{◌≡◌, ℕ, ◌<◌, ◌≤◌, ◌+◌, ◌^◌, List, [], ◌++◌, length, take, Option, None, Some, refl, sym, ap, ◌∙◌, arith, inl, inr, ◌⊎◌, append_assoc, append-nil, length-append}
+-- from where a session stands to how a script ends
+use Rattle.std.proofs.Common.{◌≡◌, ◌≢◌, ℕ, ◌<◌, ◌+◌, ◌-◌, ◌^◌, Bool, List, [], ◌++◌, length, take, Option, None, Some, refl, sym, ap, ◌∙◌, arith, inl, inr, ◌⊎◌, append_assoc, append-nil, length-append}
 use Rattle.hg_io.specs.Bytes.{then, before, AtEnd, before-before}
-use Rattle.hg_io.specs.Count.{raised, Rose}
-use Rattle.hg_machine.specs.Script.{last_part, unended, whole_lines, lines_of}
-use Rattle.hg_machine.specs.Reply.{text_of}
-use Rattle.hg_machine.specs.Outcome.{Outside, Took, AnswersWholeLines, AnswersUpToLimit, AnswersFirstLines, AnswersInPart}
+use Rattle.hg_io.specs.Count.{raised}
+use Rattle.hg_machine.specs.Script.{Line, last_part, unended, whole_lines, lines_of}
+use Rattle.hg_machine.specs.State.{State, first_state}
+use Rattle.hg_machine.specs.Reply.{Reply, text_of}
+use Rattle.hg_machine.specs.Outcome.{Setting, Outside, Took, Replies, AnswersAll, AnswersWholeLines, AnswersUpToLimit, AnswersInPart}
+use Rattle.hg_reply.specs.Steps.{Moves, DeviceFaults}
 use Rattle.hg_serve.specs.declared.session.Session.{Session}
 use Rattle.hg_serve.specs.declared.statuses.Status.{Status}
 use Rattle.hg_serve.specs.declared.statuses.Status.TheVariants as status
-use Rattle.hg_serve.specs.Output.{Breaks}
-use Rattle.hg_serve.specs.Serving.{Serves, FirstOf, Closes}
-use Rattle.hg_serve.specs.Ending.{Ends}
+use Rattle.hg_serve.specs.Output.{Seen, seen, Counted}
+use Rattle.hg_serve.specs.Serving.{Serves, Halts, AllAnswered, Closes, Running}
+use Rattle.hg_serve.specs.Ending.{Ends, TakesSoMany, outside}
 
 -- counts
-
-pub rose-later : (a b c d : ℕ) → a ≤ b → Rose b c → c ≤ d → Rose a d
-rose-later a b c d before rose after = omega arith
 
 raised-raised : (g m n : ℕ) → raised (raised g m) n ≡ raised g (m + n)
 raised-raised g m n = omega arith
@@ -50,109 +49,142 @@ took-end old mid new taken buffer n t left none given small =
     (sym (left ∙ ap (λ k. before (take k buffer) new.left) none ∙ sym (before-nil new.left)))
     (omega (arith, given, none, small))
 
+-- the limit of bytes
+
+pub comes-at-limit : (old new : Outside) (taken : List ℕ) (s : Status) → TakesSoMany s (length taken) → Took old new taken
+    → new.given < 2 ^ 64 - 1 → new.given ≡ old.given + 2 ^ 32 → (s ≡ status.TooLong) ⊎ (s ≡ status.SinkFault)
+comes-at-limit old new taken status.Clean few took small all = absurd (omega (arith, took.given))
+comes-at-limit old new taken status.Errors few took small all = absurd (omega (arith, took.given))
+comes-at-limit old new taken status.Usage never took small all = absurd never
+comes-at-limit old new taken status.SourceFault few took small all = absurd (omega (arith, took.given))
+comes-at-limit old new taken status.SinkFault few took small all = inr refl
+comes-at-limit old new taken status.NoMemory never took small all = absurd never
+comes-at-limit old new taken status.TooLong is took small all = inl refl
+
+pub never-usage : (n : ℕ) (s : Status) → TakesSoMany s n → s ≢ status.Usage
+never-usage n status.Usage never is = never
+never-usage n status.Clean few is = cc
+never-usage n status.Errors few is = cc
+never-usage n status.SourceFault few is = cc
+never-usage n status.SinkFault few is = cc
+never-usage n status.NoMemory never is = never
+never-usage n status.TooLong few is = cc
+
+pub never-no_memory : (n : ℕ) (s : Status) → TakesSoMany s n → s ≢ status.NoMemory
+never-no_memory n status.Usage never is = never
+never-no_memory n status.Clean few is = cc
+never-no_memory n status.Errors few is = cc
+never-no_memory n status.SourceFault few is = cc
+never-no_memory n status.SinkFault few is = cc
+never-no_memory n status.NoMemory never is = never
+never-no_memory n status.TooLong few is = cc
+
 -- how it ends
 
-pub first-of-all : (taken : List ℕ) → FirstOf (whole_lines taken) → FirstOf (lines_of taken)
-unfolding lines_of
-first-of-all taken f = record {
-  front = f.front;
-  later = f.later ++ unended (last_part [] taken);
-  first = ap (λ l. l ++ unended (last_part [] taken)) f.first ∙ append_assoc f.front f.later (unended (last_part [] taken));
-  replies = f.replies;
-  run = f.run;
-}
-
-module _ (old new : Outside) (taken : List ℕ) (took : Took old new taken) where
-  pub ends-in-part : (f : FirstOf (lines_of taken)) × Breaks old.written new.written [] (text_of f.replies) → AnswersInPart old new
-  ends-in-part (f, broke) = record {
-    taken = taken;
-    took = took;
-    lines = f.front;
-    later = f.later;
-    first = f.first;
-    replies = f.replies;
-    run = f.run;
-    front = broke.front;
-    rest = broke.rest;
-    parts = broke.parts;
-    text = broke.written;
-  }
-
-  pub ends-in-memory : (f : FirstOf (lines_of taken)) × (new.written ≡ then old.written (text_of f.replies)) → AnswersFirstLines old new
-  ends-in-memory (f, text) = record {
-    taken = taken;
-    took = took;
-    lines = f.front;
-    later = f.later;
-    first = f.first;
-    replies = f.replies;
-    answers = record { run = f.run; text = text };
-  }
-
-  pub breaks-off : Closes old.written new.written (whole_lines taken) status.SinkFault → AnswersInPart old new
-  unfolding first-of-all
-  breaks-off (f, broke) = ends-in-part (first-of-all taken f, broke)
-
-  pub stops : (s : Status) → (s ≡ status.SinkFault) ⊎ (s ≡ status.NoMemory) → Closes old.written new.written (whole_lines taken) s
-      → Ends old new s
-  unfolding first-of-all
-  stops status.Clean (inl e) c = absurd (cc)
-  stops status.Clean (inr e) c = absurd (cc)
-  stops status.Errors (inl e) c = absurd (cc)
-  stops status.Errors (inr e) c = absurd (cc)
-  stops status.Usage kind c = absurd c
-  stops status.SourceFault kind c = absurd c
-  stops status.SinkFault kind c = breaks-off c
-  stops status.NoMemory kind (f, text) = ends-in-memory (first-of-all taken f, text)
-  stops status.TooLong kind c = absurd c
-
-  pub closes : (s : Status) → length taken < 2 ^ 32 → AtEnd new.left → Closes old.written new.written (lines_of taken) s → Ends old new s
-  closes status.Clean few last a =
+module _ {E : Type 0} (Stands : E → State → Type 0) (setting : Setting) (first now : E) where
+  the-replies : (old new : Outside) (lines : List Line) (replies : List Reply) → Stands first (first_state setting.limit)
+      → Moves Stands setting.told first now (Running lines) replies
+      → Counted (record { main = old.main_faults; temp = old.temp_faults }) (record { main = new.main_faults; temp = new.temp_faults }) replies
+      → Replies setting old new lines replies
+  the-replies old new lines replies stood moves counted =
+      let there = moves.to (first_state setting.limit) stood in
       record {
-        taken = taken;
-        took = took;
-        few = few;
-        at_end = last;
-        replies = a.replies;
-        answers = record { run = a.run; text = a.text };
-        errors_shown = a.shown;
+        run = λ is. record { last = there.0; runs = there.2 is };
+        main_faults = counted.main;
+        temp_faults = counted.temp;
       }
-  closes status.Errors few last a =
-      record {
-        taken = taken;
-        took = took;
-        few = few;
-        at_end = last;
-        replies = a.replies;
-        answers = record { run = a.run; text = a.text };
-        errors_shown = a.shown;
-      }
-  closes status.Usage few last c = absurd c
-  closes status.SourceFault few last c = absurd c
-  closes status.SinkFault few last c = ends-in-part c
-  closes status.NoMemory few last c = ends-in-memory c
-  closes status.TooLong few last c = absurd c
 
-  module _ (s : Session) (serves : Serves old.written new.written s taken) (empty : s.output.bytes.items ≡ []) where
-    all_text : new.written ≡ then old.written (text_of serves.replies)
-    all_text =
-        serves.passes.written
-        ∙ ap (then old.written) (sym (serves.passes.parts ∙ ap (λ l. serves.passes.passed ++ l) empty ∙ append-nil serves.passes.passed))
+  module _ (left0 left1 : Option (List ℕ)) (given0 given1 : ℕ) (w0 w1 : Option (List ℕ)) (f0 f1 : DeviceFaults) (taken : List ℕ)
+      (stood : Stands first (first_state setting.limit)) (took : Took (outside left0 given0 w0 f0) (outside left1 given1 w1 f1) taken) where
+    ends-in-part : (later : List Line) → lines_of taken ≡ whole_lines taken ++ later
+        → Halts Stands setting.told first now (seen w0 f0) (seen w1 f1) (whole_lines taken)
+        → AnswersInPart setting (outside left0 given0 w0 f0) (outside left1 given1 w1 f1)
+    ends-in-part later parts h = record {
+      taken = taken;
+      took = took;
+      lines = h.front;
+      later = h.later ++ later;
+      first = parts ∙ ap (λ l. l ++ later) h.parts ∙ append_assoc h.front h.later later;
+      replies = h.replies;
+      of_run = the-replies _ _ h.front h.replies stood h.moves h.tells.counted;
+      front = h.tells.breaks.front;
+      rest = h.tells.breaks.rest;
+      parts = h.tells.breaks.parts;
+      text = h.tells.breaks.written;
+    }
 
-    pub source-breaks : length taken < 2 ^ 32 → AnswersWholeLines old new
-    source-breaks few = record {
+    pub breaks-off : Halts Stands setting.told first now (seen w0 f0) (seen w1 f1) (whole_lines taken)
+        → AnswersInPart setting (outside left0 given0 w0 f0) (outside left1 given1 w1 f1)
+    unfolding lines_of
+    breaks-off h = ends-in-part (unended (last_part [] taken)) refl h
+
+    answers-all : (errors : Bool) → length taken < 2 ^ 32 → AtEnd left1
+        → AllAnswered Stands setting.told first now (seen w0 f0) (seen w1 f1) (lines_of taken) errors
+        → AnswersAll setting (outside left0 given0 w0 f0) (outside left1 given1 w1 f1) errors
+    answers-all errors few last a = record {
       taken = taken;
       took = took;
       few = few;
-      replies = serves.replies;
-      answers = record { run = record { last = s.tables; runs = serves.runs }; text = all_text };
+      at_end = last;
+      replies = a.replies;
+      answers = record { of_run = the-replies _ _ (lines_of taken) a.replies stood a.moves a.counted; text = a.text };
+      errors_shown = a.shown;
     }
 
-    pub limit-comes : length taken ≡ 2 ^ 32 → AnswersUpToLimit old new
-    limit-comes all = record {
+    pub closes : (s : Status) → length taken < 2 ^ 32 → AtEnd left1
+        → Closes Stands setting.told first now (seen w0 f0) (seen w1 f1) (lines_of taken) s
+        → Ends setting (outside left0 given0 w0 f0) (outside left1 given1 w1 f1) s
+    closes status.Clean few last a = answers-all _ few last a
+    closes status.Errors few last a = answers-all _ few last a
+    closes status.Usage few last never = absurd never
+    closes status.SourceFault few last never = absurd never
+    closes status.SinkFault few last h = record {
       taken = taken;
       took = took;
-      all = all;
-      replies = serves.replies;
-      answers = record { run = record { last = s.tables; runs = serves.runs }; text = all_text };
+      lines = h.front;
+      later = h.later;
+      first = h.parts;
+      replies = h.replies;
+      of_run = the-replies _ _ h.front h.replies stood h.moves h.tells.counted;
+      front = h.tells.breaks.front;
+      rest = h.tells.breaks.rest;
+      parts = h.tells.breaks.parts;
+      text = h.tells.breaks.written;
     }
+    closes status.NoMemory few last never = absurd never
+    closes status.TooLong few last never = absurd never
+
+    module _ (s : Session) (serves : Serves Stands setting.told first now (seen w0 f0) (seen w1 f1) s taken) (empty : s.output.bytes.items ≡ []) where
+      all_text : w1 ≡ then w0 (text_of serves.replies)
+      all_text =
+          serves.passes.written
+          ∙ ap (then w0) (sym (serves.passes.parts ∙ ap (λ l. serves.passes.passed ++ l) empty ∙ append-nil serves.passes.passed))
+
+      pub source-breaks : length taken < 2 ^ 32 → AnswersWholeLines setting (outside left0 given0 w0 f0) (outside left1 given1 w1 f1)
+      source-breaks few = record {
+        taken = taken;
+        took = took;
+        few = few;
+        replies = serves.replies;
+        answers = record { of_run = the-replies _ _ (whole_lines taken) serves.replies stood serves.moves serves.counted; text = all_text };
+      }
+
+      pub limit-comes : length taken ≡ 2 ^ 32 → AnswersUpToLimit setting (outside left0 given0 w0 f0) (outside left1 given1 w1 f1)
+      limit-comes all = record {
+        taken = taken;
+        took = took;
+        all = all;
+        replies = serves.replies;
+        answers = record { of_run = the-replies _ _ (whole_lines taken) serves.replies stood serves.moves serves.counted; text = all_text };
+      }
+
+-- how a session that was closed took its bytes
+pub closes-so_many : {E : Type 0} (Stands : E → State → Type 0) (told : Bool) (first now : E) (old new : Seen) (lines : List Line) (n : ℕ) (s : Status)
+    → n < 2 ^ 32 → Closes Stands told first now old new lines s → TakesSoMany s n
+closes-so_many Stands told first now old new lines n status.Clean few a = few
+closes-so_many Stands told first now old new lines n status.Errors few a = few
+closes-so_many Stands told first now old new lines n status.Usage few never = never
+closes-so_many Stands told first now old new lines n status.SourceFault few never = absurd never
+closes-so_many Stands told first now old new lines n status.SinkFault few h = omega arith
+closes-so_many Stands told first now old new lines n status.NoMemory few never = never
+closes-so_many Stands told first now old new lines n status.TooLong few never = absurd never

@@ -2,13 +2,10 @@ pub mod Scanning
 pub mod Commas
 pub mod Values
 pub mod Commands
-pub mod Writing
-pub mod Places
-pub mod Says
-pub mod States
-pub mod Turning
 pub mod LineLemmas
+pub mod Writing
 pub mod Telling
+pub mod Moving
 pub mod Running
 pub mod Scripts
 pub mod ServeLemmas

@@ -1,101 +1,74 @@
--- turns that were given, and turns that go on to the end
-use Rattle.std.proofs.Common.{◌≡◌, ℕ, List, [], ◌∷◌, ◌++◌, Option, None, Some, Result, Ok, Err, OnErr, true, false, refl, sym, ap, ◌∙◌, subst, append-nil}
-use Rattle.std.specs.Option.{is_some}
-use Rattle.std.proofs.lemmas.List.Sorted.{IsPermutation-refl}
-use Rattle.hg_model.specs.declared.values.Value.{Value}
+-- turns that were given, and a line from its beginning and its turns
+use Rattle.std.proofs.Common.{◌≡◌, List, [], ◌∷◌, ◌++◌, None, refl, sym, ap, ◌∙◌, subst, append-nil}
+use Rattle.std.specs.List.{flat_map}
+use Rattle.std.proofs.lemmas.Grind.{flat_map-append}
 use Rattle.hg_machine.specs.State.{State}
-use Rattle.hg_machine.specs.Reply.{Reply, row, at_end, text_of}
+use Rattle.hg_machine.specs.Reply.{Reply}
 use Rattle.hg_machine.specs.Script.{Line}
-use Rattle.hg_machine.specs.Run.{Turn, Turns, gives_row, ends, LineBegins, asks, is_blank_line, has_no_reading, RunsLine}
+use Rattle.hg_machine.specs.Run.{Turn, GivesTurns, Turns, LineBegins, asks, is_blank_line, too_long, has_no_reading, RunsLine}
 use Rattle.hg_serve.specs.declared.lines.Asked.{Asked}
 use Rattle.hg_serve.specs.declared.lines.Asked.TheVariants as asked
 use Rattle.hg_serve.specs.Lines.{AsksFor}
 use Rattle.hg_serve.specs.Session.{BeginsAsked}
-use Rattle.hg_serve.specs.declared.output.Output.{Output}
-use Rattle.hg_serve.specs.Output.{Tells, Breaks}
-use Rattle.hg_serve.proofs.Telling.{text_of-append, breaks-then, breaks-more}
+
+-- the lines of several turns
+abbrev pub all_of : List (List Reply) → List Reply
+all_of turns = flat_map (λ turn. turn) turns
 
 -- turns, which may go on
-abbrev pub SomeTurns : State → List Reply → State → Type 0
-SomeTurns old [] new = new ≡ old
-SomeTurns old (reply ∷ replies) new = (between : State) × Turn old reply between × SomeTurns between replies new
+abbrev pub GivesSome : State → List (List Reply) → State → Type 0
+GivesSome old [] new = new ≡ old
+GivesSome old (turn ∷ turns) new = (between : State) × Turn old turn between × GivesSome between turns new
 
-pub some-push : (old mid new : State) (replies : List Reply) (reply : Reply) → SomeTurns old replies mid → Turn mid reply new
-    → SomeTurns old (replies ++ reply ∷ []) new
-some-push old mid new [] reply is turn = (new, subst (λ s. Turn s reply new) is turn, refl)
-some-push old mid new (r ∷ rs) reply (between, first, others) turn = (between, first, some-push between mid new rs reply others turn)
+pub record SomeTurns (old : State) (replies : List Reply) (new : State) : Type 0 where
+  pub turns : List (List Reply)
+  pub given : GivesSome old turns new
+  pub joined : replies ≡ all_of turns
+
+gives-push : (old mid new : State) (turns : List (List Reply)) (turn : List Reply) → GivesSome old turns mid → Turn mid turn new
+    → GivesSome old (turns ++ turn ∷ []) new
+gives-push old mid new [] turn is given = (new, subst (λ s. Turn s turn new) is given, refl)
+gives-push old mid new (t ∷ ts) turn (between, first, others) given = (between, first, gives-push between mid new ts turn others given)
+
+gives-then : (old mid new : State) (turns later : List (List Reply)) → GivesSome old turns mid → GivesTurns mid later new
+    → GivesTurns old (turns ++ later) new
+unfolding GivesTurns
+gives-then old mid new [] later is given = subst (λ s. GivesTurns s later new) is given
+gives-then old mid new (t ∷ ts) later (between, first, others) given = (between, first, gives-then between mid new ts later others given)
+
+gives-ends : (old now : State) (turns : List (List Reply)) → GivesSome old turns now → now.left ≡ None → GivesTurns old turns now
+unfolding GivesTurns
+gives-ends old now [] is idle = (subst (λ s. s.left ≡ None) is idle, is)
+gives-ends old now (t ∷ ts) (between, first, others) idle = (between, first, gives-ends between now ts others idle)
+
+pub some-none : (s : State) → SomeTurns s [] s
+some-none s = record { turns = []; given = refl; joined = refl }
+
+pub some-push : (old mid new : State) (rs turn : List Reply) → SomeTurns old rs mid → Turn mid turn new → SomeTurns old (rs ++ turn) new
+some-push old mid new rs turn p given = record {
+  turns = p.turns ++ turn ∷ [];
+  given = gives-push old mid new p.turns turn p.given given;
+  joined =
+      ap (λ l. l ++ turn) p.joined ∙ ap (λ l. all_of p.turns ++ l) (sym (append-nil turn))
+      ∙ sym (flat_map-append (λ (t : List Reply). t) p.turns (turn ∷ []));
+}
 
 pub some-then : (old mid new : State) (rs ss : List Reply) → SomeTurns old rs mid → Turns mid ss new → Turns old (rs ++ ss) new
-unfolding Turns
-some-then old mid new [] ss is turns = subst (λ s. Turns s ss new) is turns
-some-then old mid new (r ∷ rs) ss (between, first, others) turns = (between, first, some-then between mid new rs ss others turns)
+some-then old mid new rs ss p q = record {
+  turns = p.turns ++ q.turns;
+  given = gives-then old mid new p.turns q.turns p.given q.given;
+  joined =
+      ap (λ l. l ++ ss) p.joined ∙ ap (λ l. all_of p.turns ++ l) q.joined ∙ sym (flat_map-append (λ (t : List Reply). t) p.turns q.turns);
+}
 
-pub no-turns : (old : State) → old.left ≡ None → Turns old [] old
-unfolding Turns
-no-turns old idle = (idle, refl)
+pub some-ends : (old now : State) (rs : List Reply) → SomeTurns old rs now → now.left ≡ None → Turns old rs now
+some-ends old now rs p idle = record { turns = p.turns; given = gives-ends old now p.turns p.given idle; joined = p.joined }
 
--- the turns that are left can be given to the end
-pub record GoOn (old : State) : Type 0 where
-  pub replies : List Reply
-  pub last : State
-  pub turns : Turns old replies last
-
-give_all : (old : State) (rows : List (List Value)) → old.left ≡ Some rows → GoOn old
-unfolding Turns
-give_all old [] is =
-    let last : State = record old { left = None } in
-    record { replies = at_end ∷ []; last = last; turns = (last, ends is refl refl, (refl, refl)) }
-give_all old (values ∷ others) is =
-    let next : State = record old { left = Some others } in
-    let rest = give_all next others refl in
-    record {
-      replies = row values ∷ rest.replies;
-      last = rest.last;
-      turns = (next, gives_row (values ∷ others) others values is (IsPermutation-refl (values ∷ others)) refl refl, rest.turns);
-    }
-
-by_left : (old : State) (left : Option (List (List Value))) → old.left ≡ left → GoOn old
-by_left old None is = record { replies = []; last = old; turns = no-turns old is }
-by_left old (Some rows) is = give_all old rows is
-
-pub go_on : (old : State) → GoOn old
-go_on old = by_left old old.left refl
-
--- whatever an error says
-pub on_err : {T E : Type 0} {P : Type 0} (r : Result T E) → P → OnErr r P
-on_err (Ok x) p = tt
-on_err (Err e) p = p
-
--- the sink failed before the turns that are left
-pub breaks-within : (w0 w1 w2 : Option (List ℕ)) (first now : State) (before after : Output) (given : List Reply)
-    → SomeTurns first given now → Tells w0 w1 before after given → Breaks w1 w2 after.bytes.items []
-    → (replies : List Reply) × (last : State) × Turns first replies last × Breaks w0 w2 before.bytes.items (text_of replies)
-breaks-within w0 w1 w2 first now before after given so_far told broke =
-    let rest = go_on now in
-    let text : text_of (given ++ rest.replies) ≡ text_of given ++ [] ++ text_of rest.replies =
-    text_of-append given rest.replies ∙ ap (λ l. l ++ text_of rest.replies) (sym (append-nil (text_of given)))
-    in (
-      given ++ rest.replies,
-      rest.last,
-      some-then first now rest.last given rest.replies so_far rest.turns,
-      rw text
-          (breaks-more w0 w2 before.bytes.items (text_of given ++ []) (text_of rest.replies)
-          (breaks-then w0 w1 w2 before.bytes.items after.bytes.items (text_of given) [] told.passes broke)),
-    )
-
-pub none-left : {A : Type 0} (o : Option A) → false ≡ is_some o → o ≡ None
-none-left None is = refl
-none-left (Some x) is = absurd (let h : false ≡ true = is in cc)
-
-pub some-ends : (old now : State) (replies : List Reply) → SomeTurns old replies now → now.left ≡ None → Turns old replies now
-unfolding Turns
-some-ends old now [] is idle = (subst (λ s. s.left ≡ None) is idle, is)
-some-ends old now (r ∷ rs) (between, first, others) idle = (between, first, some-ends between now rs others idle)
-
-pub line-begins : (old new : State) (line : Line) (a : Asked) (replies : List Reply) → AsksFor line a → BeginsAsked old a replies new
+pub line-begins : (old new : State) (line : Line) (a : Asked) (replies : List Reply) → AsksFor line a → BeginsAsked a old replies new
     → LineBegins old line replies new
 line-begins old new line asked.Nothing replies blank (none, same) = is_blank_line blank none same
-line-begins old new line asked.SyntaxError replies (not_blank, none) (one, same) = has_no_reading not_blank none one same
+line-begins old new line asked.SyntaxError replies none (one, same) = has_no_reading none.short none.not_blank none.none one same
+line-begins old new line asked.TooLong replies long (one, same) = too_long long one same
 line-begins old new line (asked.Statement s) replies reading begins = asks s reading begins
 
 pub runs-line : (old between new : State) (line : Line) (first others : List Reply) → LineBegins old line first between

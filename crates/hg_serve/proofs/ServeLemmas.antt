@@ -1,19 +1,19 @@
 -- how a session goes on by a byte
-use Rattle.std.proofs.Common.{◌≡◌, ◌≢◌, ℕ, ◌<◌, ◌≤◌, ◌+◌, true, false, List, [], ◌∷◌, ◌++◌, ◌==◌, ◌||◌, length, take, Option, sym, ap, ◌∙◌, subst, arith, append_assoc, append-nil, length-take, length-append, get_or, drop, drop-cons, add-one}
+use Rattle.std.proofs.Common.{◌≡◌, ◌≢◌, ℕ, ◌<◌, ◌≤◌, ◌+◌, Bool, true, false, List, [], ◌∷◌, ◌++◌, ◌==◌, ◌||◌, length, take, Option, refl, sym, ap, ◌∙◌, subst, arith, append_assoc, append-nil, length-take, length-append, get_or, drop, drop-cons, add-one}
 use Rattle.std.proofs.lemmas.Bool.Decides.{nat_tests}
-use Rattle.std.proofs.lemmas.List.{take_all, take-append-le, take-append-drop}
-use Rattle.hg_machine.specs.Script.{ended_lines, last_part, whole_lines}
-use Rattle.hg_machine.specs.State.{first_state}
+use Rattle.std.proofs.lemmas.List.{take_all, take_more, take-append-le, take-append-drop}
+use Rattle.hg_machine.specs.Script.{Line, ended_lines, last_part, whole_lines}
+use Rattle.hg_machine.specs.State.{State}
 use Rattle.hg_machine.specs.Reply.{text_of, has_error}
-use Rattle.hg_serve.specs.declared.output.Output.{Output}
+use Rattle.hg_reply.specs.Steps.{DeviceFaults}
 use Rattle.hg_serve.specs.declared.session.Session.{Session}
-use Rattle.hg_serve.specs.declared.session.Stop.{Stop}
-use Rattle.hg_serve.specs.declared.session.Stop.TheVariants as stop
-use Rattle.hg_serve.specs.Output.{Passes}
-use Rattle.hg_serve.specs.Session.{AnswersLine, StopsIn}
-use Rattle.hg_serve.specs.Serving.{Serves, FirstOf, Halts}
-use Rattle.hg_serve.proofs.Telling.{passes-then, breaks-then, text_of-append, has_error-append, text_of-nil, has_error-nil, passes-none}
-use Rattle.hg_serve.proofs.Scripts.{whole_lines-append, whole_lines-feed, whole_lines-other, last_part-feed, last_part-other, runs-push, whole_lines-nil, last_part-nil, runs-none}
+use Rattle.hg_serve.specs.declared.statuses.Status.{Status}
+use Rattle.hg_serve.specs.Output.{Seen, seen, Passes}
+use Rattle.hg_serve.specs.Session.{AnswersLine, BreaksInLine}
+use Rattle.hg_serve.specs.Serving.{Serves, Halts, Closes}
+use Rattle.hg_serve.proofs.Telling.{passes-then, breaks-then, text_of-append, has_error-append, text_of-nil, has_error-nil, passes-none, counted-none, counted-then}
+use Rattle.hg_serve.proofs.Moving.{moves-lines, moves-no_line}
+use Rattle.hg_serve.proofs.Scripts.{whole_lines-append, whole_lines-feed, whole_lines-other, last_part-feed, last_part-other, whole_lines-nil, last_part-nil}
 
 keeps-more : (kept part : List ℕ) (b : ℕ) → kept ≡ take 4097 part → length kept < 4097 → kept ++ b ∷ [] ≡ take 4097 (part ++ b ∷ [])
 keeps-more kept part b is room =
@@ -26,89 +26,94 @@ keeps-same kept part b is full =
     let long : 4097 ≤ length part = omega (arith, ap length is, length-take 4097 part) in
     is ∙ sym (take-append-le 4097 part (b ∷ []) long)
 
-module _ (first now : Option (List ℕ)) (s t : Session) (taken : List ℕ) (b : ℕ) (serves : Serves first now s taken)
-    (other : b ≢ 10) (tables : t.tables ≡ s.tables) (output : t.output ≡ s.output) where
-  no_feed : (b == 10) ≡ false
-  no_feed = grind (arith, nat_tests)
+module _ {E : Type 0} (Stands : E → State → Type 0) (told : Bool) where
+  module _ (first now : E) (old new : Seen) (s t : Session) (taken : List ℕ) (b : ℕ) (serves : Serves Stands told first now old new s taken)
+      (other : b ≢ 10) (output : t.output ≡ s.output) where
+    no_feed : (b == 10) ≡ false
+    no_feed = grind (arith, nat_tests)
 
-  goes_on : t.line.items ≡ take 4097 (last_part [] taken ++ b ∷ []) → Serves first now t (taken ++ b ∷ [])
-  goes_on kept = record {
-    replies = serves.replies;
-    runs = rw (whole_lines-other taken b no_feed, tables) serves.runs;
-    passes = rw output serves.passes;
-    errors = rw output serves.errors;
-    part = rw (last_part-other taken b no_feed) kept;
+    goes_on : t.line.items ≡ take 4097 (last_part [] taken ++ b ∷ []) → Serves Stands told first now old new t (taken ++ b ∷ [])
+    goes_on kept = record {
+      replies = serves.replies;
+      moves = rw (whole_lines-other taken b no_feed) serves.moves;
+      passes = rw output serves.passes;
+      errors = rw output serves.errors;
+      counted = serves.counted;
+      part = rw (last_part-other taken b no_feed) kept;
+    }
+
+    pub serves-kept : t.line.items ≡ s.line.items ++ b ∷ [] → length s.line.items < 4097 → Serves Stands told first now old new t (taken ++ b ∷ [])
+    serves-kept kept room = goes_on (kept ∙ keeps-more s.line.items (last_part [] taken) b serves.part room)
+
+    pub serves-full : t.line.items ≡ s.line.items → 4097 ≤ length s.line.items → Serves Stands told first now old new t (taken ++ b ∷ [])
+    serves-full kept full = goes_on (kept ∙ keeps-same s.line.items (last_part [] taken) b serves.part full)
+
+  module _ (first now after : E) (old new later : Seen) (s t : Session) (taken : List ℕ) (b : ℕ)
+      (serves : Serves Stands told first now old new s taken) (feed : b ≡ 10) where
+    pub serves-line : AnswersLine Stands told now after new later s.output t.output (record { bytes = last_part [] taken; ended = true })
+        → t.line.items ≡ [] → Serves Stands told first after old later t (taken ++ b ∷ [])
+    serves-line a empty = record {
+      replies = serves.replies ++ a.replies;
+      moves = rw (whole_lines-feed taken b feed) (moves-lines Stands told told first now after (whole_lines taken) (record { bytes = last_part [] taken; ended = true }) serves.replies a.replies refl serves.moves a.moves);
+      passes = rw (text_of-append serves.replies a.replies) (passes-then _ _ _ _ _ _ _ _ serves.passes a.tells.passes);
+      errors = a.tells.errors ∙ ap (λ e. e || has_error a.replies) serves.errors ∙ sym (has_error-append serves.replies a.replies);
+      counted = counted-then _ _ _ serves.replies a.replies serves.counted a.tells.counted;
+      part = empty ∙ rw (last_part-feed taken b feed);
+    }
+
+    pub halts-line : BreaksInLine Stands told now after new later s.output.bytes.items (record { bytes = last_part [] taken; ended = true })
+        → Halts Stands told first after old later (whole_lines (taken ++ b ∷ []))
+    halts-line a = record {
+      front = whole_lines (taken ++ b ∷ []);
+      later = [];
+      parts = sym (append-nil (whole_lines (taken ++ b ∷ [])));
+      replies = serves.replies ++ a.replies;
+      moves = rw (whole_lines-feed taken b feed) (moves-lines Stands told told first now after (whole_lines taken) (record { bytes = last_part [] taken; ended = true }) serves.replies a.replies refl serves.moves a.moves);
+      tells = record {
+        breaks = rw (text_of-append serves.replies a.replies) (breaks-then _ _ _ _ _ _ _ serves.passes a.tells.breaks);
+        counted = counted-then _ _ _ serves.replies a.replies serves.counted a.tells.counted;
+      };
+    }
+
+  pub serves-start : (e : E) (w : Seen) (s : Session) → s.output.bytes.items ≡ [] → s.output.errors ≡ false
+      → s.line.items ≡ [] → Serves Stands told e e w w s []
+  serves-start e w s bytes errors line = record {
+    replies = [];
+    moves = rw whole_lines-nil (moves-no_line Stands told e);
+    passes = rw (text_of-nil, bytes) (passes-none w.written []);
+    errors = errors ∙ sym has_error-nil;
+    counted = counted-none w.faults;
+    part = line ∙ rw last_part-nil;
   }
 
-  pub serves-kept : t.line.items ≡ s.line.items ++ b ∷ [] → length s.line.items < 4097 → Serves first now t (taken ++ b ∷ [])
-  serves-kept kept room = goes_on (kept ∙ keeps-more s.line.items (last_part [] taken) b serves.part room)
-
-  pub serves-full : t.line.items ≡ s.line.items → 4097 ≤ length s.line.items → Serves first now t (taken ++ b ∷ [])
-  serves-full kept full = goes_on (kept ∙ keeps-same s.line.items (last_part [] taken) b serves.part full)
-
-module _ (first now then : Option (List ℕ)) (s t : Session) (taken : List ℕ) (b : ℕ) (serves : Serves first now s taken) (feed : b ≡ 10) where
-  pub serves-line : AnswersLine now then s.tables t.tables s.output t.output (record { bytes = last_part [] taken; ended = true })
-      → t.line.items ≡ [] → Serves first then t (taken ++ b ∷ [])
-  serves-line a empty = record {
-    replies = serves.replies ++ a.replies;
-    runs = rw (whole_lines-feed taken b feed) (runs-push _ _ _ _ _ _ _ serves.runs a.runs);
-    passes = rw (text_of-append serves.replies a.replies) (passes-then _ _ _ _ _ _ _ _ serves.passes a.tells.passes);
-    errors = a.tells.errors ∙ ap (λ e. e || has_error a.replies) serves.errors ∙ sym (has_error-append serves.replies a.replies);
-    part = empty ∙ rw (last_part-feed taken b feed);
+  pub serves-flushed : (first now : E) (old : Seen) (w1 w2 : Option (List ℕ)) (f : DeviceFaults) (s t : Session) (taken : List ℕ)
+      → Serves Stands told first now old (seen w1 f) s taken
+      → t.line ≡ s.line → Passes w1 w2 s.output.bytes.items [] [] → t.output.bytes.items ≡ []
+      → t.output.errors ≡ s.output.errors → Serves Stands told first now old (seen w2 f) t taken
+  serves-flushed first now old w1 w2 f s t taken serves line passes empty errors = record {
+    replies = serves.replies;
+    moves = serves.moves;
+    passes =
+        rw empty
+        (subst (λ l. Passes old.written w2 [] [] l) (append-nil (text_of serves.replies))
+        (passes-then old.written w1 w2 [] s.output.bytes.items [] (text_of serves.replies) [] serves.passes passes));
+    errors = errors ∙ serves.errors;
+    counted = serves.counted;
+    part = rw line serves.part;
   }
 
-pub halts-line : (first now after : Option (List ℕ)) (s : Session) (output : Output) (taken : List ℕ) (b : ℕ) → Serves first now s taken → b ≡ 10
-    → (k : Stop) → StopsIn now after s.tables s.output output (record { bytes = last_part [] taken; ended = true }) k
-    → Halts first after output.bytes.items (whole_lines (taken ++ b ∷ [])) k
-halts-line first now after s output taken b serves feed stop.NoMemory told = (
-  record {
-    front = whole_lines taken;
-    later = ended_lines (last_part [] taken) (b ∷ []);
-    first = whole_lines-append taken (b ∷ []);
-    replies = serves.replies;
-    run = record { last = s.tables; runs = serves.runs };
-  },
-  subst (λ l. Passes first after [] output.bytes.items l)
-      (ap (λ l. text_of serves.replies ++ l) text_of-nil ∙ append-nil (text_of serves.replies))
-      (passes-then _ _ _ _ _ _ _ _ serves.passes told.passes),
-)
-halts-line first now after s output taken b serves feed stop.SinkFault (replies, last, run, broke) = (
-  record {
-    front = whole_lines (taken ++ b ∷ []);
-    later = [];
-    first = sym (append-nil (whole_lines (taken ++ b ∷ [])));
-    replies = serves.replies ++ replies;
-    run = record { last = last; runs = rw (whole_lines-feed taken b feed) (runs-push _ _ _ _ _ _ _ serves.runs run) };
-  },
-  rw (text_of-append serves.replies replies) (breaks-then _ _ _ _ _ _ _ serves.passes broke),
-)
-
-pub serves-start : (w : Option (List ℕ)) (s : Session) → s.tables ≡ first_state → s.output.bytes.items ≡ [] → s.output.errors ≡ false
-    → s.line.items ≡ [] → Serves w w s []
-serves-start w s tables bytes errors line = record {
-  replies = [];
-  runs = rw (whole_lines-nil, tables) (runs-none first_state);
-  passes = rw (text_of-nil, bytes) (passes-none w []);
-  errors = errors ∙ sym has_error-nil;
-  part = line ∙ rw last_part-nil;
-}
-
-first-later : (taken more : List ℕ) → FirstOf (whole_lines taken) → FirstOf (whole_lines (taken ++ more))
-first-later taken more lines = record {
-  front = lines.front;
-  later = lines.later ++ ended_lines (last_part [] taken) more;
-  first =
-      whole_lines-append taken more ∙ ap (λ l. l ++ ended_lines (last_part [] taken) more) lines.first
-      ∙ append_assoc lines.front lines.later (ended_lines (last_part [] taken) more);
-  replies = lines.replies;
-  run = lines.run;
-}
-
-pub halts-later : (first now : Option (List ℕ)) (waiting taken more : List ℕ) (k : Stop) → Halts first now waiting (whole_lines taken) k
-    → Halts first now waiting (whole_lines (taken ++ more)) k
-unfolding first-later
-halts-later first now waiting taken more stop.NoMemory (lines, passes) = (first-later taken more lines, passes)
-halts-later first now waiting taken more stop.SinkFault (lines, broke) = (first-later taken more lines, broke)
+  pub halts-later : (first now : E) (old new : Seen) (taken more : List ℕ) → Halts Stands told first now old new (whole_lines taken)
+      → Halts Stands told first now old new (whole_lines (taken ++ more))
+  halts-later first now old new taken more h = record {
+    front = h.front;
+    later = h.later ++ ended_lines (last_part [] taken) more;
+    parts =
+        whole_lines-append taken more ∙ ap (λ l. l ++ ended_lines (last_part [] taken) more) h.parts
+        ∙ append_assoc h.front h.later (ended_lines (last_part [] taken) more);
+    replies = h.replies;
+    moves = h.moves;
+    tells = h.tells;
+  }
 
 pub parts-at : (taken bytes : List ℕ) (i : ℕ) → i < length bytes
     → ((taken ++ take i bytes) ++ get_or bytes i 0 ∷ []) ++ drop (i + 1) bytes ≡ taken ++ bytes
@@ -117,3 +122,23 @@ parts-at taken bytes i inside =
     append_assoc (taken ++ take i bytes) (get_or bytes i 0 ∷ []) (drop (i + 1) bytes)
     ∙ append_assoc taken (take i bytes) (get_or bytes i 0 ∷ drop (i + 1) bytes)
     ∙ ap (λ l. taken ++ (take i bytes ++ l)) (sym tail) ∙ ap (λ l. taken ++ l) (take-append-drop i bytes)
+
+pub parts-more : (taken bytes : List ℕ) (i : ℕ) → i < length bytes
+    → (taken ++ take i bytes) ++ get_or bytes i 0 ∷ [] ≡ taken ++ take (i + 1) bytes
+parts-more taken bytes i inside =
+    append_assoc taken (take i bytes) (get_or bytes i 0 ∷ []) ∙ ap (λ l. taken ++ l) (sym (take_more bytes i 0 inside))
+
+module _ {E : Type 0} (Stands : E → State → Type 0) (t u : Bool) (same : t ≡ u) (first now : E) (old new : Seen) where
+  pub serves-as : (s : Session) (taken taken' : List ℕ) → taken ≡ taken' → Serves Stands t first now old new s taken
+      → Serves Stands u first now old new s taken'
+  serves-as s taken taken' is serves =
+      subst (λ v. Serves Stands v first now old new s taken') same (subst (λ l. Serves Stands t first now old new s l) is serves)
+
+  pub halts-as : (taken taken' : List ℕ) → taken ≡ taken' → Halts Stands t first now old new (whole_lines taken)
+      → Halts Stands u first now old new (whole_lines taken')
+  halts-as taken taken' is halts =
+      subst (λ v. Halts Stands v first now old new (whole_lines taken')) same
+      (subst (λ l. Halts Stands t first now old new (whole_lines l)) is halts)
+
+  pub closes-as : (lines : List Line) (s : Status) → Closes Stands t first now old new lines s → Closes Stands u first now old new lines s
+  closes-as lines s closed = subst (λ v. Closes Stands v first now old new lines s) same closed

@@ -1,11 +1,18 @@
--- how what goes to the sink adds up
-use Rattle.std.proofs.Common.{◌≡◌, ℕ, List, [], ◌∷◌, ◌++◌, ◌||◌, Bool, true, false, Option, None, Some, refl, sym, ap, ◌∙◌, append_assoc, append-nil}
+-- how what goes to the sink, the error lines and the fault lines add up
+use Rattle.std.proofs.Common.{◌≡◌, ℕ, ◌+◌, List, [], ◌∷◌, ◌++◌, ◌||◌, Bool, true, false, Option, None, Some, Result, Ok, Err, OnErr, refl, sym, ap, ◌∙◌, subst, arith, append_assoc, append-nil}
 use Rattle.std.proofs.lemmas.Grind.{flat_map-append}
+use Rattle.hg_base.specs.declared.File.{File}
+use Rattle.hg_base.specs.declared.File.TheVariants.{Main, Temp}
 use Rattle.hg_io.specs.Bytes.{then, then-then}
-use Rattle.hg_machine.specs.Reply.{Reply, reply_text, is_error, text_of, has_error}
+use Rattle.hg_machine.specs.Reply.{Reply, reply_text, is_error, is_fault_of, text_of, has_error, fault_lines}
+use Rattle.hg_reply.specs.declared.reply.Reply.{Reply as Said}
+use Rattle.hg_reply.specs.Steps.{DeviceFaults, Says}
 use Rattle.hg_serve.specs.declared.output.Output.{Output}
-use Rattle.hg_serve.specs.Output.{Says, Passes, Breaks, Tells, WritesFront}
-use Rattle.hg_serve.proofs.Says.{or-false}
+use Rattle.hg_serve.specs.Output.{Passes, Breaks, WritesFront, Seen, seen, Counted, NoneFell, Tells, TellsInPart}
+
+pub or-false : (b : Bool) → (b || false) ≡ b
+or-false true = refl
+or-false false = refl
 
 pub then-nil : (w : Option (List ℕ)) → then w [] ≡ w
 then-nil None = refl
@@ -24,13 +31,41 @@ unfolding has_error
 has_error-append [] ss = refl
 has_error-append (r ∷ rs) ss = ap (λ b. is_error r || b) (has_error-append rs ss) ∙ sym (or-assoc (is_error r) (has_error rs) (has_error ss))
 
+pub fault_lines-append : (file : File) (rs ss : List Reply) → fault_lines file (rs ++ ss) ≡ fault_lines file rs + fault_lines file ss
+unfolding fault_lines
+fault_lines-append file [] ss = omega arith
+fault_lines-append file (r ∷ rs) ss = omega (arith, fault_lines-append file rs ss)
+
 pub text_of-nil : text_of [] ≡ []
 unfolding text_of
 text_of-nil = refl
 
+pub text_of-one : (r : Reply) → reply_text r ≡ text_of (r ∷ [])
+unfolding text_of
+text_of-one r = sym (append-nil (reply_text r))
+
 pub has_error-nil : has_error [] ≡ false
 unfolding has_error
 has_error-nil = refl
+
+pub has_error-one : (r : Reply) → is_error r ≡ has_error (r ∷ [])
+unfolding has_error
+has_error-one r = sym (or-false (is_error r))
+
+pub fault_lines-nil : (file : File) → fault_lines file [] ≡ 0
+unfolding fault_lines
+fault_lines-nil file = refl
+
+pub fault_lines-one : (file : File) (r : Reply) → is_fault_of file r ≡ false → fault_lines file (r ∷ []) ≡ 0
+unfolding fault_lines
+fault_lines-one file r none = rw none
+
+-- whatever an error says
+pub on_err : {T E : Type 0} {P : Type 0} (r : Result T E) → P → OnErr r P
+on_err (Ok x) p = tt
+on_err (Err e) p = p
+
+-- the bytes
 
 pub passes-none : (w : Option (List ℕ)) (waiting : List ℕ) → Passes w w waiting waiting []
 passes-none w waiting = record { passed = []; parts = append-nil waiting; written = sym (then-nil w) }
@@ -69,28 +104,104 @@ breaks-more w0 w1 b t u p = record {
   written = p.written;
 }
 
-pub tells-says : (w : Option (List ℕ)) (old new : Output) (replies : List Reply) → Says old new replies → Tells w w old new replies
-tells-says w old new replies s = record {
-  passes = record { passed = []; parts = sym s.bytes; written = sym (then-nil w) };
-  errors = s.errors;
+-- what waited was written whole
+pub passes-flushed : (w0 w1 : Option (List ℕ)) (b0 b1 : List ℕ) → Passes w0 w1 b0 [] [] → b1 ≡ [] → Passes w0 w1 b0 b1 []
+passes-flushed w0 w1 b0 b1 p empty = record { passed = p.passed; parts = p.parts ∙ ap (λ l. p.passed ++ l) (sym empty); written = p.written }
+
+-- text was put behind what waited
+pub passes-put : (w0 w1 : Option (List ℕ)) (b0 b1 b2 t : List ℕ) → Passes w0 w1 b0 b1 [] → b2 ≡ b1 ++ t → Passes w0 w1 b0 b2 t
+passes-put w0 w1 b0 b1 b2 t p is = record {
+  passed = p.passed;
+  parts =
+      ap (λ l. l ++ t) (sym (append-nil b0) ∙ p.parts) ∙ append_assoc p.passed b1 t ∙ ap (λ l. p.passed ++ l) (sym is);
+  written = p.written;
 }
 
-pub tells-none : (w : Option (List ℕ)) (output : Output) → Tells w w output output []
-unfolding text_of has_error
-tells-none w output = record { passes = passes-none w output.bytes.items; errors = sym (or-false output.errors) }
+-- the counts of faults
 
-pub tells-then : (w0 w1 w2 : Option (List ℕ)) (a b c : Output) (rs ss : List Reply) → Tells w0 w1 a b rs → Tells w1 w2 b c ss
-    → Tells w0 w2 a c (rs ++ ss)
-tells-then w0 w1 w2 a b c rs ss p q = record {
-  passes = rw (text_of-append rs ss) (passes-then w0 w1 w2 a.bytes.items b.bytes.items c.bytes.items (text_of rs) (text_of ss) p.passes q.passes);
+pub counted-none : (f : DeviceFaults) → Counted f f []
+counted-none f = record {
+  main = omega (arith, fault_lines-nil Main);
+  temp = omega (arith, fault_lines-nil Temp);
+}
+
+pub counted-then : (f g h : DeviceFaults) (rs ss : List Reply) → Counted f g rs → Counted g h ss → Counted f h (rs ++ ss)
+counted-then f g h rs ss p q = record {
+  main = omega (arith, fault_lines-append Main rs ss, p.main, q.main);
+  temp = omega (arith, fault_lines-append Temp rs ss, p.temp, q.temp);
+}
+
+pub counted-says : (r : Said) (f g : DeviceFaults) (rs : List Reply) → Says r f g rs → Counted f g rs
+counted-says r f g rs s = record { main = s.main_faults; temp = s.temp_faults }
+
+pub fell-none : (f : DeviceFaults) → NoneFell f f
+fell-none f = record { main = omega arith; temp = omega arith }
+
+pub fell-then : (f g h : DeviceFaults) → NoneFell f g → NoneFell g h → NoneFell f h
+fell-then f g h p q = record { main = omega (arith, p.main, q.main); temp = omega (arith, p.temp, q.temp) }
+
+-- a reply of one line that says of no fault, or of none
+pub says-one : (s : Said) (f : DeviceFaults) (r : Reply) → s.text.items ≡ reply_text r → s.has_error ≡ is_error r
+    → is_fault_of Main r ≡ false → is_fault_of Temp r ≡ false → Says s f f (r ∷ [])
+says-one s f r text errors main temp = record {
+  text = text ∙ text_of-one r;
+  errors = errors ∙ has_error-one r;
+  main_faults = omega (arith, fault_lines-one Main r main);
+  temp_faults = omega (arith, fault_lines-one Temp r temp);
+}
+
+pub says-none : (s : Said) (f : DeviceFaults) → s.text.items ≡ [] → s.has_error ≡ false → Says s f f []
+says-none s f text errors = record {
+  text = text ∙ sym text_of-nil;
+  errors = errors ∙ sym has_error-nil;
+  main_faults = omega (arith, fault_lines-nil Main);
+  temp_faults = omega (arith, fault_lines-nil Temp);
+}
+
+-- lines that were told
+
+pub tells-none : (s : Seen) (output : Output) → Tells s s output output []
+unfolding text_of has_error
+tells-none s output =
+    record { passes = passes-none s.written output.bytes.items; errors = sym (or-false output.errors); counted = counted-none s.faults }
+
+pub tells-then : (s0 s1 s2 : Seen) (a b c : Output) (rs ss : List Reply) → Tells s0 s1 a b rs → Tells s1 s2 b c ss
+    → Tells s0 s2 a c (rs ++ ss)
+tells-then s0 s1 s2 a b c rs ss p q = record {
+  passes = rw (text_of-append rs ss) (passes-then _ _ _ a.bytes.items b.bytes.items c.bytes.items (text_of rs) (text_of ss) p.passes q.passes);
   errors = q.errors ∙ ap (λ e. e || has_error ss) p.errors ∙ or-assoc a.errors (has_error rs) (has_error ss)
       ∙ ap (λ e. a.errors || e) (sym (has_error-append rs ss));
+  counted = counted-then s0.faults s1.faults s2.faults rs ss p.counted q.counted;
 }
 
-pub tells-flushed : (w0 w1 : Option (List ℕ)) (old new : Output) → Passes w0 w1 old.bytes.items [] [] → new.bytes.items ≡ []
-    → new.errors ≡ old.errors → Tells w0 w1 old new []
-unfolding text_of has_error
-tells-flushed w0 w1 old new p empty errors = record {
-  passes = record { passed = p.passed; parts = p.parts ∙ ap (λ l. p.passed ++ l) (sym empty); written = p.written };
-  errors = errors ∙ sym (or-false old.errors);
+-- a step of the engine, and its reply put behind the others
+pub tells-put : (w0 w1 : Option (List ℕ)) (f0 f1 : DeviceFaults) (a b : Output) (r : Said) (rs : List Reply) → Says r f0 f1 rs
+    → Passes w0 w1 a.bytes.items b.bytes.items r.text.items → b.errors ≡ (a.errors || r.has_error)
+    → Tells (seen w0 f0) (seen w1 f1) a b rs
+tells-put w0 w1 f0 f1 a b r rs s passes errors = record {
+  passes = subst (λ t. Passes w0 w1 a.bytes.items b.bytes.items t) s.text passes;
+  errors = errors ∙ ap (λ e. a.errors || e) s.errors;
+  counted = counted-says r f0 f1 rs s;
+}
+
+pub part-put : (w0 w1 : Option (List ℕ)) (f0 f1 : DeviceFaults) (waiting : List ℕ) (r : Said) (rs : List Reply) → Says r f0 f1 rs
+    → Breaks w0 w1 waiting r.text.items → TellsInPart (seen w0 f0) (seen w1 f1) waiting rs
+part-put w0 w1 f0 f1 waiting r rs s breaks = record {
+  breaks = subst (λ t. Breaks w0 w1 waiting t) s.text breaks;
+  counted = counted-says r f0 f1 rs s;
+}
+
+-- lines that are dropped
+pub part-more : (w0 w1 : Option (List ℕ)) (f0 f1 f2 : DeviceFaults) (waiting : List ℕ) (rs ss : List Reply)
+    → TellsInPart (seen w0 f0) (seen w1 f1) waiting rs → Counted f1 f2 ss → TellsInPart (seen w0 f0) (seen w1 f2) waiting (rs ++ ss)
+part-more w0 w1 f0 f1 f2 waiting rs ss p c = record {
+  breaks = rw (text_of-append rs ss) (breaks-more w0 w1 waiting (text_of rs) (text_of ss) p.breaks);
+  counted = counted-then f0 f1 f2 rs ss p.counted c;
+}
+
+pub part-then : (s0 s1 s2 : Seen) (a b : Output) (rs ss : List Reply) → Tells s0 s1 a b rs → TellsInPart s1 s2 b.bytes.items ss
+    → TellsInPart s0 s2 a.bytes.items (rs ++ ss)
+part-then s0 s1 s2 a b rs ss p q = record {
+  breaks = rw (text_of-append rs ss) (breaks-then _ _ _ _ _ (text_of rs) (text_of ss) p.passes q.breaks);
+  counted = counted-then s0.faults s1.faults s2.faults rs ss p.counted q.counted;
 }

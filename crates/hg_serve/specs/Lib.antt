@@ -1,6 +1,5 @@
 pub mod Parse
 pub mod Output
-pub mod Tables
 pub mod Lines
 pub mod Session
 pub mod Serving

@@ -1,8 +1,8 @@
 -- What the answer of the reader of lines stands for.
-use Rattle.std.specs.Prelude.{◌≡◌, ℕ, true, List, Some}
+use Rattle.std.specs.Prelude.{◌≡◌, ◌≤◌, ℕ, true, List, Some, length}
 use Rattle.hg_machine.specs.declared.statements.Statement.{Statement}
 use Rattle.hg_machine.specs.declared.tokens.Token.{Token}
-use Rattle.hg_machine.specs.Script.{Line}
+use Rattle.hg_machine.specs.Script.{Line, IsTooLong}
 use Rattle.hg_machine.specs.Tokens.{tokens_of, is_all_blank}
 use Rattle.hg_machine.specs.Grammar.{StandsFor}
 use Rattle.hg_machine.specs.Run.{IsReading, IsBlankLine}
@@ -13,12 +13,21 @@ use Rattle.hg_serve.specs.declared.lines.Asked.TheVariants as asked
 abbrev pub TextStandsFor : List ℕ → Statement → Type 0
 TextStandsFor text s = (tokens : List Token) × (tokens_of text ≡ Some tokens) × StandsFor s tokens
 
+-- what a text that is not too long asks for
 abbrev pub TextAsksFor : List ℕ → Asked → Type 0
 TextAsksFor text asked.Nothing = is_all_blank text ≡ true
 TextAsksFor text asked.SyntaxError = (¬ (is_all_blank text ≡ true)) × ((s : Statement) → ¬ TextStandsFor text s)
+TextAsksFor text asked.TooLong = ⊥
 TextAsksFor text (asked.Statement s) = TextStandsFor text s
+
+-- a line that is not too long, is not blank and has no reading
+pub record HasNoReading (line : Line) : Type 0 where
+  pub short : length line.bytes ≤ 4096
+  pub not_blank : ¬ IsBlankLine line
+  pub none : (s : Statement) → ¬ IsReading line s
 
 abbrev pub AsksFor : Line → Asked → Type 0
 AsksFor line asked.Nothing = IsBlankLine line
-AsksFor line asked.SyntaxError = (¬ IsBlankLine line) × ((s : Statement) → ¬ IsReading line s)
+AsksFor line asked.SyntaxError = HasNoReading line
+AsksFor line asked.TooLong = IsTooLong line
 AsksFor line (asked.Statement s) = IsReading line s

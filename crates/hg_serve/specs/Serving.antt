@@ -1,66 +1,71 @@
--- Where a session stands, over the bytes of the script that it took.
-use Rattle.std.specs.Prelude.{◌≡◌, ℕ, ◌+◌, ◌≤◌, Bool, true, false, List, [], ◌++◌, Option, None, take}
-use Rattle.arrayvec.specs.ArrayVec.{array_vec_len}
+-- Where a session stands, over the bytes of the script that it took and any engine.
+use Rattle.std.specs.Prelude.{◌≡◌, ℕ, Bool, true, false, List, [], ◌++◌, take, Option}
 use Rattle.hg_io.specs.Bytes.{then}
 use Rattle.hg_machine.specs.Script.{Line, whole_lines, last_part}
-use Rattle.hg_machine.specs.State.{first_state}
+use Rattle.hg_machine.specs.State.{State}
 use Rattle.hg_machine.specs.Reply.{Reply, text_of, has_error}
-use Rattle.hg_machine.specs.Run.{RunsLines, IsRun}
+use Rattle.hg_machine.specs.Run.{RunsLines}
+use Rattle.hg_reply.specs.Steps.{Moves}
 use Rattle.hg_serve.specs.declared.output.Output.{Output}
 use Rattle.hg_serve.specs.declared.session.Session.{Session}
-use Rattle.hg_serve.specs.declared.session.Stop.{Stop}
-use Rattle.hg_serve.specs.declared.session.Stop.TheVariants as stop
 use Rattle.hg_serve.specs.declared.statuses.Status.{Status}
 use Rattle.hg_serve.specs.declared.statuses.Status.TheVariants as status
-use Rattle.hg_serve.specs.Output.{Passes, Breaks}
+use Rattle.hg_serve.specs.Output.{Seen, Counted, Passes, Breaks, TellsInPart}
 
--- no SELECT is at work, and a reply line has room
-pub record IsReady (s : Session) : Type 0 where
-  pub idle : s.tables.left ≡ None
-  pub room : array_vec_len s.output.bytes + 256 ≤ 16384
+-- the machine runs the lines
+abbrev pub Running : List Line → State → List Reply → State → Type 0
+Running lines old replies new = RunsLines old lines replies new
 
 -- the whole lines among the bytes taken were answered, and the front of the line at hand is kept
-pub record Serves (first now : Option (List ℕ)) (s : Session) (taken : List ℕ) : Type 0 where
+pub record Serves {E : Type 0} (Stands : E → State → Type 0) (told : Bool) (first now : E) (old new : Seen) (s : Session) (taken : List ℕ) : Type 0 where
   pub replies : List Reply
-  pub runs : RunsLines first_state (whole_lines taken) replies s.tables
-  pub passes : Passes first now [] s.output.bytes.items (text_of replies)
+  pub moves : Moves Stands told first now (Running (whole_lines taken)) replies
+  pub passes : Passes old.written new.written [] s.output.bytes.items (text_of replies)
   pub errors : s.output.errors ≡ has_error replies
+  pub counted : Counted old.faults new.faults replies
   pub part : s.line.items ≡ take 4097 (last_part [] taken)
 
--- these are the first of the lines, and the replies to them
-pub record FirstOf (lines : List Line) : Type 0 where
+-- the replies to all lines were written or wait
+pub record Answers {E : Type 0} (Stands : E → State → Type 0) (told : Bool) (first now : E) (old new : Seen) (output : Output) (lines : List Line) : Type 0 where
+  pub replies : List Reply
+  pub moves : Moves Stands told first now (Running lines) replies
+  pub passes : Passes old.written new.written [] output.bytes.items (text_of replies)
+  pub errors : output.errors ≡ has_error replies
+  pub counted : Counted old.faults new.faults replies
+
+-- the sink failed in these lines: a front of the replies to the first of them was written
+pub record Halts {E : Type 0} (Stands : E → State → Type 0) (told : Bool) (first now : E) (old new : Seen) (lines : List Line) : Type 0 where
   pub front : List Line
   pub later : List Line
-  pub first : lines ≡ front ++ later
+  pub parts : lines ≡ front ++ later
   pub replies : List Reply
-  pub run : IsRun front replies
-
--- where a session stopped in these lines: with all replies to the first of them written or waiting, or
--- with a front of the replies written
-abbrev pub Halts : Option (List ℕ) → Option (List ℕ) → List ℕ → List Line → Stop → Type 0
-Halts first now waiting lines stop.NoMemory = (f : FirstOf lines) × Passes first now [] waiting (text_of f.replies)
-Halts first now waiting lines stop.SinkFault = (f : FirstOf lines) × Breaks first now [] (text_of f.replies)
-
--- the replies to all lines were written or wait
-pub record Answers (first now : Option (List ℕ)) (output : Output) (lines : List Line) : Type 0 where
-  pub replies : List Reply
-  pub run : IsRun lines replies
-  pub passes : Passes first now [] output.bytes.items (text_of replies)
-  pub errors : output.errors ≡ has_error replies
+  pub moves : Moves Stands told first now (Running front) replies
+  pub tells : TellsInPart old new [] replies
 
 -- the lines were answered, with an error line or with none
-pub record AllAnswered (first now : Option (List ℕ)) (lines : List Line) (errors : Bool) : Type 0 where
+pub record AllAnswered {E : Type 0} (Stands : E → State → Type 0) (told : Bool) (first now : E) (old new : Seen) (lines : List Line) (errors : Bool) : Type 0 where
   pub replies : List Reply
-  pub run : IsRun lines replies
-  pub text : now ≡ then first (text_of replies)
+  pub moves : Moves Stands told first now (Running lines) replies
+  pub text : new.written ≡ then old.written (text_of replies)
+  pub counted : Counted old.faults new.faults replies
   pub shown : has_error replies ≡ errors
 
+-- what waited was written at the end of a script, or the sink failed
+abbrev pub Finishes : Option (List ℕ) → Option (List ℕ) → Output → Status → Type 0
+Finishes old new output status.Clean = Passes old new output.bytes.items [] [] × (output.errors ≡ false)
+Finishes old new output status.Errors = Passes old new output.bytes.items [] [] × (output.errors ≡ true)
+Finishes old new output status.SinkFault = Breaks old new output.bytes.items []
+Finishes old new output status.Usage = ⊥
+Finishes old new output status.NoMemory = ⊥
+Finishes old new output status.SourceFault = ⊥
+Finishes old new output status.TooLong = ⊥
+
 -- a session over these lines was closed with this status
-abbrev pub Closes : Option (List ℕ) → Option (List ℕ) → List Line → Status → Type 0
-Closes first now lines status.Clean = AllAnswered first now lines false
-Closes first now lines status.Errors = AllAnswered first now lines true
-Closes first now lines status.SinkFault = (f : FirstOf lines) × Breaks first now [] (text_of f.replies)
-Closes first now lines status.NoMemory = (f : FirstOf lines) × (now ≡ then first (text_of f.replies))
-Closes first now lines status.Usage = ⊥
-Closes first now lines status.SourceFault = ⊥
-Closes first now lines status.TooLong = ⊥
+abbrev pub Closes : {E : Type 0} → (E → State → Type 0) → Bool → E → E → Seen → Seen → List Line → Status → Type 0
+Closes Stands told first now old new lines status.Clean = AllAnswered Stands told first now old new lines false
+Closes Stands told first now old new lines status.Errors = AllAnswered Stands told first now old new lines true
+Closes Stands told first now old new lines status.SinkFault = Halts Stands told first now old new lines
+Closes Stands told first now old new lines status.Usage = ⊥
+Closes Stands told first now old new lines status.NoMemory = ⊥
+Closes Stands told first now old new lines status.SourceFault = ⊥
+Closes Stands told first now old new lines status.TooLong = ⊥

@@ -1,10 +1,11 @@
-//! Runs a script: reads its lines from a source, answers each by the tables, and writes the replies to
-//! a sink. It stands on the traits of the outside (`hg_io`) and on the plain machine (`hg_machine`).
-//! For now the tables are vectors in memory, and the devices are handed back unused.
+//! Runs a script: reads its lines from a source, answers each by an engine, and writes the replies to
+//! a sink. It stands on the traits of the outside (`hg_io`), on the plain machine (`hg_machine`) and
+//! on the seam to an engine (`hg_reply`). No call takes memory.
 //!
-//! The contract used above is that of `run`: for any bytes of a script and any faults of source and
-//! sink, what is written is the text of a run of the plain machine over the lines of the script, as
-//! far as the status says; and a fault is answered only where that object's count of faults rose.
+//! The contract used above is that of `serve_lines`: for any bytes of a script and any faults of
+//! source, sink and devices, what is written is the text of a run of the plain machine over the lines
+//! of the script, as far as the status says; and a fault is answered only where that object's count
+//! of faults rose.
 #![tactic(auto)]
 
 mod lines;
@@ -14,11 +15,6 @@ mod scan;
 mod serve;
 mod session;
 mod statuses;
-mod tables;
-mod top;
 
+pub use serve::serve_lines;
 pub use statuses::Status;
-pub use top::{Outcome, run};
-
-#[cfg(test)]
-mod tests;

@@ -1,28 +1,26 @@
 //! Reads a line.
-ghost use Rattle.std.specs.Prelude.{◌≡◌, ℕ, List, IfOk, take};
-ghost use Rattle.hg_machine.specs.Script.{text_of_line};
+ghost use Rattle.std.specs.Prelude.{◌≡◌, ◌≤◌, ◌<◌, ◌+◌, ◌==◌, ◌&&◌, ℕ, List, take, length, slice_index};
+ghost use Rattle.hg_machine.specs.Script.{text_of_line, said_by, without_comment};
 ghost use Rattle.hg_machine.specs.Tokens.{is_all_blank};
 ghost use Rattle.hg_serve.specs.Lines.{AsksFor, TextAsksFor};
 
 use crate::parse::parse;
-use crate::scan::{is_space, read_tokens};
-use hg_machine::{Statement, Token};
-use std::alloc::{AllocError, Global};
-
-/// How many bytes a line has at most before its line feed.
-pub const LINE_LIMIT: usize = 4096;
+use crate::scan::{LINE_LIMIT, Tokens, is_space, read_tokens};
+use hg_machine::Statement;
 
 /// What a line asks for.
 #[derive(Drop)]
 pub enum Asked {
     Nothing,
     SyntaxError,
+    TooLong,
     Statement(Statement),
 }
 
 /// The text of a line: without a carriage return at its end, where a line feed ends it.
 fn text(line: &[u8], ended: bool) -> &[u8]
-    ensures { result.now ≡ text_of_line (record { bytes = line.now; ended = ended }) }
+    ensures text { result.now ≡ text_of_line (record { bytes = line.now; ended = ended }) }
+    ensures no_longer { length result.now ≤ length line.now }
 {
     if !ended {
         return line;
@@ -33,41 +31,67 @@ fn text(line: &[u8], ended: bool) -> &[u8]
     if *last == b'\r' { front } else { line }
 }
 
+/// Whether a comment begins at a byte that is not the last.
+fn begins_comment(text: &[u8], at: usize) -> bool
+    requires { at + 1 < length text.now }
+    ensures { result ≡ ((slice_index text.now at == 45) && (slice_index text.now (at + 1) == 45)) }
+{
+    text[at] == b'-' && text[at + 1] == b'-'
+}
+
+/// What stands before a comment.
+fn before_comment(text: &[u8]) -> &[u8]
+    ensures said { result.now ≡ without_comment text.now }
+    ensures no_longer { length result.now ≤ length text.now }
+{
+    let mut at = 0;
+    while at + 1 < text.len() {
+        if begins_comment(text, at) {
+            return &text[..at];
+        }
+        at += 1;
+    }
+    text
+}
+
+/// What a line says.
+fn said(line: &[u8], ended: bool) -> &[u8]
+    ensures said { result.now ≡ said_by (record { bytes = line.now; ended = ended }) }
+    ensures no_longer { length result.now ≤ length line.now }
+{
+    before_comment(text(line, ended))
+}
+
 fn is_blank_text(text: &[u8]) -> bool
     ensures { result ≡ is_all_blank text.now }
 {
     text.iter().all(|b| is_space(*b))
 }
 
-/// What a text asks for. The only error is want of memory.
-fn read_text(alloc: Global, text: &[u8], tokens: &mut Vec<Token>) -> Result<Asked, AllocError>
-    ensures { IfOk result (TextAsksFor text.now) }
+/// What a text asks for.
+fn read_text(text: &[u8], tokens: &mut Tokens) -> Asked
+    requires { length text.now ≤ 4096 }
+    ensures { TextAsksFor text.now result }
 {
     if is_blank_text(text) {
-        return Ok(Asked::Nothing);
+        return Asked::Nothing;
     }
-    if !read_tokens(text, tokens)? {
-        return Ok(Asked::SyntaxError);
+    if !read_tokens(text, tokens) {
+        return Asked::SyntaxError;
     }
-    match parse(alloc, tokens)? {
-        Some(statement) => Ok(Asked::Statement(statement)),
-        None => Ok(Asked::SyntaxError),
+    match parse(tokens.as_slice()) {
+        Some(statement) => Asked::Statement(statement),
+        None => Asked::SyntaxError,
     }
 }
 
 /// What a line asks for, of which `kept` has the first 4,097 bytes. `tokens` is room for its tokens.
-/// The only error is want of memory.
-pub fn read_line(
-    alloc: Global,
-    kept: &[u8],
-    ended: bool,
-    tokens: &mut Vec<Token>,
-) -> Result<Asked, AllocError>
-    ensures { IfOk result (λ asked. (whole : List ℕ) → kept.now ≡ take 4097 whole
-        → AsksFor (record { bytes = whole; ended = ended }) asked) }
+pub fn read_line(kept: &[u8], ended: bool, tokens: &mut Tokens) -> Asked
+    ensures { (whole : List ℕ) → kept.now ≡ take 4097 whole
+        → AsksFor (record { bytes = whole; ended = ended }) result }
 {
     if kept.len() > LINE_LIMIT {
-        return Ok(Asked::SyntaxError);
+        return Asked::TooLong;
     }
-    read_text(alloc, text(kept, ended), tokens)
+    read_text(said(kept, ended), tokens)
 }

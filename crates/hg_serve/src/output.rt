@@ -1,33 +1,16 @@
-//! Reply lines and the buffer in which they wait for the sink.
-ghost use Rattle.std.specs.Prelude.{◌≡◌, false, ◌≤◌, ◌+◌, ◌^◌, ◌<◌, [], ◌∷◌, ◌++◌, length, decimal, OnOk, OnErr, ◌||◌, codes};
+//! The buffer in which reply lines wait for the sink.
+ghost use Rattle.std.specs.Prelude.{◌≡◌, false, ◌≤◌, ◌+◌, ◌^◌, ◌<◌, [], ◌∷◌, ◌++◌, length, OnOk, OnErr, ◌||◌};
 ghost use Rattle.arrayvec.specs.ArrayVec.{array_vec_len};
 ghost use Rattle.hg_io.specs.Bytes.{then};
 ghost use Rattle.hg_io.specs.Count.{HasCause};
-ghost use Rattle.hg_machine.specs.Reply.{reply_text, value_text, row_text, is_error, unknown_table};
-ghost use Rattle.hg_serve.specs.Output.{reply_of, WritesFront, Passes, Breaks, Tells};
+ghost use Rattle.hg_serve.specs.Output.{WritesFront, Passes, Breaks};
 
 use arrayvec::ArrayVec;
 use hg_io::{Failed, Sink};
-use hg_machine::{Cell, Content, Row};
-use hg_model::Name;
-use itoa::Buffer;
+use hg_reply::Reply;
 
-/// The bytes that wait for the sink at most.
-pub const BUFFER_BYTES: usize = 16_384;
-
-/// The room that any one reply line needs at most.
-pub const LINE_BYTES: usize = 256;
-
-/// A reply line.
-#[derive(Drop)]
-pub enum ReplyLine<'a> {
-    Created,
-    Inserted(u64),
-    Row(&'a Row),
-    End,
-    SyntaxError,
-    UnknownTable(&'a Name),
-}
+/// The bytes that wait for the sink at most: those of two replies.
+pub const BUFFER_BYTES: usize = 32_768;
 
 /// Reply lines that were not yet written, and whether an error line was among all so far.
 #[derive(Drop)]
@@ -47,109 +30,12 @@ impl Output {
         }
     }
 
-    /// Puts text behind the others.
-    fn put(&mut self, text: &[u8])
-        requires { array_vec_len self.old.bytes + length text.now ≤ 16384 }
-        ensures bytes { self.new.bytes.items ≡ self.old.bytes.items ++ text.now }
-        ensures errors { self.new.errors ≡ self.old.errors }
-    {
-        let _ = self.bytes.try_extend_from_slice(text);
-    }
-
-    fn put_count(&mut self, count: u64)
-        requires { array_vec_len self.old.bytes + 20 ≤ 16384 }
-        ensures bytes { self.new.bytes.items ≡ self.old.bytes.items ++ decimal count }
-        ensures errors { self.new.errors ≡ self.old.errors }
-        ensures short { array_vec_len self.new.bytes ≤ array_vec_len self.old.bytes + 20 }
-    {
-        let mut digits = Buffer::new();
-        self.put(digits.format(count).as_bytes());
-    }
-
-    fn put_cell(&mut self, cell: &Cell)
-        requires { array_vec_len self.old.bytes + 11 ≤ 16384 }
-        ensures bytes { self.new.bytes.items ≡ self.old.bytes.items ++ value_text cell.now }
-        ensures errors { self.new.errors ≡ self.old.errors }
-        ensures short { array_vec_len self.new.bytes ≤ array_vec_len self.old.bytes + 11 }
-    {
-        match cell.content() {
-            Content::Null => self.put(b"NULL"),
-            Content::Int(number) => {
-                let mut digits = Buffer::new();
-                self.put(digits.format(number).as_bytes());
-            }
-        }
-    }
-
-    /// Puts the values behind the others, with commas between them.
-    fn put_cells(&mut self, cells: &[Cell])
-        requires few { length cells.now ≤ 16 }
-        requires room { array_vec_len self.old.bytes + 192 ≤ 16384 }
-        ensures bytes { self.new.bytes.items ≡ self.old.bytes.items ++ row_text cells.now }
-        ensures errors { self.new.errors ≡ self.old.errors }
-        ensures short { array_vec_len self.new.bytes ≤ array_vec_len self.old.bytes + 192 }
-    {
-        let Some((first, others)) = cells.split_first() else {
-            return;
-        };
-        self.put_cell(first);
-        for cell in others {
-            self.put(b",");
-            self.put_cell(cell);
-        }
-    }
-
-    fn put_unknown_table(&mut self, name: &Name)
-        requires { array_vec_len self.old.bytes + 53 ≤ 16384 }
-        ensures bytes { self.new.bytes.items ≡ self.old.bytes.items ++ reply_text (unknown_table name.now) }
-        ensures errors { self.new.errors ≡ self.old.errors }
-    {
-        let name = name.as_str().as_bytes();
-        self.put(b"error 3 unknown table ");
-        self.put(name);
-        self.put(b"\n");
-    }
-
-    fn print(&mut self, line: &ReplyLine)
-        requires { array_vec_len self.old.bytes + 256 ≤ 16384 }
-        ensures bytes { self.new.bytes.items ≡ self.old.bytes.items ++ reply_text (reply_of line.now) }
-        ensures errors { self.new.errors ≡ self.old.errors }
-    {
-        match line {
-            ReplyLine::Created => self.put(b"created\n"),
-            ReplyLine::Inserted(count) => {
-                self.put(b"rows ");
-                self.put_count(*count);
-                self.put(b"\n");
-            }
-            ReplyLine::Row(row) => {
-                self.put(b"row * ");
-                self.put_cells(row.cells());
-                self.put(b"\n");
-            }
-            ReplyLine::End => self.put(b"end *\n"),
-            ReplyLine::SyntaxError => self.put(b"error 1 syntax\n"),
-            ReplyLine::UnknownTable(name) => self.put_unknown_table(name),
-        }
-    }
-
-    /// Puts a reply line behind the others.
-    pub fn say(&mut self, line: &ReplyLine)
-        requires { array_vec_len self.old.bytes + 256 ≤ 16384 }
-        ensures bytes { self.new.bytes.items ≡ self.old.bytes.items ++ reply_text (reply_of line.now) }
-        ensures errors { self.new.errors ≡ (self.old.errors || is_error (reply_of line.now)) }
-    {
-        self.print(line);
-        if matches!(line, ReplyLine::SyntaxError | ReplyLine::UnknownTable(_)) {
-            self.errors = true;
-        }
-    }
-
     /// Writes what waits to the sink.
     pub fn flush<K: Sink>(&mut self, sink: &mut K) -> Result<(), Failed>
         ensures ok { OnOk result (Passes (K.written sink.old) (K.written sink.new) self.old.bytes.items [] []) }
         ensures empty { OnOk result (self.new.bytes.items ≡ []) }
         ensures part { OnErr result (Breaks (K.written sink.old) (K.written sink.new) self.old.bytes.items []) }
+        ensures kept { OnErr result (self.new ≡ self.old) }
         ensures errors { self.new.errors ≡ self.old.errors }
         ensures cause { HasCause (K.faults sink.old) (K.faults sink.new) result }
     {
@@ -158,17 +44,35 @@ impl Output {
         Ok(())
     }
 
-    /// Writes what waits to the sink where it leaves no room for a reply line.
-    pub fn make_room<K: Sink>(&mut self, sink: &mut K) -> Result<(), Failed>
-        ensures ok { OnOk result (Tells (K.written sink.old) (K.written sink.new) self.old self.new []) }
-        ensures room { OnOk result (array_vec_len self.new.bytes + 256 ≤ 16384) }
+    /// Writes what waits to the sink where it leaves no room for so many bytes.
+    fn make_room<K: Sink>(&mut self, bytes: usize, sink: &mut K) -> Result<(), Failed>
+        requires { bytes ≤ 16384 }
+        ensures ok { OnOk result (Passes (K.written sink.old) (K.written sink.new) self.old.bytes.items self.new.bytes.items []) }
+        ensures room { OnOk result (array_vec_len self.new.bytes + bytes ≤ 32768) }
         ensures part { OnErr result (Breaks (K.written sink.old) (K.written sink.new) self.old.bytes.items []) }
+        ensures kept { OnErr result (self.new ≡ self.old) }
+        ensures errors { self.new.errors ≡ self.old.errors }
         ensures cause { HasCause (K.faults sink.old) (K.faults sink.new) result }
     {
-        if self.bytes.len() + LINE_BYTES <= BUFFER_BYTES {
+        if self.bytes.len() + bytes <= BUFFER_BYTES {
             return Ok(());
         }
         self.flush(sink)?;
+        Ok(())
+    }
+
+    /// Puts a reply behind the others. What waited goes to the sink first where it leaves no room.
+    pub fn put<K: Sink>(&mut self, reply: &Reply, sink: &mut K) -> Result<(), Failed>
+        ensures ok { OnOk result (Passes (K.written sink.old) (K.written sink.new) self.old.bytes.items self.new.bytes.items reply.now.text.items) }
+        ensures errors { OnOk result (self.new.errors ≡ (self.old.errors || reply.now.has_error)) }
+        ensures part { OnErr result (Breaks (K.written sink.old) (K.written sink.new) self.old.bytes.items reply.now.text.items) }
+        ensures kept { OnErr result (self.new ≡ self.old) }
+        ensures cause { HasCause (K.faults sink.old) (K.faults sink.new) result }
+    {
+        let text = reply.text.as_slice();
+        self.make_room(text.len(), sink)?;
+        let _ = self.bytes.try_extend_from_slice(text);
+        self.errors = self.errors || reply.has_error;
         Ok(())
     }
 }

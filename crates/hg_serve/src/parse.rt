@@ -1,5 +1,5 @@
 //! Reads tokens as a statement.
-ghost use Rattle.std.specs.Prelude.{◌≡◌, ◌≤◌, ℕ, List, ◌∷◌, ◌++◌, length, ◌↔◌, MatchBool, MatchOption, IfNone, IfOk, IfSome, IsSome, IsSomeAnd, FitsSigned, pos, nat_eq};
+ghost use Rattle.std.specs.Prelude.{◌≡◌, ◌≤◌, ℕ, List, ◌∷◌, ◌++◌, length, ◌↔◌, MatchBool, MatchOption, IfNone, IfSome, IsSome, IsSomeAnd, FitsSigned, pos, nat_eq};
 ghost use Rattle.std.specs.Int.{w32};
 ghost use Rattle.std.specs.List.{list_any};
 ghost use Rattle.std.specs.Cmp.Lexicographic.{pointwise};
@@ -11,29 +11,30 @@ ghost use Rattle.hg_machine.specs.declared.statements.Statement.{Statement as As
 ghost use Rattle.hg_serve.specs.Parse.{StandsFirst, BeginsWithNoComma, NoCommand, create_words, insert_words};
 ghost use Rattle.hg_machine.specs.Grammar.{IsFree, is_reserved, Separated, negative, IsColumn, IsValue, IsTuple, IsCreateTable, IsInsert, IsSelect, IsEnd, StandsFor};
 
+use crate::scan::Place;
+use arrayvec::ArrayVec;
 use hg_machine::{Cell, Content, RESERVED, Row, Sign, Statement, Token};
 use hg_model::Name;
-use std::alloc::{AllocError, Global};
 
 /// Behind a word, where it stands first.
-fn word<'a>(tokens: &'a [Token], text: &str) -> Option<&'a [Token]>
+fn word<'a>(tokens: &'a [Place], text: &str) -> Option<&'a [Place]>
     ensures sound { IfSome result (λ rest. tokens.now ≡ token.Word text.now ∷ rest.now) }
     ensures complete { (rest : List Tok) → tokens.now ≡ token.Word text.now ∷ rest → IsSomeAnd result (λ r. r.now ≡ rest) }
 {
     let (first, rest) = tokens.split_first()?;
-    match first {
+    match first.token() {
         Token::Word(letters) if letters.as_str() == text => Some(rest),
         _ => None,
     }
 }
 
 /// Behind a sign, where it stands first.
-fn sign<'a>(tokens: &'a [Token], wanted: Sign) -> Option<&'a [Token]>
+fn sign<'a>(tokens: &'a [Place], wanted: Sign) -> Option<&'a [Place]>
     ensures sound { IfSome result (λ rest. tokens.now ≡ token.Sign wanted ∷ rest.now) }
     ensures complete { (rest : List Tok) → tokens.now ≡ token.Sign wanted ∷ rest → IsSomeAnd result (λ r. r.now ≡ rest) }
 {
     let (first, rest) = tokens.split_first()?;
-    match first {
+    match first.token() {
         Token::Sign(sign) if *sign == wanted => Some(rest),
         _ => None,
     }
@@ -52,61 +53,61 @@ fn is_reserved_word(name: &Name) -> bool
 }
 
 /// A name that stands first, and what is behind it.
-fn name(tokens: &[Token]) -> Option<(Name, &[Token])>
+fn name(tokens: &[Place]) -> Option<(Name, &[Place])>
     ensures sound { IfSome result (λ r. (tokens.now ≡ token.Word r.0 ∷ r.1.now) × IsFree r.0) }
     ensures complete { (letters : List ℕ) (rest : List Tok) → tokens.now ≡ token.Word letters ∷ rest → IsFree letters
         → IsSomeAnd result (λ r. (r.0 ≡ letters) × (r.1.now ≡ rest)) }
 {
     let (first, rest) = tokens.split_first()?;
-    match first {
+    match first.token() {
         Token::Word(letters) if !is_reserved_word(letters) => Some((letters.copy(), rest)),
         _ => None,
     }
 }
 
 /// A part of a list with commas. It is read from the front of tokens, in one way at most.
-trait Item: Drop {
+trait Item: Drop + Default {
     /// The tokens that it stands for.
     ghost reads: { Self → List Tok → Type 0 };
 
-    /// The part that stands first, and what is behind it. The only error is want of memory.
-    fn read(alloc: Global, tokens: &[Token]) -> Result<Option<(Self, &[Token])>, AllocError>
-        ensures sound { IfOk result (λ r. IfSome r (λ p. StandsFirst reads tokens.now p.0 p.1.now)) }
-        ensures complete { IfOk result (λ r. (x : Self) (rest : List Tok) → StandsFirst reads tokens.now x rest
-            → IsSomeAnd r (λ p. (p.0 ≡ x) × (p.1.now ≡ rest))) };
+    /// The part that stands first, and what is behind it.
+    fn read(tokens: &[Place]) -> Option<(Self, &[Place])>
+        ensures sound { IfSome result (λ p. StandsFirst reads tokens.now p.0 p.1.now) }
+        ensures complete { (x : Self) (rest : List Tok) → StandsFirst reads tokens.now x rest
+            → IsSomeAnd result (λ p. (p.0 ≡ x) × (p.1.now ≡ rest)) };
 }
 
-/// One or more parts with commas between them, as many as stand there, and what is behind them.
-fn separated<T: Item>(
-    alloc: Global,
-    tokens: &[Token],
-) -> Result<Option<(Vec<T>, &[Token])>, AllocError>
-    ensures sound { IfOk result (λ r. IfSome r (λ p. StandsFirst (Separated T.reads) tokens.now p.0.items p.1.now)) }
-    ensures complete { IfOk result (λ r. (xs : List T) (rest : List Tok) → StandsFirst (Separated T.reads) tokens.now xs rest
-        → BeginsWithNoComma rest → IsSomeAnd r (λ p. (p.0.items ≡ xs) × (p.1.now ≡ rest))) }
+/// One or more parts with commas between them, as many as stand there, and what is behind them. None
+/// also where more than `N` stand there.
+fn separated<T: Item, const N: usize>(tokens: &[Place]) -> Option<(ArrayVec<T, N>, &[Place])>
+    ensures sound { IfSome result (λ p. StandsFirst (Separated T.reads) tokens.now p.0.items p.1.now) }
+    ensures few { IfSome result (λ p. length p.0.items ≤ N) }
+    ensures complete { (xs : List T) (rest : List Tok) → StandsFirst (Separated T.reads) tokens.now xs rest
+        → BeginsWithNoComma rest → length xs ≤ N → IsSomeAnd result (λ p. (p.0.items ≡ xs) × (p.1.now ≡ rest)) }
 {
-    let mut items = Vec::new(alloc);
+    let mut items = ArrayVec::new();
     let mut rest = tokens;
-    while let Some((item, behind)) = T::read(alloc, rest)? {
-        items.push(item)?;
+    while items.len() < N {
+        let (item, behind) = T::read(rest)?;
+        items.push(item);
         match sign(behind, Sign::Comma) {
             Some(more) => rest = more,
-            None => return Ok(Some((items, behind))),
+            None => return Some((items, behind)),
         }
     }
-    Ok(None)
+    None
 }
 
 impl Item for Name {
     ghost reads = { IsColumn };
 
     /// A column: a name and INTEGER.
-    fn read(_alloc: Global, tokens: &[Token]) -> Result<Option<(Name, &[Token])>, AllocError> {
-        Ok(column(tokens))
+    fn read(tokens: &[Place]) -> Option<(Name, &[Place])> {
+        column(tokens)
     }
 }
 
-fn column(tokens: &[Token]) -> Option<(Name, &[Token])>
+fn column(tokens: &[Place]) -> Option<(Name, &[Place])>
     ensures sound { IfSome result (λ p. StandsFirst IsColumn tokens.now p.0 p.1.now) }
     ensures complete { (x : List ℕ) (rest : List Tok) → StandsFirst IsColumn tokens.now x rest
         → IsSomeAnd result (λ p. (p.0 ≡ x) × (p.1.now ≡ rest)) }
@@ -117,13 +118,13 @@ fn column(tokens: &[Token]) -> Option<(Name, &[Token])>
 }
 
 /// A number that stands first, and what is behind it.
-fn number(tokens: &[Token]) -> Option<(u64, &[Token])>
+fn number(tokens: &[Place]) -> Option<(u64, &[Place])>
     ensures sound { IfSome result (λ r. tokens.now ≡ token.Number r.0 ∷ r.1.now) }
     ensures complete { (n : ℕ) (rest : List Tok) → tokens.now ≡ token.Number n ∷ rest
         → IsSomeAnd result (λ r. (r.0 ≡ n) × (r.1.now ≡ rest)) }
 {
     let (first, rest) = tokens.split_first()?;
-    match first {
+    match first.token() {
         Token::Number(n) => Some((*n, rest)),
         _ => None,
     }
@@ -152,7 +153,7 @@ fn negated(n: u64) -> Option<Cell>
 }
 
 /// NULL, or a number that fits INTEGER.
-fn value(tokens: &[Token]) -> Option<(Cell, &[Token])>
+fn value(tokens: &[Place]) -> Option<(Cell, &[Place])>
     ensures sound { IfSome result (λ p. StandsFirst IsValue tokens.now p.0 p.1.now) }
     ensures complete { (x : Scalar) (rest : List Tok) → StandsFirst IsValue tokens.now x rest
         → IsSomeAnd result (λ p. (p.0 ≡ x) × (p.1.now ≡ rest)) }
@@ -175,53 +176,43 @@ fn value(tokens: &[Token]) -> Option<(Cell, &[Token])>
 impl Item for Cell {
     ghost reads = { IsValue };
 
-    fn read(_alloc: Global, tokens: &[Token]) -> Result<Option<(Cell, &[Token])>, AllocError> {
-        Ok(value(tokens))
+    fn read(tokens: &[Place]) -> Option<(Cell, &[Place])> {
+        value(tokens)
     }
 }
 
 /// A row in parentheses.
-fn tuple(alloc: Global, tokens: &[Token]) -> Result<Option<(Row, &[Token])>, AllocError>
-    ensures sound { IfOk result (λ r. IfSome r (λ p. StandsFirst IsTuple tokens.now p.0 p.1.now)) }
-    ensures complete { IfOk result (λ r. (x : List Scalar) (rest : List Tok) → StandsFirst IsTuple tokens.now x rest
-        → IsSomeAnd r (λ p. (p.0 ≡ x) × (p.1.now ≡ rest))) }
+fn tuple(tokens: &[Place]) -> Option<(Row, &[Place])>
+    ensures sound { IfSome result (λ p. StandsFirst IsTuple tokens.now p.0 p.1.now) }
+    ensures complete { (x : List Scalar) (rest : List Tok) → StandsFirst IsTuple tokens.now x rest
+        → IsSomeAnd result (λ p. (p.0 ≡ x) × (p.1.now ≡ rest)) }
 {
-    let Some(inner) = sign(tokens, Sign::Open) else {
-        return Ok(None);
-    };
-    let Some((cells, rest)) = separated::<Cell>(alloc, inner)? else {
-        return Ok(None);
-    };
-    if cells.len() > 16 {
-        return Ok(None);
-    }
-    let Some(rest) = sign(rest, Sign::Close) else {
-        return Ok(None);
-    };
-    Ok(Some((Row::new(cells), rest)))
+    let inner = sign(tokens, Sign::Open)?;
+    let (cells, rest) = separated::<Cell, 16>(inner)?;
+    let rest = sign(rest, Sign::Close)?;
+    Some((Row::new(cells), rest))
 }
 
 impl Item for Row {
     ghost reads = { IsTuple };
 
-    fn read(alloc: Global, tokens: &[Token]) -> Result<Option<(Row, &[Token])>, AllocError> {
-        tuple(alloc, tokens)
+    fn read(tokens: &[Place]) -> Option<(Row, &[Place])> {
+        tuple(tokens)
     }
 }
 
 /// Whether nothing or a semicolon is left.
-fn is_end(tokens: &[Token]) -> bool
+fn is_end(tokens: &[Place]) -> bool
     ensures { MatchBool result (IsEnd tokens.now) (¬ IsEnd tokens.now) }
 {
-    match tokens {
-        [] => true,
-        [Token::Sign(Sign::Semicolon)] => true,
-        _ => false,
+    match sign(tokens, Sign::Semicolon) {
+        Some(rest) => rest.is_empty(),
+        None => tokens.is_empty(),
     }
 }
 
 /// The name behind CREATE TABLE, and what is behind the parenthesis.
-fn create_head(tokens: &[Token]) -> Option<(Name, &[Token])>
+fn create_head(tokens: &[Place]) -> Option<(Name, &[Place])>
     ensures sound { IfSome result (λ r. (tokens.now ≡ create_words r.0 ++ r.1.now) × IsFree r.0) }
     ensures complete { (letters : List ℕ) (rest : List Tok) → tokens.now ≡ create_words letters ++ rest → IsFree letters
         → IsSomeAnd result (λ r. (r.0 ≡ letters) × (r.1.now ≡ rest)) }
@@ -232,31 +223,22 @@ fn create_head(tokens: &[Token]) -> Option<(Name, &[Token])>
 }
 
 /// CREATE TABLE, with an optional semicolon.
-fn create_table(alloc: Global, tokens: &[Token]) -> Result<Option<Statement>, AllocError>
-    ensures sound { IfOk result (λ r. IfSome r (λ s. StandsFor s tokens.now)) }
-    ensures complete { IfOk result (λ r. IfNone r ((name : List ℕ) (columns : List (List ℕ))
-        → NoCommand (IsCreateTable name columns) tokens.now)) }
+fn create_table(tokens: &[Place]) -> Option<Statement>
+    ensures sound { IfSome result (λ s. StandsFor s tokens.now) }
+    ensures complete { IfNone result ((name : List ℕ) (columns : List (List ℕ))
+        → NoCommand (IsCreateTable name columns) tokens.now) }
 {
-    let Some((name, rest)) = create_head(tokens) else {
-        return Ok(None);
-    };
-    let Some((columns, rest)) = separated::<Name>(alloc, rest)? else {
-        return Ok(None);
-    };
-    let Some(rest) = sign(rest, Sign::Close) else {
-        return Ok(None);
-    };
-    if columns.len() > 16 {
-        return Ok(None);
-    }
+    let (name, rest) = create_head(tokens)?;
+    let (columns, rest) = separated::<Name, 16>(rest)?;
+    let rest = sign(rest, Sign::Close)?;
     if !is_end(rest) {
-        return Ok(None);
+        return None;
     }
-    Ok(Some(Statement::CreateTable { name, columns }))
+    Some(Statement::CreateTable { name, columns })
 }
 
 /// The table behind INSERT INTO, and what is behind VALUES.
-fn insert_head(tokens: &[Token]) -> Option<(Name, &[Token])>
+fn insert_head(tokens: &[Place]) -> Option<(Name, &[Place])>
     ensures sound { IfSome result (λ r. (tokens.now ≡ insert_words r.0 ++ r.1.now) × IsFree r.0) }
     ensures complete { (letters : List ℕ) (rest : List Tok) → tokens.now ≡ insert_words letters ++ rest → IsFree letters
         → IsSomeAnd result (λ r. (r.0 ≡ letters) × (r.1.now ≡ rest)) }
@@ -267,28 +249,21 @@ fn insert_head(tokens: &[Token]) -> Option<(Name, &[Token])>
 }
 
 /// INSERT, with an optional semicolon.
-fn insert(alloc: Global, tokens: &[Token]) -> Result<Option<Statement>, AllocError>
-    ensures sound { IfOk result (λ r. IfSome r (λ s. StandsFor s tokens.now)) }
-    ensures complete { IfOk result (λ r. IfNone r ((table : List ℕ) (rows : List (List Scalar))
-        → NoCommand (IsInsert table rows) tokens.now)) }
+fn insert(tokens: &[Place]) -> Option<Statement>
+    ensures sound { IfSome result (λ s. StandsFor s tokens.now) }
+    ensures complete { IfNone result ((table : List ℕ) (rows : List (List Scalar))
+        → NoCommand (IsInsert table rows) tokens.now) }
 {
-    let Some((table, rest)) = insert_head(tokens) else {
-        return Ok(None);
-    };
-    let Some((rows, rest)) = separated::<Row>(alloc, rest)? else {
-        return Ok(None);
-    };
-    if rows.len() > 64 {
-        return Ok(None);
-    }
+    let (table, rest) = insert_head(tokens)?;
+    let (rows, rest) = separated::<Row, 64>(rest)?;
     if !is_end(rest) {
-        return Ok(None);
+        return None;
     }
-    Ok(Some(Statement::Insert { table, rows }))
+    Some(Statement::Insert { table, rows })
 }
 
 /// SELECT of all rows, with an optional semicolon.
-fn select(tokens: &[Token]) -> Option<Statement>
+fn select(tokens: &[Place]) -> Option<Statement>
     ensures sound { IfSome result (λ s. StandsFor s tokens.now) }
     ensures complete { IfNone result ((table : List ℕ) → NoCommand (IsSelect table) tokens.now) }
 {
@@ -301,15 +276,15 @@ fn select(tokens: &[Token]) -> Option<Statement>
     Some(Statement::Select { table })
 }
 
-/// The statement that the tokens stand for, if they stand for one. The only error is want of memory.
-pub fn parse(alloc: Global, tokens: &[Token]) -> Result<Option<Statement>, AllocError>
-    ensures { IfOk result (λ r. MatchOption r ((s : Asked) → ¬ StandsFor s tokens.now) (λ s. StandsFor s tokens.now)) }
+/// The statement that the tokens stand for, if they stand for one.
+pub fn parse(tokens: &[Place]) -> Option<Statement>
+    ensures { MatchOption result ((s : Asked) → ¬ StandsFor s tokens.now) (λ s. StandsFor s tokens.now) }
 {
-    if let Some(statement) = create_table(alloc, tokens)? {
-        return Ok(Some(statement));
+    if let Some(statement) = create_table(tokens) {
+        return Some(statement);
     }
-    if let Some(statement) = insert(alloc, tokens)? {
-        return Ok(Some(statement));
+    if let Some(statement) = insert(tokens) {
+        return Some(statement);
     }
-    Ok(select(tokens))
+    select(tokens)
 }

@@ -1,13 +1,16 @@
 //! Reads a script, answers its lines and closes the session.
-ghost use Rattle.std.specs.Prelude.{◌≡◌, ◌≤◌, ◌<◌, List, ℕ, IfOk, OnErr, length, take, min};
+ghost use Rattle.std.specs.Prelude.{◌≡◌, ◌≢◌, ◌≤◌, ◌<◌, ◌+◌, ◌-◌, ◌^◌, ◌⊎◌, List, ℕ, true, false, IfOk, OnErr, length, take, min};
 ghost use Rattle.hg_io.specs.Count.{raised, Rose, HasCause};
 ghost use Rattle.hg_io.specs.Bytes.{Reads};
-ghost use Rattle.hg_serve.specs.Ending.{Ends, ReadsSome, outside};
+ghost use Rattle.hg_machine.specs.State.{first_state};
+ghost use Rattle.hg_machine.specs.Outcome.{Took, AnswersAll, AnswersWholeLines, AnswersUpToLimit, AnswersInPart};
+ghost use Rattle.hg_serve.specs.Output.{NoneFell};
+ghost use Rattle.hg_serve.specs.Ending.{Ends, ReadsSome, TakesSoMany, outside};
 
 use crate::session::Session;
 use crate::statuses::Status;
 use hg_io::{Failed, Sink, Source};
-use std::alloc::Global;
+use hg_reply::Machine;
 
 /// How many bytes of a script are taken at most.
 const SCRIPT_LIMIT: u64 = 1 << 32;
@@ -27,15 +30,25 @@ fn read_some<S: Source>(source: &mut S, buffer: &mut [u8], room: usize) -> Resul
     source.read(&mut buffer[..room])
 }
 
-/// Serves the script of the source to its end, to its limit, or until the source, the sink or memory
-/// fails. The reply lines that wait are written before the source is asked for more.
-pub fn serve<S: Source, K: Sink>(alloc: Global, source: &mut S, sink: &mut K) -> Status
-    ensures ends { Ends (outside (S.left source.old) (S.given source.old) (K.written sink.old))
-        (outside (S.left source.new) (S.given source.new) (K.written sink.new)) result }
+/// Serves the script of the source to its end, to its limit, or until source or sink fails. The reply
+/// lines that wait are written before the source is asked for more.
+fn serve<E: Machine, S: Source, K: Sink>(engine: &mut E, source: &mut S, sink: &mut K) -> Status
+    requires idle { E.pending engine.old ≡ false }
+    ensures ends { E.stands engine.old (first_state (E.setting engine.old).limit) → Ends (E.setting engine.old)
+        (outside (S.left source.old) (S.given source.old) (K.written sink.old) (E.faults engine.old))
+        (outside (S.left source.new) (S.given source.new) (K.written sink.new) (E.faults engine.new)) result }
+    ensures bytes { (taken : List ℕ) × TakesSoMany result (length taken)
+        × Took (outside (S.left source.old) (S.given source.old) (K.written sink.old) (E.faults engine.old))
+        (outside (S.left source.new) (S.given source.new) (K.written sink.new) (E.faults engine.new)) taken }
     ensures source_fault { result ≡ Status.SourceFault → Rose (S.faults source.old) (S.faults source.new) }
     ensures sink_fault { result ≡ Status.SinkFault → Rose (K.faults sink.old) (K.faults sink.new) }
+    ensures idle { E.pending engine.new ≡ false }
+    ensures setting { E.setting engine.new ≡ E.setting engine.old }
+    ensures later { NoneFell (E.faults engine.old) (E.faults engine.new) }
+    ensures source_later { S.faults source.old ≤ S.faults source.new }
+    ensures sink_later { K.faults sink.old ≤ K.faults sink.new }
 {
-    let mut session = Session::new(alloc);
+    let mut session = Session::new();
     let mut buffer = [0; READ_BYTES];
     let mut taken = 0;
     while taken < SCRIPT_LIMIT {
@@ -48,11 +61,11 @@ pub fn serve<S: Source, K: Sink>(alloc: Global, source: &mut S, sink: &mut K) ->
             Err(Failed) => return Status::SourceFault,
         };
         if count == 0 {
-            return session.end(sink);
+            return session.end(engine, sink);
         }
         let (bytes, _) = buffer.split_at(count);
-        if let Err(stop) = session.feed(bytes, sink) {
-            return session.stopped(stop, sink);
+        if let Err(Failed) = session.feed(bytes, engine, sink) {
+            return Status::SinkFault;
         }
         taken += count as u64;
     }
@@ -60,4 +73,62 @@ pub fn serve<S: Source, K: Sink>(alloc: Global, source: &mut S, sink: &mut K) ->
         Ok(()) => Status::TooLong,
         Err(Failed) => Status::SinkFault,
     }
+}
+
+/// Serves the script of `source` by the engine, and writes the replies to `sink`. Nothing is pending in
+/// the engine, before and after.
+///
+/// In the clauses, the outside is what source, sink and engine tell at one moment: the bytes left, the
+/// count of bytes given, the bytes written, and the devices' counts of faults. What is said of the
+/// replies holds where the engine stood for the first state of the machine, without a table.
+pub fn serve_lines<E: Machine, S: Source, K: Sink>(
+    engine: &mut E,
+    source: &mut S,
+    sink: &mut K,
+) -> Status
+    requires idle { E.pending engine.old ≡ false }
+
+    // The script was read to its end, and what is written is the text of a run of the machine over all
+    // its lines, with an error line exactly where the status is Errors.
+    ensures clean { result ≡ Status.Clean → E.stands engine.old (first_state (E.setting engine.old).limit)
+        → AnswersAll (E.setting engine.old)
+        (outside (S.left source.old) (S.given source.old) (K.written sink.old) (E.faults engine.old))
+        (outside (S.left source.new) (S.given source.new) (K.written sink.new) (E.faults engine.new)) false }
+    ensures errors { result ≡ Status.Errors → E.stands engine.old (first_state (E.setting engine.old).limit)
+        → AnswersAll (E.setting engine.old)
+        (outside (S.left source.old) (S.given source.old) (K.written sink.old) (E.faults engine.old))
+        (outside (S.left source.new) (S.given source.new) (K.written sink.new) (E.faults engine.new)) true }
+
+    // A fault only where that count rose; after a source fault the lines read whole were answered, and
+    // no part of a line was run; after a sink fault a front of such replies was written.
+    ensures source_fault { result ≡ Status.SourceFault → Rose (S.faults source.old) (S.faults source.new) }
+    ensures source_fault_answers { result ≡ Status.SourceFault → E.stands engine.old (first_state (E.setting engine.old).limit)
+        → AnswersWholeLines (E.setting engine.old)
+        (outside (S.left source.old) (S.given source.old) (K.written sink.old) (E.faults engine.old))
+        (outside (S.left source.new) (S.given source.new) (K.written sink.new) (E.faults engine.new)) }
+    ensures sink_fault { result ≡ Status.SinkFault → Rose (K.faults sink.old) (K.faults sink.new) }
+    ensures sink_fault_answers { result ≡ Status.SinkFault → E.stands engine.old (first_state (E.setting engine.old).limit)
+        → AnswersInPart (E.setting engine.old)
+        (outside (S.left source.old) (S.given source.old) (K.written sink.old) (E.faults engine.old))
+        (outside (S.left source.new) (S.given source.new) (K.written sink.new) (E.faults engine.new)) }
+
+    // The limit of 2^32 bytes, both ways: a sink fault alone comes before it.
+    ensures too_long { result ≡ Status.TooLong → E.stands engine.old (first_state (E.setting engine.old).limit)
+        → AnswersUpToLimit (E.setting engine.old)
+        (outside (S.left source.old) (S.given source.old) (K.written sink.old) (E.faults engine.old))
+        (outside (S.left source.new) (S.given source.new) (K.written sink.new) (E.faults engine.new)) }
+    ensures too_long_always { S.given source.new < 2 ^ 64 - 1 → S.given source.new ≡ S.given source.old + 2 ^ 32
+        → (result ≡ Status.TooLong) ⊎ (result ≡ Status.SinkFault) }
+
+    // The words of the command line and the opening are not its own.
+    ensures no_usage { result ≢ Status.Usage }
+    ensures no_memory { result ≢ Status.NoMemory }
+
+    ensures idle { E.pending engine.new ≡ false }
+    ensures setting { E.setting engine.new ≡ E.setting engine.old }
+    ensures later { NoneFell (E.faults engine.old) (E.faults engine.new) }
+    ensures source_later { S.faults source.old ≤ S.faults source.new }
+    ensures sink_later { K.faults sink.old ≤ K.faults sink.new }
+{
+    serve(engine, source, sink)
 }

@@ -1,143 +1,180 @@
-//! A session: the tables, the reply lines that wait, and the line at hand.
-ghost use Rattle.std.specs.Prelude.{◌≡◌, ◌≤◌, ◌+◌, ◌∷◌, [], ◌++◌, ℕ, List, take, None, OnOk, OnErr, IfOk, IfErr};
-ghost use Rattle.arrayvec.specs.ArrayVec.{array_vec_len};
-ghost use Rattle.hg_io.specs.Count.{Rose, HasCause};
-ghost use Rattle.hg_machine.specs.Reply.{Reply, text_of};
-ghost use Rattle.hg_machine.specs.State.{State};
-ghost use Rattle.hg_machine.specs.Run.{Turns, RunsLine};
-ghost use Rattle.hg_serve.specs.Output.{Says, Breaks, Tells};
-ghost use Rattle.hg_serve.specs.Session.{StopsIn, BeginsAsked, AnswersLine};
+//! A session: the reply lines that wait, the line at hand, and the way of a line through the engine.
+ghost use Rattle.std.specs.Prelude.{◌≡◌, ◌↔◌, List, true, false, OnOk, OnErr};
+ghost use Rattle.hg_io.specs.Count.{HasCause};
+ghost use Rattle.hg_machine.specs.Reply.{Reply as ReplyOf, reply_text, is_error};
+ghost use Rattle.hg_machine.specs.Run.{Turns};
+ghost use Rattle.hg_reply.specs.Lines.{reply_of};
+ghost use Rattle.hg_reply.specs.Steps.{Says, Moves};
+ghost use Rattle.hg_serve.specs.Output.{seen, Counted, NoneFell, Tells, TellsInPart};
+ghost use Rattle.hg_serve.specs.Session.{BeginsAsked};
 
 use crate::lines::{Asked, read_line};
-use crate::output::{Output, ReplyLine};
+use crate::output::Output;
+use crate::scan::Tokens;
 use crate::statuses::Status;
-use crate::tables::Tables;
 use arrayvec::ArrayVec;
 use hg_io::{Failed, Sink};
-use hg_machine::Token;
-use std::alloc::{AllocError, Global};
+use hg_reply::{Machine, Next, Reply, ReplyLine};
 
-/// Why a session stops before the end of its script.
-#[derive(Clone, Copy, PartialEq, Eq, Debug)]
-pub enum Stop {
-    SinkFault,
-    NoMemory,
-}
-
-/// All turns of the SELECT at work, if one is. Where the sink fails, what was written is a front of
-/// what waited and of the lines of such turns.
-fn give_turns<K: Sink>(tables: &mut Tables, output: &mut Output, sink: &mut K) -> Result<(), Failed>
-    ensures ok { OnOk result ((replies : List Reply) × Turns tables.old replies tables.new
-        × Tells (K.written sink.old) (K.written sink.new) output.old output.new replies) }
-    ensures idle { OnOk result (tables.new.left ≡ None) }
-    ensures room { OnOk result (array_vec_len output.new.bytes + 256 ≤ 16384) }
-    ensures part { OnErr result ((replies : List Reply) × (last : State) × Turns tables.old replies last
-        × Breaks (K.written sink.old) (K.written sink.new) output.old.bytes.items (text_of replies)) }
-    ensures cause { HasCause (K.faults sink.old) (K.faults sink.new) result }
+/// Says one line and nothing else.
+fn say_alone(reply: &mut Reply, line: &ReplyLine) -> Next
+    ensures done { result ≡ Next.Done }
+    ensures text { reply.new.text.items ≡ reply_text (reply_of line.now) }
+    ensures errors { reply.new.has_error ≡ is_error (reply_of line.now) }
 {
-    output.make_room(sink)?;
-    while tables.is_open() {
-        tables.turn(output);
-        output.make_room(sink)?;
-    }
-    Ok(())
+    reply.clear();
+    reply.say(line);
+    Next::Done
 }
 
-/// The immediate replies of what a line asks for. The only error is want of memory, and then nothing
-/// changed.
-fn begin(tables: &mut Tables, output: &mut Output, asked: Asked) -> Result<(), AllocError>
-    requires idle { tables.old.left ≡ None }
-    requires room { array_vec_len output.old.bytes + 256 ≤ 16384 }
-    ensures ok { OnOk result ((replies : List Reply) × BeginsAsked tables.old asked replies tables.new
-        × Says output.old output.new replies) }
-    ensures err { OnErr result ((tables.new ≡ tables.old) × (output.new ≡ output.old)) }
+/// The immediate replies of what a line asks for.
+fn begin<E: Machine>(engine: &mut E, asked: Asked, reply: &mut Reply) -> Next
+    requires idle { E.pending engine.old ≡ false }
+    ensures step { (lines : List ReplyOf) × Says reply.new (E.faults engine.old) (E.faults engine.new) lines
+        × Moves E.stands (E.setting engine.old).told engine.old engine.new (BeginsAsked asked) lines }
+    ensures more { (result ≡ Next.More) ↔ (E.pending engine.new ≡ true) }
+    ensures setting { E.setting engine.new ≡ E.setting engine.old }
+    ensures later { NoneFell (E.faults engine.old) (E.faults engine.new) }
 {
     match asked {
-        Asked::Nothing => Ok(()),
-        Asked::SyntaxError => {
-            output.say(&ReplyLine::SyntaxError);
-            Ok(())
+        Asked::Nothing => {
+            reply.clear();
+            Next::Done
         }
-        Asked::Statement(statement) => tables.begin(statement, output),
+        Asked::SyntaxError => say_alone(reply, &ReplyLine::SyntaxError),
+        Asked::TooLong => say_alone(reply, &ReplyLine::LineTooLong),
+        Asked::Statement(statement) => engine.command(statement, reply),
     }
 }
 
-/// Answers a line, of which `kept` has the first 4,097 bytes.
-fn answer_line<K: Sink>(
-    alloc: Global,
-    tables: &mut Tables,
-    output: &mut Output,
-    tokens: &mut Vec<Token>,
-    kept: &[u8],
-    ended: bool,
-    sink: &mut K,
-) -> Result<(), Stop>
-    requires idle { tables.old.left ≡ None }
-    requires room { array_vec_len output.old.bytes + 256 ≤ 16384 }
-    ensures ok { OnOk result ((whole : List ℕ) → kept.now ≡ take 4097 whole → AnswersLine (K.written sink.old) (K.written sink.new)
-        tables.old tables.new output.old output.new (record { bytes = whole; ended = ended })) }
-    ensures idle { OnOk result (tables.new.left ≡ None) }
-    ensures room { OnOk result (array_vec_len output.new.bytes + 256 ≤ 16384) }
-    ensures stop { IfErr result (λ stop. (whole : List ℕ) → kept.now ≡ take 4097 whole → StopsIn (K.written sink.old) (K.written sink.new)
-        tables.old output.old output.new (record { bytes = whole; ended = ended }) stop) }
-    ensures later { K.faults sink.old ≤ K.faults sink.new }
-    ensures cause { IfErr result (λ stop. stop ≡ Stop.SinkFault → Rose (K.faults sink.old) (K.faults sink.new)) }
+/// Runs the statement at work to its end, where the sink failed. Its lines are dropped.
+fn run_out<E: Machine>(engine: &mut E, next: Next, reply: &mut Reply)
+    requires more { (next ≡ Next.More) ↔ (E.pending engine.old ≡ true) }
+    ensures turns { (lines : List ReplyOf) × Counted (E.faults engine.old) (E.faults engine.new) lines
+        × Moves E.stands (E.setting engine.old).told engine.old engine.new Turns lines }
+    ensures idle { E.pending engine.new ≡ false }
+    ensures setting { E.setting engine.new ≡ E.setting engine.old }
+    ensures later { NoneFell (E.faults engine.old) (E.faults engine.new) }
 {
-    let Ok(asked) = read_line(alloc, kept, ended, tokens) else {
-        return Err(Stop::NoMemory);
-    };
-    let Ok(()) = begin(tables, output, asked) else {
-        return Err(Stop::NoMemory);
-    };
-    let Ok(()) = give_turns(tables, output, sink) else {
-        return Err(Stop::SinkFault);
-    };
+    let mut left = next;
+    while let Next::More = left {
+        left = engine.more(reply);
+    }
+}
+
+/// Gives the turns of the statement at work to its end. Where the sink fails, what was written is a
+/// front of what waited and of the lines of all turns.
+fn give_turns<E: Machine, K: Sink>(
+    engine: &mut E,
+    next: Next,
+    reply: &mut Reply,
+    output: &mut Output,
+    sink: &mut K,
+) -> Result<(), Failed>
+    requires more { (next ≡ Next.More) ↔ (E.pending engine.old ≡ true) }
+    ensures ok { OnOk result ((lines : List ReplyOf)
+        × Tells (seen (K.written sink.old) (E.faults engine.old)) (seen (K.written sink.new) (E.faults engine.new)) output.old output.new lines
+        × Moves E.stands (E.setting engine.old).told engine.old engine.new Turns lines) }
+    ensures part { OnErr result ((lines : List ReplyOf)
+        × TellsInPart (seen (K.written sink.old) (E.faults engine.old)) (seen (K.written sink.new) (E.faults engine.new)) output.old.bytes.items lines
+        × Moves E.stands (E.setting engine.old).told engine.old engine.new Turns lines) }
+    ensures idle { E.pending engine.new ≡ false }
+    ensures setting { E.setting engine.new ≡ E.setting engine.old }
+    ensures later { NoneFell (E.faults engine.old) (E.faults engine.new) }
+    ensures cause { HasCause (K.faults sink.old) (K.faults sink.new) result }
+{
+    let mut left = next;
+    while let Next::More = left {
+        left = engine.more(reply);
+        if let Err(Failed) = output.put(reply, sink) {
+            run_out(engine, left, reply);
+            return Err(Failed);
+        }
+    }
     Ok(())
 }
 
 /// The bytes of a line that are kept: one more than it may have, so that a longer one is known.
 const KEPT_BYTES: usize = 4097;
 
-/// The tables, the reply lines that wait, and the front of the line at hand. `tokens` is room for the
-/// tokens of a line.
+/// The reply lines that wait, and the front of the line at hand. `reply` and `tokens` are room for the
+/// lines of a step and for the tokens of a line.
 #[derive(Drop)]
 pub struct Session {
-    alloc: Global,
-    tables: Tables,
     output: Output,
-    tokens: Vec<Token>,
+    reply: Reply,
+    tokens: Tokens,
     line: ArrayVec<u8, KEPT_BYTES>,
 }
 
 impl Session {
-    ghost use Rattle.std.specs.Prelude.{◌≡◌, ◌≤◌, ◌∷◌, [], ◌++◌, ℕ, List, Option, ◌⊎◌, OnOk, OnErr, IfOk, IfErr};
+    ghost use Rattle.std.specs.Prelude.{◌≡◌, ◌≤◌, ◌∷◌, [], ◌++◌, ℕ, List, true, false, take, OnOk, OnErr};
     ghost use Rattle.hg_io.specs.Count.{Rose, HasCause};
     ghost use Rattle.hg_machine.specs.Script.{Line, whole_lines, lines_of};
-    ghost use Rattle.hg_serve.specs.Serving.{IsReady, Serves, Halts, Answers, Closes};
+    ghost use Rattle.hg_serve.specs.Output.{Seen, seen, NoneFell, Passes, Breaks};
+    ghost use Rattle.hg_serve.specs.Session.{AnswersLine, BreaksInLine};
+    ghost use Rattle.hg_serve.specs.Serving.{Serves, Halts, Finishes, Closes};
 
-    pub fn new(alloc: Global) -> Session
-        ensures ready { IsReady result }
-        ensures start { (w : Option (List ℕ)) → Serves w w result [] }
+    pub fn new() -> Session
+        ensures empty { result.output.bytes.items ≡ [] }
+        ensures errors { result.output.errors ≡ false }
+        ensures line { result.line.items ≡ [] }
     {
         Session {
-            alloc,
-            tables: Tables::new(alloc),
             output: Output::new(),
-            tokens: Vec::new(alloc),
+            reply: Reply::new(),
+            tokens: ArrayVec::new(),
             line: ArrayVec::new(),
         }
     }
 
+    /// Answers the line at hand.
+    fn answer_line<E: Machine, K: Sink>(
+        &mut self,
+        ended: bool,
+        engine: &mut E,
+        sink: &mut K,
+    ) -> Result<(), Failed>
+        requires idle { E.pending engine.old ≡ false }
+        ensures ok { OnOk result ((whole : List ℕ) → self.old.line.items ≡ take 4097 whole
+            → AnswersLine E.stands (E.setting engine.old).told engine.old engine.new (seen (K.written sink.old) (E.faults engine.old))
+            (seen (K.written sink.new) (E.faults engine.new)) self.old.output self.new.output (record { bytes = whole; ended = ended })) }
+        ensures part { OnErr result ((whole : List ℕ) → self.old.line.items ≡ take 4097 whole
+            → BreaksInLine E.stands (E.setting engine.old).told engine.old engine.new (seen (K.written sink.old) (E.faults engine.old))
+            (seen (K.written sink.new) (E.faults engine.new)) self.old.output.bytes.items (record { bytes = whole; ended = ended })) }
+        ensures idle { E.pending engine.new ≡ false }
+        ensures setting { E.setting engine.new ≡ E.setting engine.old }
+        ensures later { NoneFell (E.faults engine.old) (E.faults engine.new) }
+        ensures cause { HasCause (K.faults sink.old) (K.faults sink.new) result }
+    {
+        let asked = read_line(self.line.as_slice(), ended, &mut self.tokens);
+        let next = begin(engine, asked, &mut self.reply);
+        if let Err(Failed) = self.output.put(&self.reply, sink) {
+            run_out(engine, next, &mut self.reply);
+            return Err(Failed);
+        }
+        give_turns(engine, next, &mut self.reply, &mut self.output, sink)?;
+        Ok(())
+    }
+
     /// Takes one byte of the script, and answers the line that it ends.
-    fn take_byte<K: Sink>(&mut self, b: u8, sink: &mut K) -> Result<(), Stop>
-        requires { IsReady self.old }
-        ensures ready { OnOk result (IsReady self.new) }
-        ensures ok { OnOk result ((w : Option (List ℕ)) (taken : List ℕ) → Serves w (K.written sink.old) self.old taken
-            → Serves w (K.written sink.new) self.new (taken ++ b ∷ [])) }
-        ensures stop { IfErr result (λ stop. (w : Option (List ℕ)) (taken : List ℕ) → Serves w (K.written sink.old) self.old taken
-            → Halts w (K.written sink.new) self.new.output.bytes.items (whole_lines (taken ++ b ∷ [])) stop) }
-        ensures later { K.faults sink.old ≤ K.faults sink.new }
-        ensures cause { IfErr result (λ stop. stop ≡ Stop.SinkFault → Rose (K.faults sink.old) (K.faults sink.new)) }
+    fn take_byte<E: Machine, K: Sink>(
+        &mut self,
+        b: u8,
+        engine: &mut E,
+        sink: &mut K,
+    ) -> Result<(), Failed>
+        requires idle { E.pending engine.old ≡ false }
+        ensures ok { OnOk result ((first : E) (w : Seen) (taken : List ℕ)
+            → Serves E.stands (E.setting engine.old).told first engine.old w (seen (K.written sink.old) (E.faults engine.old)) self.old taken
+            → Serves E.stands (E.setting engine.old).told first engine.new w (seen (K.written sink.new) (E.faults engine.new)) self.new (taken ++ b ∷ [])) }
+        ensures part { OnErr result ((first : E) (w : Seen) (taken : List ℕ)
+            → Serves E.stands (E.setting engine.old).told first engine.old w (seen (K.written sink.old) (E.faults engine.old)) self.old taken
+            → Halts E.stands (E.setting engine.old).told first engine.new w (seen (K.written sink.new) (E.faults engine.new)) (whole_lines (taken ++ b ∷ []))) }
+        ensures idle { E.pending engine.new ≡ false }
+        ensures setting { E.setting engine.new ≡ E.setting engine.old }
+        ensures later { NoneFell (E.faults engine.old) (E.faults engine.new) }
+        ensures cause { HasCause (K.faults sink.old) (K.faults sink.new) result }
     {
         if b != b'\n' {
             if self.line.len() < KEPT_BYTES {
@@ -145,36 +182,35 @@ impl Session {
             }
             return Ok(());
         }
-        let answered = answer_line(
-            self.alloc,
-            &mut self.tables,
-            &mut self.output,
-            &mut self.tokens,
-            self.line.as_slice(),
-            true,
-            sink,
-        );
-        if let Err(stop) = answered {
-            return Err(stop);
+        if let Err(Failed) = self.answer_line(true, engine, sink) {
+            return Err(Failed);
         }
         self.line.clear();
         Ok(())
     }
 
     /// Takes bytes of the script, and answers the lines that they end.
-    pub fn feed<K: Sink>(&mut self, bytes: &[u8], sink: &mut K) -> Result<(), Stop>
-        requires { IsReady self.old }
-        ensures ready { OnOk result (IsReady self.new) }
-        ensures ok { OnOk result ((w : Option (List ℕ)) (taken : List ℕ) → Serves w (K.written sink.old) self.old taken
-            → Serves w (K.written sink.new) self.new (taken ++ bytes.now)) }
-        ensures stop { IfErr result (λ stop. (w : Option (List ℕ)) (taken : List ℕ) → Serves w (K.written sink.old) self.old taken
-            → Halts w (K.written sink.new) self.new.output.bytes.items (whole_lines (taken ++ bytes.now)) stop) }
-        ensures later { K.faults sink.old ≤ K.faults sink.new }
-        ensures cause { IfErr result (λ stop. stop ≡ Stop.SinkFault → Rose (K.faults sink.old) (K.faults sink.new)) }
+    pub fn feed<E: Machine, K: Sink>(
+        &mut self,
+        bytes: &[u8],
+        engine: &mut E,
+        sink: &mut K,
+    ) -> Result<(), Failed>
+        requires idle { E.pending engine.old ≡ false }
+        ensures ok { OnOk result ((first : E) (w : Seen) (taken : List ℕ)
+            → Serves E.stands (E.setting engine.old).told first engine.old w (seen (K.written sink.old) (E.faults engine.old)) self.old taken
+            → Serves E.stands (E.setting engine.old).told first engine.new w (seen (K.written sink.new) (E.faults engine.new)) self.new (taken ++ bytes.now)) }
+        ensures part { OnErr result ((first : E) (w : Seen) (taken : List ℕ)
+            → Serves E.stands (E.setting engine.old).told first engine.old w (seen (K.written sink.old) (E.faults engine.old)) self.old taken
+            → Halts E.stands (E.setting engine.old).told first engine.new w (seen (K.written sink.new) (E.faults engine.new)) (whole_lines (taken ++ bytes.now))) }
+        ensures idle { E.pending engine.new ≡ false }
+        ensures setting { E.setting engine.new ≡ E.setting engine.old }
+        ensures later { NoneFell (E.faults engine.old) (E.faults engine.new) }
+        ensures cause { HasCause (K.faults sink.old) (K.faults sink.new) result }
     {
         for b in bytes {
-            if let Err(stop) = self.take_byte(*b, sink) {
-                return Err(stop);
+            if let Err(Failed) = self.take_byte(*b, engine, sink) {
+                return Err(Failed);
             }
         }
         Ok(())
@@ -182,51 +218,20 @@ impl Session {
 
     /// Writes the reply lines that wait.
     pub fn flush<K: Sink>(&mut self, sink: &mut K) -> Result<(), Failed>
-        requires { IsReady self.old }
-        ensures ready { OnOk result (IsReady self.new) }
-        ensures ok { OnOk result ((w : Option (List ℕ)) (taken : List ℕ) → Serves w (K.written sink.old) self.old taken
-            → Serves w (K.written sink.new) self.new taken) }
+        ensures ok { OnOk result (Passes (K.written sink.old) (K.written sink.new) self.old.output.bytes.items [] []) }
         ensures empty { OnOk result (self.new.output.bytes.items ≡ []) }
-        ensures part { OnErr result ((w : Option (List ℕ)) (taken : List ℕ) → Serves w (K.written sink.old) self.old taken
-            → Closes w (K.written sink.new) (whole_lines taken) Status.SinkFault) }
+        ensures part { OnErr result (Breaks (K.written sink.old) (K.written sink.new) self.old.output.bytes.items []) }
+        ensures errors { self.new.output.errors ≡ self.old.output.errors }
+        ensures line { self.new.line ≡ self.old.line }
         ensures cause { HasCause (K.faults sink.old) (K.faults sink.new) result }
     {
         self.output.flush(sink)?;
         Ok(())
     }
 
-    /// Writes the reply lines that wait where memory was wanted.
-    fn give_up<K: Sink>(&mut self, sink: &mut K) -> Status
-        ensures kind { (result ≡ Status.SinkFault) ⊎ (result ≡ Status.NoMemory) }
-        ensures closes { (w : Option (List ℕ)) (lines : List Line)
-            → Halts w (K.written sink.old) self.old.output.bytes.items lines Stop.NoMemory → Closes w (K.written sink.new) lines result }
-        ensures later { K.faults sink.old ≤ K.faults sink.new }
-        ensures cause { result ≡ Status.SinkFault → Rose (K.faults sink.old) (K.faults sink.new) }
-    {
-        match self.output.flush(sink) {
-            Ok(()) => Status::NoMemory,
-            Err(_) => Status::SinkFault,
-        }
-    }
-
-    /// The status of a session that stopped.
-    pub fn stopped<K: Sink>(&mut self, stop: Stop, sink: &mut K) -> Status
-        ensures closes { (w : Option (List ℕ)) (lines : List Line)
-            → Halts w (K.written sink.old) self.old.output.bytes.items lines stop → Closes w (K.written sink.new) lines result }
-        ensures later { K.faults sink.old ≤ K.faults sink.new }
-        ensures kind { (result ≡ Status.SinkFault) ⊎ (result ≡ Status.NoMemory) }
-        ensures cause { result ≡ Status.SinkFault → (stop ≡ Stop.SinkFault) ⊎ Rose (K.faults sink.old) (K.faults sink.new) }
-    {
-        match stop {
-            Stop::SinkFault => Status::SinkFault,
-            Stop::NoMemory => self.give_up(sink),
-        }
-    }
-
     /// Writes the reply lines that wait at the end of the script.
     fn finish<K: Sink>(&mut self, sink: &mut K) -> Status
-        ensures closes { (w : Option (List ℕ)) (lines : List Line)
-            → Answers w (K.written sink.old) self.old.output lines → Closes w (K.written sink.new) lines result }
+        ensures finishes { Finishes (K.written sink.old) (K.written sink.new) self.old.output result }
         ensures later { K.faults sink.old ≤ K.faults sink.new }
         ensures cause { result ≡ Status.SinkFault → Rose (K.faults sink.old) (K.faults sink.new) }
     {
@@ -241,28 +246,23 @@ impl Session {
     }
 
     /// Answers a last line that no line feed ends, and closes the session.
-    pub fn end<K: Sink>(&mut self, sink: &mut K) -> Status
-        requires { IsReady self.old }
-        ensures closes { (w : Option (List ℕ)) (taken : List ℕ) → Serves w (K.written sink.old) self.old taken
-            → Closes w (K.written sink.new) (lines_of taken) result }
-        ensures later { K.faults sink.old ≤ K.faults sink.new }
+    pub fn end<E: Machine, K: Sink>(&mut self, engine: &mut E, sink: &mut K) -> Status
+        requires idle { E.pending engine.old ≡ false }
+        ensures closes { (first : E) (w : Seen) (taken : List ℕ)
+            → Serves E.stands (E.setting engine.old).told first engine.old w (seen (K.written sink.old) (E.faults engine.old)) self.old taken
+            → Closes E.stands (E.setting engine.old).told first engine.new w (seen (K.written sink.new) (E.faults engine.new)) (lines_of taken) result }
+        ensures idle { E.pending engine.new ≡ false }
+        ensures setting { E.setting engine.new ≡ E.setting engine.old }
+        ensures later { NoneFell (E.faults engine.old) (E.faults engine.new) }
+        ensures sink_later { K.faults sink.old ≤ K.faults sink.new }
         ensures cause { result ≡ Status.SinkFault → Rose (K.faults sink.old) (K.faults sink.new) }
     {
         if self.line.is_empty() {
             return self.finish(sink);
         }
-        let answered = answer_line(
-            self.alloc,
-            &mut self.tables,
-            &mut self.output,
-            &mut self.tokens,
-            self.line.as_slice(),
-            false,
-            sink,
-        );
-        match answered {
-            Ok(()) => self.finish(sink),
-            Err(stop) => self.stopped(stop, sink),
+        if let Err(Failed) = self.answer_line(false, engine, sink) {
+            return Status::SinkFault;
         }
+        self.finish(sink)
     }
 }

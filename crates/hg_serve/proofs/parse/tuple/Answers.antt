@@ -1,35 +1,31 @@
-use Rattle.std.proofs.Common.{◌∷◌, ap, ◌∙◌, ◌≤◌, length, arith}
+use Rattle.std.proofs.Common.{◌∷◌, ◌∙◌}
 use Rattle.hg_serve.proofs.Commands.{close, no_comma-close, tuple-inner, tuple-few, tuple-stands}
 use Rattle.hg_serve.proofs.parse.tuple.Goals as goal
 
-pub returns-in_default-2-clause-complete : goal.returns-in_default-2-clause-complete
-returns-in_default-2-clause-complete c = λ x rest s.
-    let read = rw c.in_default-2.is at (c.in_ok-cells.ensures {u = tt}) in
-    read.complete x (close ∷ rest) (tuple-inner _ _ _ _ (c.in-Some.ensures {u = tt}).sound s) (no_comma-close rest)
+pub returns-in_err-cells-clause-complete : goal.returns-in_err-cells-clause-complete
+returns-in_err-cells-clause-complete c = λ x rest s.
+    absurd ((c.in_err-cells.ensures {u = tt}).complete x (close ∷ rest) (tuple-inner _ _ _ _ (c.in_ok-inner.ensures {u = tt}).sound s) (no_comma-close rest)
+    (tuple-few _ rest x s))
 
-pub returns-then-len-gt16-clause-complete : goal.returns-then-len-gt16-clause-complete
-returns-then-len-gt16-clause-complete c = λ x rest s.
-    let read = rw c.in-Some-2.is at (c.in_ok-cells.ensures {u = tt}) in
-    let same = read.complete x (close ∷ rest) (tuple-inner _ _ _ _ (c.in-Some.ensures {u = tt}).sound s) (no_comma-close rest) in
-    let few : length x ≤ 16 = tuple-few _ rest x s in
-    absurd (omega (arith, ap length same.0, few))
-
-pub returns-in_default-sign-clause-complete : goal.returns-in_default-sign-clause-complete
-returns-in_default-sign-clause-complete c = λ x rest s.
-    let read = rw c.in-Some-2.is at (c.in_ok-cells.ensures {u = tt}) in
-    let same = read.complete x (close ∷ rest) (tuple-inner _ _ _ _ (c.in-Some.ensures {u = tt}).sound s) (no_comma-close rest) in
-    (c.in_default-sign.ensures {u = tt}).complete rest same.1
+pub returns-in_err-rest-clause-complete : goal.returns-in_err-rest-clause-complete
+returns-in_err-rest-clause-complete c = λ x rest s.
+    let same =
+    (c.in_ok-cells.ensures {u = tt}).complete x (close ∷ rest) (tuple-inner _ _ _ _ (c.in_ok-inner.ensures {u = tt}).sound s) (no_comma-close rest)
+    (tuple-few _ rest x s)
+    in
+    absurd ((c.in_err-rest.ensures {u = tt}).complete rest same.1)
 
 pub returns-clause-sound : goal.returns-clause-sound
 returns-clause-sound c =
-    let read = rw c.in-Some-2.is at (c.in_ok-cells.ensures {u = tt}) in
-    let few : length c.in-Some-2.cells.items ≤ 16 = omega arith in
+    let read = c.in_ok-cells.ensures {u = tt} in
     rw c.new.ensures
-    (tuple-stands _ c.in-Some.inner.now c.in-Some-2.rest.now _ _ (c.in-Some.ensures {u = tt}).sound read.sound
-    (c.in-Some-sign.ensures {u = tt}).sound few)
+    (tuple-stands _ c.in_ok-inner.inner.now c.in_ok-cells.rest.now _ _ (c.in_ok-inner.ensures {u = tt}).sound read.sound
+    (c.in_ok-rest.ensures {u = tt}).sound read.few)
 
 pub returns-clause-complete : goal.returns-clause-complete
 returns-clause-complete c = λ x rest s.
-    let read = rw c.in-Some-2.is at (c.in_ok-cells.ensures {u = tt}) in
-    let same = read.complete x (close ∷ rest) (tuple-inner _ _ _ _ (c.in-Some.ensures {u = tt}).sound s) (no_comma-close rest) in
-    (c.new.ensures ∙ same.0, (c.in-Some-sign.ensures {u = tt}).complete rest same.1)
+    let same =
+    (c.in_ok-cells.ensures {u = tt}).complete x (close ∷ rest) (tuple-inner _ _ _ _ (c.in_ok-inner.ensures {u = tt}).sound s) (no_comma-close rest)
+    (tuple-few _ rest x s)
+    in
+    (c.new.ensures ∙ same.0, (c.in_ok-rest.ensures {u = tt}).complete rest same.1)

@@ -1,17 +1,22 @@
-use Rattle.std.proofs.Common.{◌≡◌, ◌≤◌, ◌-◌, ◌^◌, ℕ, List, length}
+use Rattle.std.proofs.Common.{◌≡◌, ◌≤◌, ◌-◌, ◌^◌, ℕ, List, length, false}
 use Rattle.hg_machine.specs.Outcome.{Took}
 use Rattle.hg_serve.specs.Ending.{outside}
-use Rattle.hg_serve.specs.Serving.{IsReady, Serves}
+use Rattle.hg_serve.specs.Output.{seen, NoneFell}
+use Rattle.hg_serve.specs.Serving.{Serves}
 use Rattle.hg_serve.proofs.serve.serve.Given as goal
 
 abbrev pub invariant-loop-taken : goal.invariant-loop-taken
 invariant-loop-taken g l = record {
   served : (bytes : List ℕ)
-      × Took (outside (g.S.Source.left l.fn.source) (g.S.Source.given l.fn.source) (g.K.Sink.written l.fn.sink))
-      (outside (g.S.Source.left l.source) (g.S.Source.given l.source) (g.K.Sink.written l.sink)) bytes
-      × (length bytes ≡ l.taken) × Serves (g.K.Sink.written l.fn.sink) (g.K.Sink.written l.sink) l.session bytes;
-  ready : IsReady l.session;
+      × Took (outside (g.S.Source.left l.fn.source) (g.S.Source.given l.fn.source) (g.K.Sink.written l.fn.sink) (g.E.Machine.faults l.fn.engine))
+      (outside (g.S.Source.left l.source) (g.S.Source.given l.source) (g.K.Sink.written l.sink) (g.E.Machine.faults l.engine)) bytes
+      × (length bytes ≡ l.taken)
+      × Serves g.E.Machine.stands (g.E.Machine.setting l.fn.engine).told l.fn.engine l.engine
+      (seen (g.K.Sink.written l.fn.sink) (g.E.Machine.faults l.fn.engine)) (seen (g.K.Sink.written l.sink) (g.E.Machine.faults l.engine)) l.session bytes;
+  idle : g.E.Machine.pending l.engine ≡ false;
+  same : g.E.Machine.setting l.engine ≡ g.E.Machine.setting l.fn.engine;
   within : l.taken ≤ 2 ^ 32;
+  later : NoneFell (g.E.Machine.faults l.fn.engine) (g.E.Machine.faults l.engine);
   source_later : g.S.Source.faults l.fn.source ≤ g.S.Source.faults l.source;
   sink_later : g.K.Sink.faults l.fn.sink ≤ g.K.Sink.faults l.sink;
 }

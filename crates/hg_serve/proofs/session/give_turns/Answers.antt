@@ -1,42 +1,54 @@
-use Rattle.std.proofs.Common.{[], ◌∷◌, ◌++◌, refl, arith, append-nil}
-use Rattle.hg_serve.proofs.Telling.{tells-none, tells-says, tells-then}
-use Rattle.hg_serve.proofs.Running.{on_err, breaks-within, some-push, some-ends, none-left}
+use Rattle.std.proofs.Common.{[], ◌++◌, refl, ap, ◌∙◌, arith}
+use Rattle.hg_machine.specs.Outcome.{Setting}
+use Rattle.hg_serve.proofs.Telling.{tells-none, tells-then, tells-put, part-then, part-put, part-more, fell-none, fell-then}
+use Rattle.hg_serve.proofs.Moving.{at-rest, moves-no_turn, moves-turn, moves-turns, moves-ends}
 use Rattle.hg_serve.proofs.session.give_turns.Goals as goal
 
-pub returns-in_err-make_room-clause-part : goal.returns-in_err-make_room-clause-part
-returns-in_err-make_room-clause-part g c =
-    on_err c.from_residual.result
-    (breaks-within _ _ _ c.args.tables.now c.args.tables.now c.args.output.now c.args.output.now [] refl (tells-none _ _)
-    (c.in_err-make_room.ensures {u = tt}).part)
+pub loop-left-init : goal.loop-left-init
+loop-left-init g c = record {
+  given = ([], tells-none _ _, moves-no_turn _ _ _);
+  more = c.requires.more;
+  same = refl;
+  later = fell-none _;
+  sink_later = omega arith;
+}
 
-pub loop-tables-preserved : goal.loop-tables-preserved
-loop-tables-preserved g c =
-    let so_far = c.loop-tables.invariant.given in
-    let turn = c.turn.ensures.turn in
-    let room = c.in_ok-make_room-2.ensures {u = tt} in
+pub loop-left-preserved : goal.loop-left-preserved
+loop-left-preserved g c =
+    let so_far = c.loop-left.invariant in
+    let given = so_far.given in
+    let step = c.more-left.ensures.step in
+    let put = c.in_default-put.ensures {u = tt} in
     record {
       given = (
-        so_far.0 ++ turn.0 ∷ [],
-        some-push _ _ _ so_far.0 turn.0 so_far.1 turn.1,
-        rw (← append-nil (so_far.0 ++ turn.0 ∷ []))
-            (tells-then _ _ _ _ _ _ (so_far.0 ++ turn.0 ∷ []) []
-            (tells-then _ _ _ _ _ _ so_far.0 (turn.0 ∷ []) so_far.2 (tells-says _ _ _ _ turn.2)) room.ok),
+        given.0 ++ step.0,
+        tells-then _ _ _ _ c.loop-left.output _ given.0 step.0 given.1 (tells-put _ _ _ _ c.loop-left.output _ _ step.0 step.1 put.ok put.errors),
+        moves-turn _ _ _ _ _ _ given.0 step.0 (ap (λ (s : Setting). s.told) so_far.same) given.2 step.2,
       );
-      room = room.room;
-      later = omega (arith, c.loop-tables.invariant.later, room.cause.later);
+      more = c.more-left.ensures.more;
+      same = c.more-left.ensures.setting ∙ so_far.same;
+      later = fell-then _ _ _ so_far.later (record { main = c.more-left.ensures.later.0; temp = c.more-left.ensures.later.1 });
+      sink_later = omega (arith, so_far.sink_later, put.cause.later);
     }
 
-pub returns-in_err-make_room-2-clause-part : goal.returns-in_err-make_room-2-clause-part
-returns-in_err-make_room-2-clause-part g c =
-    let so_far = c.loop-tables.invariant.given in
-    let turn = c.turn.ensures.turn in
-    on_err c.from_residual-in_err-make_room-2.result
-    (breaks-within _ _ _ c.args.tables.now c.turn.new.self c.args.output.now c.turn.new.output (so_far.0 ++ turn.0 ∷ [])
-    (some-push _ _ _ so_far.0 turn.0 so_far.1 turn.1)
-    (tells-then _ _ _ _ _ _ so_far.0 (turn.0 ∷ []) so_far.2 (tells-says _ _ _ _ turn.2))
-    (c.in_err-make_room-2.ensures {u = tt}).part)
+pub returns-in-Err-clause-part : goal.returns-in-Err-clause-part
+returns-in-Err-clause-part g c =
+    let so_far = c.loop-left.invariant in
+    let given = so_far.given in
+    let step = c.more-left.ensures.step in
+    let broke = c.in-Err.ensures {u = tt} in
+    let left = c.run_out.ensures.turns in (
+      (given.0 ++ step.0) ++ left.0,
+      part-more _ _ _ _ _ _ (given.0 ++ step.0) left.0
+          (part-then _ _ _ c.args.output.now c.loop-left.output given.0 step.0 given.1 (part-put _ _ _ _ _ _ step.0 step.1 broke.part)) left.1,
+      moves-turns _ _ _ _ _ _ (given.0 ++ step.0) left.0 (ap (λ (s : Setting). s.told) (c.more-left.ensures.setting ∙ so_far.same))
+          (moves-turn _ _ _ _ _ _ given.0 step.0 (ap (λ (s : Setting). s.told) so_far.same) given.2 step.2) left.2,
+    )
 
 pub returns-clause-ok : goal.returns-clause-ok
 returns-clause-ok g c =
-    let so_far = c.loop-tables.invariant.given in
-    (so_far.0, some-ends _ _ so_far.0 so_far.1 (none-left _ (c.loop-tables-test.ensures {u = tt})), so_far.2)
+    let given = c.loop-left.invariant.given in (
+      given.0,
+      given.1,
+      moves-ends _ _ _ _ given.0 _ (at-rest _ _ c.loop-left.invariant.more.1 c.in_default.not-More) (g.met.E.Machine.pends c.loop-left.engine) given.2,
+    )

@@ -1,18 +1,21 @@
-use Rattle.std.proofs.Common.{◌+◌, ◌≤◌, List}
-use Rattle.arrayvec.specs.ArrayVec.{array_vec_len}
+use Rattle.std.proofs.Common.{◌≡◌, ◌≤◌, ◌↔◌, List, true}
 use Rattle.hg_machine.specs.Reply.{Reply}
-use Rattle.hg_serve.specs.Output.{Tells}
-use Rattle.hg_serve.specs.Tables.{turns_left}
+use Rattle.hg_reply.specs.declared.machine.Next.TheVariants.{More}
+use Rattle.hg_reply.specs.Steps.{Moves}
+use Rattle.hg_serve.specs.Output.{seen, NoneFell, Tells}
 use Rattle.hg_serve.proofs.Running.{SomeTurns}
 use Rattle.hg_serve.proofs.session.give_turns.Given as goal
 
-abbrev pub invariant-loop-tables : goal.invariant-loop-tables
-invariant-loop-tables g l = record {
-  given : (replies : List Reply) × SomeTurns l.fn.tables replies l.tables
-      × Tells (g.K.Sink.written l.fn.sink) (g.K.Sink.written l.sink) l.fn.output l.output replies;
-  room : array_vec_len l.output.bytes + 256 ≤ 16384;
-  later : g.K.Sink.faults l.fn.sink ≤ g.K.Sink.faults l.sink;
+abbrev pub invariant-loop-left : goal.invariant-loop-left
+invariant-loop-left g l = record {
+  given : (lines : List Reply)
+      × Tells (seen (g.K.Sink.written l.fn.sink) (g.E.Machine.faults l.fn.engine)) (seen (g.K.Sink.written l.sink) (g.E.Machine.faults l.engine)) l.fn.output l.output lines
+      × Moves g.E.Machine.stands (g.E.Machine.setting l.fn.engine).told l.fn.engine l.engine SomeTurns lines;
+  more : (l.left ≡ More) ↔ (g.E.Machine.pending l.engine ≡ true);
+  same : g.E.Machine.setting l.engine ≡ g.E.Machine.setting l.fn.engine;
+  later : NoneFell (g.E.Machine.faults l.fn.engine) (g.E.Machine.faults l.engine);
+  sink_later : g.K.Sink.faults l.fn.sink ≤ g.K.Sink.faults l.sink;
 }
 
-abbrev pub decreases-loop-tables : goal.decreases-loop-tables
-decreases-loop-tables g l = turns_left l.tables.left
+abbrev pub decreases-loop-left : goal.decreases-loop-left
+decreases-loop-left g l = g.E.Machine.turns l.engine

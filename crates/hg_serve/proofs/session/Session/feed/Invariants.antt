@@ -1,11 +1,15 @@
-use Rattle.std.proofs.Common.{◌≤◌, ◌++◌, ℕ, List, Option, take}
-use Rattle.hg_serve.specs.Serving.{IsReady, Serves}
+use Rattle.std.proofs.Common.{◌≡◌, ◌≤◌, ◌++◌, List, ℕ, take, false}
+use Rattle.hg_serve.specs.Output.{Seen, seen, NoneFell}
+use Rattle.hg_serve.specs.Serving.{Serves}
 use Rattle.hg_serve.proofs.session.Session.feed.Given as goal
 
 abbrev pub invariant-loop-b : goal.invariant-loop-b
 invariant-loop-b g l = record {
-  ready : IsReady l.self;
-  serves : (w : Option (List ℕ)) (taken : List ℕ) → Serves w (g.K.Sink.written l.fn.sink) l.fn.self taken
-      → Serves w (g.K.Sink.written l.sink) l.self (taken ++ take l.b-index l.bytes);
-  later : g.K.Sink.faults l.fn.sink ≤ g.K.Sink.faults l.sink;
+  idle : g.E.Machine.pending l.engine ≡ false;
+  same : g.E.Machine.setting l.engine ≡ g.E.Machine.setting l.fn.engine;
+  serves : (first : g.row.E.Denot) (w : Seen) (taken : List ℕ)
+      → Serves g.E.Machine.stands (g.E.Machine.setting l.fn.engine).told first l.fn.engine w (seen (g.K.Sink.written l.fn.sink) (g.E.Machine.faults l.fn.engine)) l.fn.self taken
+      → Serves g.E.Machine.stands (g.E.Machine.setting l.fn.engine).told first l.engine w (seen (g.K.Sink.written l.sink) (g.E.Machine.faults l.engine)) l.self (taken ++ take l.b-index l.bytes);
+  later : NoneFell (g.E.Machine.faults l.fn.engine) (g.E.Machine.faults l.engine);
+  sink_later : g.K.Sink.faults l.fn.sink ≤ g.K.Sink.faults l.sink;
 }

@@ -1,23 +1,23 @@
-use Rattle.std.proofs.Common.{◌≤◌, ◌<◌, refl, length, arith, ◌∙◌}
+use Rattle.std.proofs.Common.{◌≤◌, ◌<◌, refl, length, arith}
 use Rattle.hg_serve.proofs.ServeLemmas.{serves-kept, serves-full, serves-line, halts-line}
 use Rattle.hg_serve.proofs.session.Session.take_byte.Goals as goal
 
 pub returns-then-len-lt-KEPT_BYTES-clause-ok : goal.returns-then-len-lt-KEPT_BYTES-clause-ok
-returns-then-len-lt-KEPT_BYTES-clause-ok g c = λ w taken serves.
+returns-then-len-lt-KEPT_BYTES-clause-ok g c = λ first w taken serves.
     let room : length c.args.self.now.line.items < 4097 = omega arith in
-    serves-kept w _ _ _ taken c.args.b serves c.if-b-ne10.true refl refl c.push.ensures.items room
+    serves-kept _ _ first _ w _ c.args.self.now _ taken c.args.b serves c.if-b-ne10.true refl c.push.ensures.items room
 
 pub returns-else-len-lt-KEPT_BYTES-clause-ok : goal.returns-else-len-lt-KEPT_BYTES-clause-ok
-returns-else-len-lt-KEPT_BYTES-clause-ok g c = λ w taken serves.
+returns-else-len-lt-KEPT_BYTES-clause-ok g c = λ first w taken serves.
     let full : 4097 ≤ length c.args.self.now.line.items = omega arith in
-    serves-full w _ _ _ taken c.args.b serves c.if-b-ne10.true refl refl refl full
+    serves-full _ _ first _ w _ c.args.self.now _ taken c.args.b serves c.if-b-ne10.true refl refl full
 
-pub returns-in-Err-clause-stop : goal.returns-in-Err-clause-stop
-returns-in-Err-clause-stop g c = λ w taken serves.
-    halts-line w _ _ c.args.self.now c.answer_line-answered.new.output taken c.args.b serves c.if-b-ne10.false _
-    ((c.in-Err.ensures {u = tt}).stop _ (c.as_slice.ensures.value ∙ serves.part))
+pub returns-in-Err-clause-part : goal.returns-in-Err-clause-part
+returns-in-Err-clause-part g c = λ first w taken serves.
+    halts-line _ _ first _ _ w _ _ c.args.self.now c.answer_line.new.self taken c.args.b serves c.if-b-ne10.false
+    ((c.in-Err.ensures {u = tt}).part _ serves.part)
 
 pub returns-clause-ok : goal.returns-clause-ok
-returns-clause-ok g c = λ w taken serves.
-    serves-line w _ _ c.args.self.now _ taken c.args.b serves c.if-b-ne10.false
-    ((c.in_default.ensures {u = tt}).ok _ (c.as_slice.ensures.value ∙ serves.part)) c.clear.ensures
+returns-clause-ok g c = λ first w taken serves.
+    serves-line _ _ first _ _ w _ _ c.args.self.now _ taken c.args.b serves c.if-b-ne10.false
+    ((c.in_default.ensures {u = tt}).ok _ serves.part) c.clear.ensures

@@ -1,0 +1,143 @@
+//! The bytes of every line, worked out by hand.
+use crate::{Reply, ReplyLine};
+use hg_base::{Check, File, PageId};
+use hg_model::Name;
+use std::process::Abort;
+
+fn says(rt: &impl Abort, reply: &mut Reply, line: ReplyLine, text: &str, is_error: bool) {
+    reply.clear();
+    reply.say(&line);
+    assert_eq!(rt; reply.text.as_slice(), text.as_bytes());
+    assert_eq!(rt; reply.has_error, is_error);
+}
+
+fn damage(file: File, no: u32, check: Check) -> ReplyLine<'static> {
+    ReplyLine::Damaged(PageId { file, no }, check)
+}
+
+#[test]
+fn every_line(rt: HostRuntime) {
+    let name = Name::parse("a23456789_123456789_123456789_").expect(&rt, "a name");
+    let mut r = Reply::new();
+    says(&rt, &mut r, ReplyLine::Created, "created\n", false);
+    says(&rt, &mut r, ReplyLine::Inserted(0), "rows 0\n", false);
+    says(&rt, &mut r, ReplyLine::Inserted(64), "rows 64\n", false);
+    says(&rt, &mut r, ReplyLine::End, "end *\n", false);
+    says(&rt, &mut r, ReplyLine::Closed, "closed *\n", false);
+    says(
+        &rt,
+        &mut r,
+        ReplyLine::SyntaxError,
+        "error 1 syntax\n",
+        true,
+    );
+    says(
+        &rt,
+        &mut r,
+        ReplyLine::LineTooLong,
+        "error 2 line too long\n",
+        true,
+    );
+    says(
+        &rt,
+        &mut r,
+        ReplyLine::UnknownTable(&name),
+        "error 3 unknown table a23456789_123456789_123456789_\n",
+        true,
+    );
+    says(
+        &rt,
+        &mut r,
+        ReplyLine::DeviceFault(File::Main),
+        "error 17 main device fault\n",
+        true,
+    );
+    says(
+        &rt,
+        &mut r,
+        ReplyLine::DeviceFault(File::Temp),
+        "error 18 temp device fault\n",
+        true,
+    );
+    says(
+        &rt,
+        &mut r,
+        ReplyLine::MainFull,
+        "error 19 main full\n",
+        true,
+    );
+    says(
+        &rt,
+        &mut r,
+        ReplyLine::StampsUsedUp,
+        "error 24 stamps used up\n",
+        true,
+    );
+}
+
+#[test]
+fn damaged_pages(rt: HostRuntime) {
+    let mut r = Reply::new();
+    let rt = &rt;
+    says(
+        rt,
+        &mut r,
+        damage(File::Main, 0, Check::Kind),
+        "error 21 damaged main 0 kind\n",
+        true,
+    );
+    says(
+        rt,
+        &mut r,
+        damage(File::Temp, 7, Check::Size),
+        "error 21 damaged temp 7 size\n",
+        true,
+    );
+    says(
+        rt,
+        &mut r,
+        damage(File::Main, 12, Check::Frame),
+        "error 21 damaged main 12 frame\n",
+        true,
+    );
+    says(
+        rt,
+        &mut r,
+        damage(File::Main, 3, Check::Link),
+        "error 21 damaged main 3 link\n",
+        true,
+    );
+    says(
+        rt,
+        &mut r,
+        damage(File::Main, 3, Check::Level),
+        "error 21 damaged main 3 level\n",
+        true,
+    );
+    says(
+        rt,
+        &mut r,
+        damage(File::Temp, 4_294_967_295, Check::Order),
+        "error 21 damaged temp 4294967295 order\n",
+        true,
+    );
+    says(
+        rt,
+        &mut r,
+        damage(File::Main, 1, Check::RowBytes),
+        "error 21 damaged main 1 row\n",
+        true,
+    );
+}
+
+#[test]
+fn lines_stand_behind_one_another(rt: HostRuntime) {
+    let mut reply = Reply::new();
+    reply.say(&ReplyLine::DeviceFault(File::Main));
+    reply.say(&ReplyLine::Closed);
+    assert_eq!(rt;
+        reply.text.as_slice(),
+        b"error 17 main device fault\nclosed *\n".as_slice()
+    );
+    assert!(rt; reply.has_error);
+}

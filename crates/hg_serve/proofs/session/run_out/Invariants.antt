@@ -1,0 +1,19 @@
+use Rattle.std.proofs.Common.{◌≡◌, ◌↔◌, List, true}
+use Rattle.hg_machine.specs.Reply.{Reply}
+use Rattle.hg_reply.specs.declared.machine.Next.TheVariants.{More}
+use Rattle.hg_reply.specs.Steps.{Moves}
+use Rattle.hg_serve.specs.Output.{Counted, NoneFell}
+use Rattle.hg_serve.proofs.Running.{SomeTurns}
+use Rattle.hg_serve.proofs.session.run_out.Given as goal
+
+abbrev pub invariant-loop-left : goal.invariant-loop-left
+invariant-loop-left g l = record {
+  given : (lines : List Reply) × Counted (g.E.Machine.faults l.fn.engine) (g.E.Machine.faults l.engine) lines
+      × Moves g.E.Machine.stands (g.E.Machine.setting l.fn.engine).told l.fn.engine l.engine SomeTurns lines;
+  more : (l.left ≡ More) ↔ (g.E.Machine.pending l.engine ≡ true);
+  same : g.E.Machine.setting l.engine ≡ g.E.Machine.setting l.fn.engine;
+  later : NoneFell (g.E.Machine.faults l.fn.engine) (g.E.Machine.faults l.engine);
+}
+
+abbrev pub decreases-loop-left : goal.decreases-loop-left
+decreases-loop-left g l = g.E.Machine.turns l.engine
