@@ -1,4 +1,4 @@
-//! The test of what `slow_select` asks of a SELECT and its tables.
+//! The test of what `slow_answer` asks of a SELECT and its tables.
 ghost use Rattle.std.specs.Prelude.{◌≡◌, ◌≤◌, ◌<◌, ◌+◌, ◌*◌, ◌^◌, ℕ, length, map, nat_lt, IsTrue, IfSome};
 ghost use Rattle.std.specs.List.{list_all};
 ghost use Rattle.hg_model.specs.Query.{query_of};
@@ -279,7 +279,7 @@ fn product_count(tables: &Vec<SlowTable>, froms: &[FromTable]) -> Option<usize>
     }
 }
 
-/// Whether `slow_select` may be asked: a statement that was read and bound over its tables passes, unless
+/// Whether `slow_answer` may be asked: a statement that was read and bound over its tables passes, unless
 /// the cross product of its tables has more than 2^30 rows.
 pub fn is_answerable(select: &Select, texts: &str, tables: &Vec<SlowTable>) -> bool
     ensures { IsTrue result → IsAnswerable (query_of select.now) texts.now (tables_of tables.now.items) }
