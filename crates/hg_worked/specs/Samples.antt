@@ -57,3 +57,6 @@ tables_17 = (record { name = codes "t"; columns = (record { name = codes "a"; ty
 
 abbrev pub tables_18 : List Table
 tables_18 = (record { name = codes "w"; columns = (record { name = codes "c0"; ty = Varchar 255; not_null = false } ∷ record { name = codes "c1"; ty = Varchar 255; not_null = false } ∷ record { name = codes "c2"; ty = Varchar 255; not_null = false } ∷ record { name = codes "c3"; ty = Varchar 255; not_null = false } ∷ record { name = codes "c4"; ty = Varchar 255; not_null = false } ∷ record { name = codes "c5"; ty = Varchar 255; not_null = false } ∷ record { name = codes "c6"; ty = Varchar 255; not_null = false } ∷ record { name = codes "c7"; ty = Varchar 255; not_null = false } ∷ record { name = codes "c8"; ty = Varchar 255; not_null = false } ∷ record { name = codes "c9"; ty = Varchar 255; not_null = false } ∷ record { name = codes "c10"; ty = Varchar 255; not_null = false } ∷ record { name = codes "c11"; ty = Varchar 255; not_null = false } ∷ record { name = codes "c12"; ty = Varchar 255; not_null = false } ∷ record { name = codes "c13"; ty = Varchar 255; not_null = false } ∷ record { name = codes "c14"; ty = Varchar 255; not_null = false } ∷ record { name = codes "c15"; ty = Varchar 255; not_null = false } ∷ []); rows = [] } ∷ [])
+
+abbrev pub tables_19 : List Table
+tables_19 = (record { name = codes "x"; columns = (record { name = codes "p"; ty = Varchar 200; not_null = false } ∷ record { name = codes "q"; ty = Varchar 200; not_null = false } ∷ record { name = codes "r"; ty = Varchar 200; not_null = false } ∷ record { name = codes "s"; ty = Varchar 255; not_null = false } ∷ record { name = codes "n"; ty = Integer; not_null = false } ∷ record { name = codes "m"; ty = Varchar 46; not_null = false } ∷ record { name = codes "o"; ty = Varchar 47; not_null = false } ∷ []); rows = [] } ∷ [])
