@@ -1,7 +1,7 @@
 -- What CREATE TABLE and CREATE INDEX make, and the first cause against them. SQL-92, section 11.7, for
 -- what PRIMARY KEY and UNIQUE mean. CREATE INDEX, the limits, the length of keys and the order of the
 -- causes are our own rules.
-use Rattle.std.specs.Prelude.{ℕ, suc, zero, Bool, true, false, List, [], ◌∷◌, ◌++◌, Option, Some, None, is_some, map, length, ◌+◌, ◌&&◌, ◌||◌, not, nat_lt, nat_le, if◌then◌else◌}
+use Rattle.std.specs.Prelude.{ℕ, suc, zero, Bool, true, false, List, [], ◌∷◌, Option, Some, None, is_some, map, length, ◌+◌, ◌&&◌, ◌||◌, nat_lt, nat_le, if◌then◌else◌}
 use Rattle.std.specs.List.{list_any, filter, count_by, sum_by}
 use Rattle.hg_model.specs.Binding.{cause_if, repeated_name}
 use Rattle.hg_model.specs.ChangeBinding.{table_cause, column_number}

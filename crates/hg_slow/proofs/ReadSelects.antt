@@ -1,6 +1,6 @@
 -- The parts of a SELECT, each read behind the one before, and the whole.
-use Rattle.std.proofs.Common.{◌≡◌, ℕ, refl, sym, ◌∙◌, Bool, true, false, cond, ◌&&◌, ◌||◌, not, List, [], ◌∷◌, ◌++◌, length, Option, Some, None, ap}
-use Rattle.std.specs.Prelude.{⊤, codes, IsTrue, nat_lt, nat_le}
+use Rattle.std.proofs.Common.{◌≡◌, ℕ, refl, ◌∙◌, Bool, true, false, ◌||◌, List, [], ◌∷◌, length, Option, None, ap}
+use Rattle.std.specs.Prelude.{⊤, nat_lt, nat_le}
 use Rattle.std.specs.List.{list_all, list_any}
 use Rattle.std.specs.Cmp.{first_so, second_so}
 use borrow.Author.Tests.{le-leb, ltb-false}
@@ -12,7 +12,7 @@ use Rattle.hg_model.specs.Reading as reading
 use Rattle.hg_model.specs.Statements.{InsertTree, CommandTree, SelectRows, OpenCursor}
 use Rattle.hg_model.specs.Tokens.{Token, Word, Digits, Letters, Sign, Spells, lower}
 use Rattle.hg_model.specs.Tokens as tokens
-use Rattle.hg_model.specs.Value.{is_chars, is_printable}
+use Rattle.hg_model.specs.Value.{is_printable}
 use Rattle.hg_model.specs.Width.{is_tree, text_fits}
 use Rattle.hg_model.specs.declared.trees.Count.{Count}
 use Rattle.hg_model.specs.declared.trees.ColRef.{ColRef}

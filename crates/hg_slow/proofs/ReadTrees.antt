@@ -1,17 +1,16 @@
 -- The tree of a SELECT that was read is well formed.
-use Rattle.std.proofs.Common.{◌≡◌, ℕ, suc, ◌+◌, ◌-◌, ◌<◌, ◌≤◌, refl, sym, ap, subst, ◌∙◌, arith, pos, Bool, true, false, cond, ◌&&◌, ◌||◌, not, List, [], ◌∷◌, ◌++◌, length, take, drop, Option, Some, None, length-append, length-drop, lt_of_lt_of_le, le_trans}
-use Rattle.std.specs.Prelude.{nat_lt, nat_le, ⊤, codes, IsTrue}
-use Rattle.std.specs.List.{list_all, list_any}
+use Rattle.std.proofs.Common.{◌≡◌, ℕ, suc, ◌+◌, ◌-◌, ◌<◌, ◌≤◌, refl, sym, ap, subst, ◌∙◌, arith, pos, Bool, true, false, ◌&&◌, List, [], ◌∷◌, ◌++◌, length, take, drop, Some, None, length-append, length-drop, lt_of_lt_of_le, le_trans}
+use Rattle.std.specs.Prelude.{nat_lt, nat_le, ⊤, codes}
+use Rattle.std.specs.List.{list_all}
 use Rattle.std.specs.Cmp.{first_so, second_so}
 use Rattle.std.proofs.lemmas.List.Folds.{list_all-append}
 use Rattle.std.proofs.lemmas.List.{take-append-le, drop-append-le, take_all, drop_all}
-use borrow.Author.Tests.{lt-ltb, le-leb, leb-true, ltb-true, ltb-false}
+use borrow.Author.Tests.{lt-ltb, le-leb, leb-true}
 use Rattle.hg_model.specs.Evaluation.{part_of}
 use Rattle.hg_model.specs.Grammar as grammar
 use Rattle.hg_model.specs.Grammar.{Read, nothing_read, with_node, next, Rule, Items, Expression, Whole, Clause, IsOutput, Outputs, Tables, GroupColumns, Group, IsKey, Keys, Order, Columns, IsSelect, IsCommand, IsLine}
-use Rattle.hg_model.specs.Query.{Query}
-use Rattle.hg_model.specs.Tokens.{Token, Word, Digits, Letters, Sign, Spells, number_of}
-use Rattle.hg_model.specs.Value.{is_chars, is_printable}
+use Rattle.hg_model.specs.Tokens.{Token, Word, Digits, Letters, Sign, number_of}
+use Rattle.hg_model.specs.Value.{is_chars}
 use Rattle.hg_model.specs.Width.{is_tree, is_tree_from, has_children_before, text_fits, literal_fits}
 use Rattle.hg_model.specs.declared.trees.Cmp.{Cmp}
 use Rattle.hg_model.specs.declared.trees.Cmp.TheVariants as cmp

@@ -1,11 +1,9 @@
 -- Each by computation.
-use Rattle.std.specs.Prelude.{◌≡◌, true, false, List, [], ◌∷◌, ◌++◌, Some, None, pos, codes, replicate}
-use Rattle.hg_model.specs.Creation.{Index, created_table, created_index, created_indexes, uniques_of, key_length, create_table_refusal, create_index_refusal}
+use Rattle.std.specs.Prelude.{◌≡◌, true, false, [], ◌∷◌, Some, None, codes, replicate}
+use Rattle.hg_model.specs.Creation.{created_table, created_index, created_indexes, uniques_of, key_length, create_table_refusal, create_index_refusal}
 use Rattle.hg_model.specs.Refusal.{UnknownTable, UnknownColumn, NameTaken, TooMany, KeyTooLong, DuplicateKey}
-use Rattle.hg_model.specs.Tables.{Table}
 use Rattle.hg_model.specs.declared.trees.Count.TheVariants as count
 use Rattle.hg_model.specs.declared.trees.SqlType.TheVariants.{Integer, Varchar}
-use Rattle.hg_model.specs.declared.values.Value.TheVariants.{Null, Int}
 use Rattle.hg_worked.specs.Samples.{tables_10, tables_11, tables_19}
 use Rattle.std.specs.Prelude.{refl}
 use Rattle.hg_model.specs.Refusal.{first_cause}
@@ -80,12 +78,12 @@ unfolding create_table_refusal create_index_refusal first_cause
 unique_column = refl
 
 primary_made : created_table (record { name = codes "c"; columns = (record { column = record { name = codes "id"; ty = Integer; not_null = false }; primary = true; unique = false } ∷ record { column = record { name = codes "name"; ty = Varchar 40; not_null = true }; primary = false; unique = false } ∷ record { column = record { name = codes "city"; ty = Varchar 30; not_null = false }; primary = false; unique = false } ∷ []) })
-      ≡ record { name = codes "c"; columns = (record { name = codes "id"; ty = Integer; not_null = true } ∷ record { name = codes "name"; ty = Varchar 40; not_null = true } ∷ record { name = codes "city"; ty = Varchar 30; not_null = false } ∷ []); rows = [] }
+    ≡ record { name = codes "c"; columns = (record { name = codes "id"; ty = Integer; not_null = true } ∷ record { name = codes "name"; ty = Varchar 40; not_null = true } ∷ record { name = codes "city"; ty = Varchar 30; not_null = false } ∷ []); rows = [] }
 unfolding create_table_refusal create_index_refusal first_cause
 primary_made = refl
 
 both_keys : created_indexes (record { name = codes "t"; columns = (record { column = record { name = codes "a"; ty = Integer; not_null = false }; primary = false; unique = false } ∷ record { column = record { name = codes "k"; ty = Integer; not_null = false }; primary = true; unique = true } ∷ record { column = record { name = codes "l"; ty = Integer; not_null = false }; primary = false; unique = true } ∷ []) })
-      ≡ record { name = None; table = codes "t"; columns = 1 ∷ []; unique = true } ∷ record { name = None; table = codes "t"; columns = 2 ∷ []; unique = true } ∷ []
+    ≡ record { name = None; table = codes "t"; columns = 1 ∷ []; unique = true } ∷ record { name = None; table = codes "t"; columns = 2 ∷ []; unique = true } ∷ []
 unfolding create_table_refusal create_index_refusal first_cause
 both_keys = refl
 

@@ -1,3 +1,4 @@
+pub mod BoundByHand
 pub mod ChangesByHand
 pub mod CreationsByHand
 pub mod FiltersByHand

@@ -1,11 +1,9 @@
 -- Worked statements, each with its answer by hand.
-use Rattle.std.specs.Prelude.{◌≡◌, true, false, List, [], ◌∷◌, ◌++◌, Some, None, pos, codes, replicate}
+use Rattle.std.specs.Prelude.{◌≡◌, true, false, [], ◌∷◌, Some, None, codes, replicate}
 use Rattle.hg_model.specs.Creation.{Index, created_table, created_index, created_indexes, uniques_of, key_length, create_table_refusal, create_index_refusal}
 use Rattle.hg_model.specs.Refusal.{UnknownTable, UnknownColumn, NameTaken, TooMany, KeyTooLong, DuplicateKey}
-use Rattle.hg_model.specs.Tables.{Table}
 use Rattle.hg_model.specs.declared.trees.Count.TheVariants as count
 use Rattle.hg_model.specs.declared.trees.SqlType.TheVariants.{Integer, Varchar}
-use Rattle.hg_model.specs.declared.values.Value.TheVariants.{Null, Int}
 use Rattle.hg_worked.specs.Samples.{tables_10, tables_11, tables_19}
 
 -- an index that UNIQUE makes on the first column of t, and one that CREATE INDEX made
@@ -40,7 +38,6 @@ pub record CreationsHold : Type 0 where
   pub doubled_null : create_index_refusal tables_10 [] (record { name = codes "i"; table = codes "t"; unique = true; columns = codes "a" ∷ [] }) ≡ None
   -- CREATE INDEX i ON x (q, p) has the columns 1 and 0
   pub index_made : created_index (record { name = codes "x"; columns = (record { name = codes "p"; ty = Varchar 200; not_null = false } ∷ record { name = codes "q"; ty = Varchar 200; not_null = false } ∷ []); rows = [] }) (record { name = codes "i"; table = codes "x"; unique = false; columns = codes "q" ∷ codes "p" ∷ [] }) ≡ record { name = Some (codes "i"); table = codes "x"; columns = 1 ∷ 0 ∷ []; unique = false }
-
   -- CREATE TABLE t (k INTEGER UNIQUE)
   pub unique_made : created_indexes (record { name = codes "t"; columns = (record { column = record { name = codes "k"; ty = Integer; not_null = false }; primary = false; unique = true } ∷ []) }) ≡ unique_index ∷ []
   pub unique_column : created_table (record { name = codes "t"; columns = (record { column = record { name = codes "k"; ty = Integer; not_null = false }; primary = false; unique = true } ∷ []) }) ≡ record { name = codes "t"; columns = (record { name = codes "k"; ty = Integer; not_null = false } ∷ []); rows = [] }

@@ -10,4 +10,6 @@ pub use rows::{
 };
 
 #[cfg(test)]
+mod bound_tests;
+#[cfg(test)]
 mod tests;
