@@ -3,6 +3,7 @@ pub mod Bag
 pub mod Binding
 pub mod ChangeBinding
 pub mod Changes
+pub mod Creation
 pub mod Evaluation
 pub mod Grammar
 pub mod Groups

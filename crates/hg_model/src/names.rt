@@ -130,6 +130,10 @@ fn is_name(bytes: &[u8]) -> bool
 }
 
 impl Default for Name {
+    ghost use Rattle.std.specs.Prelude.{◌≡◌, codes};
+
+    ghost is_default = { λ n. n ≡ codes "x" };
+
     fn default() -> Name {
         Name::new("x")
     }

@@ -236,12 +236,23 @@ pub enum Count {
 }
 
 impl Default for Node {
+    ghost use Rattle.std.specs.Prelude.{◌≡◌};
+    ghost use Rattle.hg_model.specs.declared.trees.Literal.TheVariants as literal;
+    ghost use Rattle.hg_model.specs.declared.trees.Node.TheVariants as node;
+
+    ghost is_default = { λ n. n ≡ node.Lit literal.Null };
+
     fn default() -> Node {
         Node::Lit(Literal::Null)
     }
 }
 
 impl Default for OrderBy {
+    ghost use Rattle.std.specs.Prelude.{◌≡◌};
+    ghost use Rattle.hg_model.specs.declared.trees.OrderBy.TheVariants.{Position};
+
+    ghost is_default = { λ by. by ≡ Position 0 };
+
     fn default() -> OrderBy {
         OrderBy::Position(0)
     }

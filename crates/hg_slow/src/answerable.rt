@@ -1,14 +1,13 @@
-//! The test of what `slow_select` asks of a SELECT and its tables.
-ghost use Rattle.std.specs.Prelude.{◌≡◌, ◌≤◌, ◌<◌, ◌+◌, ◌*◌, ◌^◌, ℕ, length, map, nat_lt, IsTrue, IfSome};
+//! The test of what `slow_answer` asks of a SELECT and its tables.
+ghost use Rattle.std.specs.Prelude.{◌≡◌, ◌≤◌, ◌<◌, ◌+◌, ◌*◌, ◌^◌, ℕ, length, map, min, nat_lt, IsTrue};
 ghost use Rattle.std.specs.List.{list_all};
 ghost use Rattle.hg_model.specs.Query.{query_of};
 ghost use Rattle.hg_model.specs.Scope.{rows_of};
-ghost use Rattle.hg_model.specs.SelectMeaning.{from_rows};
 ghost use Rattle.hg_model.specs.Tables.{cross, fits_columns, fits_integer, fits_type, is_allowed, table_fits, table_named};
 ghost use Rattle.hg_model.specs.Types as types;
 ghost use Rattle.hg_model.specs.Value.{is_chars, is_printable};
 ghost use Rattle.hg_model.specs.Width as width;
-ghost use Rattle.hg_slow.specs.Answerable.{IsAnswerable};
+ghost use Rattle.hg_slow.specs.Answerable.{IsAnswerable, is_answerable};
 ghost use Rattle.hg_slow.specs.SlowTables.{table_of, tables_of};
 ghost use Rattle.hg_model.specs.declared.trees.FromTable.{FromTable};
 
@@ -242,7 +241,7 @@ fn bound_of(node: &Node, done: &[usize]) -> usize
 
 fn all_narrow(nodes: &[Node]) -> bool
     requires { length nodes.now ≤ 112 }
-    ensures { IsTrue result → IsTrue (types.all_narrow nodes.now) }
+    ensures { result ≡ types.all_narrow nodes.now }
 {
     let mut done = ArrayVec::<usize, 112>::new();
     for node in nodes {
@@ -264,41 +263,36 @@ fn row_count(tables: &Vec<SlowTable>, from: &FromTable) -> usize
     }
 }
 
-// how many rows the cross product has, where they are at most 2^30
-fn product_count(tables: &Vec<SlowTable>, froms: &[FromTable]) -> Option<usize>
-    ensures value { IfSome result (λ n. n ≡ length (cross (map (λ (f : FromTable). rows_of (table_named (tables_of tables.now.items) f.table)) froms.now))) }
-    ensures few { IfSome result (λ n. n ≤ 2 ^ 30) }
+// how many rows the cross product has, or 2^30 + 1 where they are more
+fn product_count(tables: &Vec<SlowTable>, froms: &[FromTable]) -> usize
+    ensures { result ≡ min (length (cross (map (λ (f : FromTable). rows_of (table_named (tables_of tables.now.items) f.table)) froms.now))) (2 ^ 30 + 1) }
 {
     match froms {
-        [] => Some(1),
+        [] => 1,
         [first, others @ ..] => {
-            let more = product_count(tables, others)?;
-            let count = row_count(tables, first).checked_mul(more)?;
-            if count <= 1 << 30 { Some(count) } else { None }
+            let more = product_count(tables, others);
+            let rows = row_count(tables, first);
+            rows.saturating_mul(more).min((1 << 30) + 1)
         }
     }
 }
 
-/// Whether `slow_select` may be asked: a statement that was read and bound over its tables passes, unless
-/// the cross product of its tables has more than 2^30 rows.
-pub fn is_answerable(select: &Select, texts: &str, tables: &Vec<SlowTable>) -> bool
-    ensures { IsTrue result → IsAnswerable (query_of select.now) texts.now (tables_of tables.now.items) }
+fn passes(select: &Select, texts: &str, tables: &Vec<SlowTable>) -> bool
+    ensures { result ≡ is_answerable (query_of select.now) texts.now (tables_of tables.now.items) }
 {
     let nodes = select.nodes.as_slice();
-    if !is_tree(nodes) {
-        return false;
-    }
-    if !texts_fit(texts.as_bytes(), nodes) {
-        return false;
-    }
-    if !all_narrow(nodes) {
-        return false;
-    }
-    if !tables_fit(tables) {
-        return false;
-    }
-    match product_count(tables, select.tables.as_slice()) {
-        None => false,
-        Some(_) => true,
-    }
+    is_tree(nodes)
+        && texts_fit(texts.as_bytes(), nodes)
+        && all_narrow(nodes)
+        && tables_fit(tables)
+        && product_count(tables, select.tables.as_slice()) <= 1 << 30
+}
+
+/// Whether `slow_answer` may be asked: a statement that was read and bound over its tables passes, unless
+/// the cross product of its tables has more than 2^30 rows.
+pub fn is_answerable(select: &Select, texts: &str, tables: &Vec<SlowTable>) -> bool
+    ensures test { result ≡ is_answerable (query_of select.now) texts.now (tables_of tables.now.items) }
+    ensures answerable { IsTrue result → IsAnswerable (query_of select.now) texts.now (tables_of tables.now.items) }
+{
+    passes(select, texts, tables)
 }

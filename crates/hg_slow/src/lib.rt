@@ -14,6 +14,6 @@ mod slow_rows;
 mod tables;
 
 pub use answerable::is_answerable;
-pub use laws::bound_is_narrow;
-pub use slow::slow_select;
+pub use laws::{bound_is_answerable, bound_is_narrow, read_is_well_formed};
+pub use slow::{slow_answer, slow_select};
 pub use tables::SlowTable;

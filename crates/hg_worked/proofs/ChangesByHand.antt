@@ -35,6 +35,10 @@ row_of_1008_bytes : insert_change (replicate 1000 97) (record { name = codes "w"
 unfolding insert_change update_change delete_change first_cause
 row_of_1008_bytes = refl
 
+row_of_1000_bytes : insert_change (replicate 992 97) (record { name = codes "w"; columns = (record { name = codes "p"; ty = Varchar 255; not_null = false } ∷ record { name = codes "q"; ty = Varchar 255; not_null = false } ∷ record { name = codes "r"; ty = Varchar 255; not_null = false } ∷ record { name = codes "s"; ty = Varchar 255; not_null = false } ∷ []); rows = [] }) [] (range_with_len 0 4) (record { table = codes "t"; columns = []; values = (literal.Text (record { at = 0; len = 248 }) ∷ literal.Text (record { at = 248; len = 248 }) ∷ literal.Text (record { at = 496; len = 248 }) ∷ literal.Text (record { at = 744; len = 248 }) ∷ []); ends = (4 ∷ []) }) ≡ Made ((Text (replicate 248 97) ∷ Text (replicate 248 97) ∷ Text (replicate 248 97) ∷ Text (replicate 248 97) ∷ []) ∷ []) 1
+unfolding insert_change update_change delete_change first_cause
+row_of_1000_bytes = refl
+
 keys_after_the_whole : update_change [] (record { name = codes "t"; columns = (record { name = codes "k"; ty = Integer; not_null = false } ∷ []); rows = (((Int (pos 1)) ∷ []) ∷ ((Int (pos 2)) ∷ []) ∷ ((Int (pos 3)) ∷ []) ∷ []) }) ((0 ∷ []) ∷ []) (change_positions (columns_from 0 (codes "t") 0 (record { name = codes "k"; ty = Integer; not_null = false } ∷ [])) ((node.Col (record { table = None; name = codes "k" })) ∷ (node.Lit (literal.Int (pos 1))) ∷ (node.Arith op.Add 0 1) ∷ [])) (0 ∷ []) (record { table = codes "t"; sets = (codes "k", 2) ∷ []; filter = None; nodes = ((node.Col (record { table = None; name = codes "k" })) ∷ (node.Lit (literal.Int (pos 1))) ∷ (node.Arith op.Add 0 1) ∷ []) }) ≡ Made (((Int (pos 2)) ∷ []) ∷ ((Int (pos 3)) ∷ []) ∷ ((Int (pos 4)) ∷ []) ∷ []) 3
 unfolding insert_change update_change delete_change first_cause
 keys_after_the_whole = refl
@@ -64,4 +68,4 @@ unfolding insert_change update_change delete_change first_cause
 delete_one = refl
 
 pub changes_hold : ChangesHold
-changes_hold = record { too_big = too_big; quote = quote; forbidden_null = forbidden_null; too_many_letters = too_many_letters; row_of_1008_bytes = row_of_1008_bytes; keys_after_the_whole = keys_after_the_whole; doubled_key = doubled_key; null_keys_may_repeat = null_keys_may_repeat; overflow = overflow; swapped = swapped; delete_unknown = delete_unknown; delete_one = delete_one }
+changes_hold = record { too_big = too_big; quote = quote; forbidden_null = forbidden_null; too_many_letters = too_many_letters; row_of_1008_bytes = row_of_1008_bytes; row_of_1000_bytes = row_of_1000_bytes; keys_after_the_whole = keys_after_the_whole; doubled_key = doubled_key; null_keys_may_repeat = null_keys_may_repeat; overflow = overflow; swapped = swapped; delete_unknown = delete_unknown; delete_one = delete_one }

@@ -23,6 +23,8 @@ pub record ChangesHold : Type 0 where
   pub too_many_letters : insert_change (codes "abcde") (record { name = codes "n"; columns = (record { name = codes "s"; ty = Varchar 4; not_null = true } ∷ []); rows = [] }) [] (range_with_len 0 1) (record { table = codes "t"; columns = []; values = (literal.Text (record { at = 0; len = 5 }) ∷ []); ends = (1 ∷ []) }) ≡ Refused (DoesNotFit (codes "s"))
   -- four texts of 250 letters
   pub row_of_1008_bytes : insert_change (replicate 1000 97) (record { name = codes "w"; columns = (record { name = codes "p"; ty = Varchar 255; not_null = false } ∷ record { name = codes "q"; ty = Varchar 255; not_null = false } ∷ record { name = codes "r"; ty = Varchar 255; not_null = false } ∷ record { name = codes "s"; ty = Varchar 255; not_null = false } ∷ []); rows = [] }) [] (range_with_len 0 4) (record { table = codes "t"; columns = []; values = (literal.Text (record { at = 0; len = 250 }) ∷ literal.Text (record { at = 250; len = 250 }) ∷ literal.Text (record { at = 500; len = 250 }) ∷ literal.Text (record { at = 750; len = 250 }) ∷ []); ends = (4 ∷ []) }) ≡ Refused RowTooLong
+  -- four texts of 248 letters
+  pub row_of_1000_bytes : insert_change (replicate 992 97) (record { name = codes "w"; columns = (record { name = codes "p"; ty = Varchar 255; not_null = false } ∷ record { name = codes "q"; ty = Varchar 255; not_null = false } ∷ record { name = codes "r"; ty = Varchar 255; not_null = false } ∷ record { name = codes "s"; ty = Varchar 255; not_null = false } ∷ []); rows = [] }) [] (range_with_len 0 4) (record { table = codes "t"; columns = []; values = (literal.Text (record { at = 0; len = 248 }) ∷ literal.Text (record { at = 248; len = 248 }) ∷ literal.Text (record { at = 496; len = 248 }) ∷ literal.Text (record { at = 744; len = 248 }) ∷ []); ends = (4 ∷ []) }) ≡ Made ((Text (replicate 248 97) ∷ Text (replicate 248 97) ∷ Text (replicate 248 97) ∷ Text (replicate 248 97) ∷ []) ∷ []) 1
   -- UPDATE t SET k = k + 1
   pub keys_after_the_whole : update_change [] (record { name = codes "t"; columns = (record { name = codes "k"; ty = Integer; not_null = false } ∷ []); rows = (((Int (pos 1)) ∷ []) ∷ ((Int (pos 2)) ∷ []) ∷ ((Int (pos 3)) ∷ []) ∷ []) }) ((0 ∷ []) ∷ []) (change_positions (columns_from 0 (codes "t") 0 (record { name = codes "k"; ty = Integer; not_null = false } ∷ [])) ((node.Col (record { table = None; name = codes "k" })) ∷ (node.Lit (literal.Int (pos 1))) ∷ (node.Arith op.Add 0 1) ∷ [])) (0 ∷ []) (record { table = codes "t"; sets = (codes "k", 2) ∷ []; filter = None; nodes = ((node.Col (record { table = None; name = codes "k" })) ∷ (node.Lit (literal.Int (pos 1))) ∷ (node.Arith op.Add 0 1) ∷ []) }) ≡ Made (((Int (pos 2)) ∷ []) ∷ ((Int (pos 3)) ∷ []) ∷ ((Int (pos 4)) ∷ []) ∷ []) 3
   -- UPDATE t SET k = 7

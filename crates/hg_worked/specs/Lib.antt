@@ -1,8 +1,10 @@
 pub mod Answers
 pub mod Changes
+pub mod Creations
 pub mod Filters
 pub mod Grouping
 pub mod Joins
+pub mod Lines
 pub mod Ordering
 pub mod Refusals
 pub mod Samples

@@ -1,6 +1,12 @@
 -- The tables of the worked statements.
-use Rattle.std.specs.Prelude.{true, false, List, [], ◌∷◌, pos, negsuc, codes}
+use Rattle.std.specs.Prelude.{true, false, List, [], ◌∷◌, Some, None, pos, negsuc, codes}
+use Rattle.hg_model.specs.Query.{Query}
 use Rattle.hg_model.specs.Tables.{Table}
+use Rattle.hg_model.specs.declared.trees.Cmp.TheVariants as cmp
+use Rattle.hg_model.specs.declared.trees.Literal.TheVariants as literal
+use Rattle.hg_model.specs.declared.trees.Node.{Node}
+use Rattle.hg_model.specs.declared.trees.Node.TheVariants as node
+use Rattle.hg_model.specs.declared.trees.OrderBy.TheVariants.{Column as ByColumn}
 use Rattle.hg_model.specs.declared.trees.SqlType.TheVariants.{Integer, Varchar}
 use Rattle.hg_model.specs.declared.values.Value.TheVariants.{Null, Int, Text}
 
@@ -57,3 +63,19 @@ tables_17 = (record { name = codes "t"; columns = (record { name = codes "a"; ty
 
 abbrev pub tables_18 : List Table
 tables_18 = (record { name = codes "w"; columns = (record { name = codes "c0"; ty = Varchar 255; not_null = false } ∷ record { name = codes "c1"; ty = Varchar 255; not_null = false } ∷ record { name = codes "c2"; ty = Varchar 255; not_null = false } ∷ record { name = codes "c3"; ty = Varchar 255; not_null = false } ∷ record { name = codes "c4"; ty = Varchar 255; not_null = false } ∷ record { name = codes "c5"; ty = Varchar 255; not_null = false } ∷ record { name = codes "c6"; ty = Varchar 255; not_null = false } ∷ record { name = codes "c7"; ty = Varchar 255; not_null = false } ∷ record { name = codes "c8"; ty = Varchar 255; not_null = false } ∷ record { name = codes "c9"; ty = Varchar 255; not_null = false } ∷ record { name = codes "c10"; ty = Varchar 255; not_null = false } ∷ record { name = codes "c11"; ty = Varchar 255; not_null = false } ∷ record { name = codes "c12"; ty = Varchar 255; not_null = false } ∷ record { name = codes "c13"; ty = Varchar 255; not_null = false } ∷ record { name = codes "c14"; ty = Varchar 255; not_null = false } ∷ record { name = codes "c15"; ty = Varchar 255; not_null = false } ∷ []); rows = [] } ∷ [])
+
+abbrev pub tables_19 : List Table
+tables_19 = (record { name = codes "x"; columns = (record { name = codes "p"; ty = Varchar 200; not_null = false } ∷ record { name = codes "q"; ty = Varchar 200; not_null = false } ∷ record { name = codes "r"; ty = Varchar 200; not_null = false } ∷ record { name = codes "s"; ty = Varchar 255; not_null = false } ∷ record { name = codes "n"; ty = Integer; not_null = false } ∷ record { name = codes "m"; ty = Varchar 46; not_null = false } ∷ record { name = codes "o"; ty = Varchar 47; not_null = false } ∷ []); rows = [] } ∷ [])
+
+abbrev pub table_20 : Table
+table_20 = record { name = codes "t"; columns = (record { name = codes "a"; ty = Integer; not_null = false } ∷ []); rows = (((Int (pos 2)) ∷ []) ∷ ((Int (pos 1)) ∷ []) ∷ ((Int (pos 3)) ∷ []) ∷ []) }
+
+abbrev pub tables_20 : List Table
+tables_20 = table_20 ∷ []
+
+abbrev pub column_a : Node
+column_a = node.Col (record { table = None; name = codes "a" })
+
+-- SELECT * FROM t WHERE a > 1 ORDER BY a DESC
+abbrev pub above_one : Query
+above_one = record { distinct = false; star = true; outputs = []; tables = (record { table = codes "t"; alias = codes "t"; on = None } ∷ []); filter = (Some 2); group = []; having = None; order = (record { by = ByColumn 3; descending = true } ∷ []); nodes = (column_a ∷ (node.Lit (literal.Int (pos 1))) ∷ (node.Compare cmp.Gt 0 1) ∷ column_a ∷ []) }

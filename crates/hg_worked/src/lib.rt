@@ -5,8 +5,11 @@
 mod rows;
 
 pub use rows::{
-    changed_tables, filters, grouped_statements, joins, ordered_statements, refused_statements,
+    changed_tables, created_things, filters, grouped_statements, joins, lines_read,
+    ordered_statements, refused_statements,
 };
 
+#[cfg(test)]
+mod bound_tests;
 #[cfg(test)]
 mod tests;

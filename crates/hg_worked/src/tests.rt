@@ -5,7 +5,7 @@ use hg_model::{
     Chars, Cmp, ColRef, Column, Fold, FromTable, Literal, Name, Node, Op, OrderBy, OrderKey,
     Output, Select, Span, SqlType, Value,
 };
-use hg_slow::{SlowTable, is_answerable, slow_select};
+use hg_slow::{SlowTable, is_answerable, slow_answer};
 use std::alloc::{AllocError, Global};
 use std::test::Fail;
 
@@ -278,7 +278,7 @@ fn run(
     if !is_answerable(&maker.select, maker.texts.as_str(), &tables) {
         return String::from_str(alloc, "not answerable");
     }
-    let answer = slow_select(alloc, &maker.select, maker.texts.as_str(), &tables)?;
+    let answer = slow_answer(alloc, &maker.select, maker.texts.as_str(), &tables)?;
     printed(alloc, &answer)
 }
 
