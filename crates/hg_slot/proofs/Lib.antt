@@ -7,3 +7,5 @@ pub mod Closing
 pub mod Verifying
 pub mod Overwriting
 pub mod Peeking
+pub mod Lending
+pub mod Replacing

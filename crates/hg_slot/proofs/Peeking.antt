@@ -1,6 +1,6 @@
 -- What a reader of one record finds on a page that may be damaged.
-use Rattle.std.specs.Prelude.{◌≡◌, ◌≢◌, ℕ, ◌+◌, ◌-◌, ◌<◌, ◌≤◌, List, take, drop, Some}
-use Rattle.std.proofs.Common.{◌∙◌, ap, arith}
+use Rattle.std.specs.Prelude.{◌≡◌, ℕ, ◌+◌, ◌-◌, ◌<◌, List, take, drop, Some}
+use Rattle.std.proofs.Common.{arith}
 use Rattle.hg_slot.specs.Slotted.{slots, offset, size, record_at, IsSlotted}
 use Rattle.hg_slot.proofs.Slots.{shown-empty, shown-here, shown-out}
 use Rattle.hg_slot.proofs.Finding.{inside}

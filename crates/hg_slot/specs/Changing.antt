@@ -1,6 +1,6 @@
 -- What the calls do to a slotted page, in the words of its slots. Our own rule.
 use Rattle.std.specs.Prelude.{◌≡◌, ◌≢◌, ℕ, ◌+◌, ◌<◌, ◌≤◌, max, List, length, None, Some, Result, Ok, Err, slice_index}
-use Rattle.hg_slot.specs.Slotted.{slots, lowest, record_at, lengths, IsSlotted, IsClean}
+use Rattle.hg_slot.specs.Slotted.{slots, lowest, offset, size, record_at, lengths, IsSlotted, IsClean}
 use borrow.Rule.Slice.PartMut.{put_mid}
 use Rattle.hg_base.specs.declared.Check.{Check}
 use Rattle.hg_base.specs.declared.Check.TheVariants.{Kind, Size, Frame, Link, Level, Order, RowBytes}
@@ -110,5 +110,17 @@ pub record Overwrites (old new : List ℕ) (slot at : ℕ) (bytes : List ℕ) : 
   pub clean : IsClean old → IsClean new
   pub slotted : IsSlotted new
   pub here : (r : List ℕ) → record_at old slot ≡ Some r → record_at new slot ≡ Some (put_mid at (length bytes) r bytes)
+  pub others : KeepsOthers old new slot
+  pub count : slots new ≡ slots old
+
+-- the page with other bytes where the record of a slot lies
+abbrev pub with_record : List ℕ → ℕ → List ℕ → List ℕ
+with_record page slot bytes = put_mid (offset page slot) (size page slot) page bytes
+
+-- The slot shows other bytes, as many as it showed.
+pub record Replaces (old new : List ℕ) (slot : ℕ) (bytes : List ℕ) : Type 0 where
+  pub clean : IsClean old → IsClean new
+  pub slotted : IsSlotted new
+  pub here : record_at new slot ≡ Some bytes
   pub others : KeepsOthers old new slot
   pub count : slots new ≡ slots old

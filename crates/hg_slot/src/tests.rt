@@ -162,3 +162,43 @@ fn a_page_is_filled(rt: HostRuntime) -> Result<(), Fail> {
     assert_eq!(rt; slot::verify(&page), Ok(()));
     Ok(())
 }
+
+/// A page with the records 1 2 3 and 4 5, and whether it has a record at this slot; a 9 was written
+/// over that record's first byte.
+fn marked(slot: u16) -> (bool, [u8; 4096]) {
+    let mut page = new_page();
+    let _ = slot::insert(&mut page, &[1, 2, 3]);
+    let _ = slot::insert(&mut page, &[4, 5]);
+    let found = match slot::get_mut(&mut page, slot) {
+        Some(record) => {
+            if let Some(first) = record.first_mut() {
+                *first = 9;
+            }
+            true
+        }
+        None => false,
+    };
+    (found, page)
+}
+
+/// The first byte of a record and how many it has.
+fn front(page: &[u8; 4096], slot: u16) -> Option<(u8, usize)> {
+    let record = slot::peek(page, slot).ok()??;
+    let first = record.first()?;
+    Some((*first, record.len()))
+}
+
+#[test]
+fn a_record_is_written_in_place(rt: HostRuntime) -> Result<(), Fail> {
+    let (found, page) = marked(1);
+    assert_eq!(rt; found, true);
+    assert_eq!(rt; front(&page, 0), Some((1, 3)));
+    assert_eq!(rt; front(&page, 1), Some((9, 2)));
+    assert_eq!(rt; slot::verify(&page), Ok(()));
+    // there is no third record
+    let (found, page) = marked(2);
+    assert_eq!(rt; found, false);
+    assert_eq!(rt; front(&page, 0), Some((1, 3)));
+    assert_eq!(rt; front(&page, 1), Some((4, 2)));
+    Ok(())
+}
