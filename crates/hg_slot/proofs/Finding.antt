@@ -1,9 +1,9 @@
 -- What a slot shows, by what its entry says; the records' lengths together.
-use Rattle.std.specs.Prelude.{◌≡◌, ◌≢◌, ℕ, ◌+◌, ◌-◌, ◌<◌, ◌≤◌, zero, suc, List, length, drop, None, Some}
+use Rattle.std.specs.Prelude.{◌≡◌, ◌≢◌, ℕ, ◌+◌, ◌-◌, ◌<◌, ◌≤◌, zero, suc, List, length, take, drop, None, Some}
 use Rattle.std.proofs.Common.{sym, ◌∙◌, ap, refl, arith, inl, inr, length-take, length-drop}
 use Rattle.std.proofs.lemmas.Bool.{cases_lt}
-use Rattle.hg_slot.specs.Slotted.{slots, offset, size, body, record_at, length_of, lengths, IsSlotted, IsRecord}
-use Rattle.hg_slot.proofs.Slots.{shown-empty, shown-here, shown-out}
+use Rattle.hg_slot.specs.Slotted.{slots, offset, size, body, record_at, length_of, lengths, IsSlotted, IsRecord, IsPlace}
+use Rattle.hg_slot.proofs.Slots.{shows, shown-empty, shown-here, shown-out}
 
 pub entry_full : (page : List ℕ) (k from : ℕ) → k < slots page → from ≡ offset page k → (from ≡ 0 → ⊥) → record_at page k ≢ None
 entry_full page k from h e n d =
@@ -57,3 +57,20 @@ pub ruleset found = (shown-out, shown-empty, entry_full, is_record, lengths_more
 
 pub is_slot_full : (page : List ℕ) (k : ℕ) → record_at page k ≢ None → k < slots page
 is_slot_full page k n = elim (cases_lt k (slots page)) [ inl h ↦ h | inr h ↦ absurd (n (shown-out page k h)) ]
+
+pub place_full : (page : List ℕ) (k from n : ℕ) → IsSlotted page → IsRecord page k from n → IsPlace page k from (from + n)
+place_full page k from n s r =
+    let b = s.behind in
+    let f = r.from_is in
+    let full : 0 < offset page k = (shows page k (take n (drop from page)) r.shown).full in
+    let g : from + n - from ≡ n = omega arith in
+    record {
+      none = λ z. absurd (omega arith);
+      order = omega arith;
+      some = λ h. rw g r;
+    }
+
+pub place_none : (page : List ℕ) (k : ℕ) → record_at page k ≡ None → IsPlace page k 0 0
+place_none page k e = record { none = λ z. e; order = omega arith; some = λ h. absurd (omega arith) }
+
+pub ruleset placed = (place_full, place_none)

@@ -6,3 +6,6 @@ pub mod Finding
 pub mod Closing
 pub mod Verifying
 pub mod Overwriting
+pub mod Peeking
+pub mod Lending
+pub mod Replacing

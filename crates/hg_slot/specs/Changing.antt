@@ -1,6 +1,6 @@
 -- What the calls do to a slotted page, in the words of its slots. Our own rule.
 use Rattle.std.specs.Prelude.{◌≡◌, ◌≢◌, ℕ, ◌+◌, ◌<◌, ◌≤◌, max, List, length, None, Some, Result, Ok, Err, slice_index}
-use Rattle.hg_slot.specs.Slotted.{slots, lowest, record_at, lengths, IsSlotted, IsClean}
+use Rattle.hg_slot.specs.Slotted.{slots, lowest, offset, size, record_at, lengths, IsSlotted, IsClean}
 use borrow.Rule.Slice.PartMut.{put_mid}
 use Rattle.hg_base.specs.declared.Check.{Check}
 use Rattle.hg_base.specs.declared.Check.TheVariants.{Kind, Size, Frame, Link, Level, Order, RowBytes}
@@ -18,17 +18,22 @@ pub record IsInserted (old new : List ℕ) (slot : ℕ) (bytes : List ℕ) : Typ
   pub others : KeepsOthers old new slot
   pub count : slots new ≡ max (slots old) (slot + 1)
 
+-- What is wrong with a page that may be damaged: its kind where its first byte is another one; all
+-- else is a matter of size, and comes only where the page is no slotted page.
+abbrev pub IsWrong : List ℕ → Check → Type 0
+IsWrong page Kind = slice_index page 0 ≢ 83
+IsWrong page Size = (slice_index page 0 ≡ 83) × (IsSlotted page → ⊥)
+IsWrong page Frame = ⊥
+IsWrong page Link = ⊥
+IsWrong page Level = ⊥
+IsWrong page Order = ⊥
+IsWrong page RowBytes = ⊥
+
 -- The answer of a reading of a page that may be damaged: it is taken exactly where it is a slotted
--- page; its kind is wrong exactly where its first byte is; all else that is wrong is a matter of size.
+-- page.
 abbrev pub Verified : List ℕ → Result (Unit {0}) Check → Type 0
 Verified page (Ok u) = IsSlotted page
-Verified page (Err Kind) = slice_index page 0 ≢ 83
-Verified page (Err Size) = (slice_index page 0 ≡ 83) × (IsSlotted page → ⊥)
-Verified page (Err Frame) = ⊥
-Verified page (Err Link) = ⊥
-Verified page (Err Level) = ⊥
-Verified page (Err Order) = ⊥
-Verified page (Err RowBytes) = ⊥
+Verified page (Err e) = IsWrong page e
 
 -- A record was put into a slot that was empty, right below the records.
 pub record Fills (old new : List ℕ) (slot : ℕ) (bytes : List ℕ) : Type 0 where
@@ -105,5 +110,17 @@ pub record Overwrites (old new : List ℕ) (slot at : ℕ) (bytes : List ℕ) : 
   pub clean : IsClean old → IsClean new
   pub slotted : IsSlotted new
   pub here : (r : List ℕ) → record_at old slot ≡ Some r → record_at new slot ≡ Some (put_mid at (length bytes) r bytes)
+  pub others : KeepsOthers old new slot
+  pub count : slots new ≡ slots old
+
+-- the page with other bytes where the record of a slot lies
+abbrev pub with_record : List ℕ → ℕ → List ℕ → List ℕ
+with_record page slot bytes = put_mid (offset page slot) (size page slot) page bytes
+
+-- The slot shows other bytes, as many as it showed.
+pub record Replaces (old new : List ℕ) (slot : ℕ) (bytes : List ℕ) : Type 0 where
+  pub clean : IsClean old → IsClean new
+  pub slotted : IsSlotted new
+  pub here : record_at new slot ≡ Some bytes
   pub others : KeepsOthers old new slot
   pub count : slots new ≡ slots old

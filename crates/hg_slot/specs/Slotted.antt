@@ -7,7 +7,7 @@
 -- Each record lies in the page, and not below the lowest byte; the lowest byte is behind the slots;
 -- no byte is of two records. A record may have no bytes at all. All other bytes are zero; a page
 -- where one of them is not is read all the same, and each call leaves at zero what was.
-use Rattle.std.specs.Prelude.{◌≡◌, ◌≢◌, ℕ, ◌+◌, ◌*◌, ◌<◌, ◌≤◌, ◌==◌, ◌&&◌, ◌⊎◌, nat_lt, not, zero, suc, List, length, take, drop, slice_index, Option, None, Some, if◌then◌else◌}
+use Rattle.std.specs.Prelude.{◌≡◌, ◌≢◌, ℕ, ◌+◌, ◌-◌, ◌*◌, ◌<◌, ◌≤◌, ◌==◌, ◌&&◌, ◌⊎◌, nat_lt, not, zero, suc, List, length, take, drop, slice_index, Option, None, Some, if◌then◌else◌}
 use Rattle.std.specs.Int.{w16, from_le_bytes}
 
 -- the number that the two bytes from the place `at` on spell, the least byte first
@@ -96,6 +96,12 @@ pub record IsRecord (page : List ℕ) (k from n : ℕ) : Type 0 where
   pub size_is : n ≡ size page k
   pub inside : from + n ≤ 4096
   pub shown : record_at page k ≡ Some (take n (drop from page))
+
+-- where the record of a slot begins and ends; it begins at 0 where there is none
+pub record IsPlace (page : List ℕ) (k from to : ℕ) : Type 0 where
+  pub none : from ≡ 0 → record_at page k ≡ None
+  pub order : from ≤ to
+  pub some : 0 < from → IsRecord page k from (to - from)
 
 -- two runs of bytes have a byte in common: n bytes from the place `from` on, and m from `at` on
 pub record SharesByte (from n at m : ℕ) : Type 0 where

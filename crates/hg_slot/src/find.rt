@@ -1,6 +1,6 @@
 //! What the slots of a page show.
 ghost use Rattle.std.specs.Prelude.{◌≡◌, ℕ, ◌+◌, ◌*◌, ◌≤◌, ◌<◌, None, MatchOption, length};
-ghost use Rattle.hg_slot.specs.Slotted.{slots, record_at, lengths, IsSlotted, IsRecord};
+ghost use Rattle.hg_slot.specs.Slotted.{slots, record_at, lengths, IsSlotted, IsRecord, IsPlace};
 ghost use Rattle.hg_slot.specs.Changing.{IsFirstEmpty};
 
 use crate::entry::{COUNT, Entry, entry_at, number_at};
@@ -20,6 +20,22 @@ pub fn find(page: &[u8], slot: usize) -> Option<Entry>
         return None;
     }
     Some(entry)
+}
+
+/// The page again, and where the record of a slot begins and ends there; it begins at 0 where there is
+/// none.
+#[tactic(auto, using(crate::proofs::Finding::placed))]
+pub fn located(page: &mut [u8], slot: u16) -> (&mut [u8], usize, usize)
+    requires { IsSlotted page.old }
+    ensures same { result.0.ghost_name ≡ page.entry.ghost_name }
+    ensures kept { result.0.now ≡ page.old }
+    ensures place { IsPlace page.old slot result.1 result.2 }
+{
+    let entry = find(page, slot as usize);
+    match entry {
+        Some(entry) => (page, entry.offset, entry.offset + entry.size),
+        None => (page, 0, 0),
+    }
 }
 
 /// The first slot that is empty, or the number of slots where none is.

@@ -6,13 +6,26 @@ use crate::slot;
 use hg_base::{Check, NoRoom};
 use std::test::Fail;
 
-/// What is wrong with a page that begins with these bytes and has zeros behind them, or None.
-fn wrong(front: &[u8]) -> Option<Check> {
+/// A page that begins with these bytes and has zeros behind them.
+fn page_of(front: &[u8]) -> [u8; 4096] {
     let mut page = [0; 4096];
     if front.len() <= 4096 {
         page[..front.len()].copy_from_slice(front);
     }
-    slot::verify(&page).err()
+    page
+}
+
+/// What is wrong with such a page, or None.
+fn wrong(front: &[u8]) -> Option<Check> {
+    slot::verify(&page_of(front)).err()
+}
+
+/// How many bytes a reader of one slot finds there, in the same words as the record's length; None
+/// where there is no record.
+fn peeked(front: &[u8], slot: u16) -> Result<Option<usize>, Check> {
+    let page = page_of(front);
+    let record = slot::peek(&page, slot)?;
+    Ok(record.map(|bytes| bytes.len()))
 }
 
 #[test]
@@ -62,6 +75,29 @@ fn damaged_pages(rt: HostRuntime) -> Result<(), Fail> {
     assert_eq!(rt; wrong(&shared), Some(Check::Size));
     // bytes that are no whole page
     assert_eq!(rt; slot::verify(&one), Err(Check::Size));
+    Ok(())
+}
+
+#[test]
+fn damaged_slots(rt: HostRuntime) -> Result<(), Fail> {
+    // another kind of page, a page of zeros, and 129 slots
+    assert_eq!(rt; peeked(&[0x4C, 0, 0, 0, 0, 0x10], 0), Err(Check::Kind));
+    assert_eq!(rt; peeked(&[], 7), Err(Check::Kind));
+    assert_eq!(rt; peeked(&[0x53, 0, 129, 0, 0x14, 2], 0), Err(Check::Size));
+    // no slot, an empty one, and one behind the slots
+    assert_eq!(rt; peeked(&[0x53, 0, 0, 0, 0, 0x10], 0), Ok(None));
+    assert_eq!(rt; peeked(&[0x53, 0, 128, 0, 0x10, 2], 127), Ok(None));
+    assert_eq!(rt; peeked(&[0x53, 0, 128, 0, 0x10, 2], 128), Ok(None));
+    // a record of 8 bytes at 4088 = 0x0FF8, an empty slot, and a record of 9 bytes at 4088: only the
+    // last slot is wrong
+    let three = [
+        0x53, 0, 3, 0, 0xF8, 0x0F, 0, 0, 0, 0, 0, 0, 0, 0, 0, 0, 0xF8, 0x0F, 8, 0, 0, 0, 0, 0,
+        0xF8, 0x0F, 9, 0,
+    ];
+    assert_eq!(rt; peeked(&three, 0), Ok(Some(8)));
+    assert_eq!(rt; peeked(&three, 1), Ok(None));
+    assert_eq!(rt; peeked(&three, 2), Err(Check::Size));
+    assert_eq!(rt; wrong(&three), Some(Check::Size));
     Ok(())
 }
 
@@ -124,5 +160,45 @@ fn a_page_is_filled(rt: HostRuntime) -> Result<(), Fail> {
     assert_eq!(rt; slot::insert(&mut page, &[]), Ok(2));
     assert!(rt; holds(&page, 2, 0, 0));
     assert_eq!(rt; slot::verify(&page), Ok(()));
+    Ok(())
+}
+
+/// A page with the records 1 2 3 and 4 5, and whether it has a record at this slot; a 9 was written
+/// over that record's first byte.
+fn marked(slot: u16) -> (bool, [u8; 4096]) {
+    let mut page = new_page();
+    let _ = slot::insert(&mut page, &[1, 2, 3]);
+    let _ = slot::insert(&mut page, &[4, 5]);
+    let found = match slot::get_mut(&mut page, slot) {
+        Some(record) => {
+            if let Some(first) = record.first_mut() {
+                *first = 9;
+            }
+            true
+        }
+        None => false,
+    };
+    (found, page)
+}
+
+/// The first byte of a record and how many it has.
+fn front(page: &[u8; 4096], slot: u16) -> Option<(u8, usize)> {
+    let record = slot::peek(page, slot).ok()??;
+    let first = record.first()?;
+    Some((*first, record.len()))
+}
+
+#[test]
+fn a_record_is_written_in_place(rt: HostRuntime) -> Result<(), Fail> {
+    let (found, page) = marked(1);
+    assert_eq!(rt; found, true);
+    assert_eq!(rt; front(&page, 0), Some((1, 3)));
+    assert_eq!(rt; front(&page, 1), Some((9, 2)));
+    assert_eq!(rt; slot::verify(&page), Ok(()));
+    // there is no third record
+    let (found, page) = marked(2);
+    assert_eq!(rt; found, false);
+    assert_eq!(rt; front(&page, 0), Some((1, 3)));
+    assert_eq!(rt; front(&page, 1), Some((4, 2)));
     Ok(())
 }
