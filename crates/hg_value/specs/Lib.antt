@@ -1,0 +1,6 @@
+pub mod Coding
+pub mod Comparing
+pub mod Keys
+pub mod Hashing
+pub mod Laws
+pub mod RowParts

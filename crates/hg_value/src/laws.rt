@@ -1,0 +1,21 @@
+//! Laws of codings and keys. A function here computes nothing: its contract is the law.
+ghost use Rattle.hg_value.specs.Laws as laws;
+
+/// Codings: how long they are, and that bytes spell at most one row of so many values.
+pub fn codings_tell()
+    ensures long { laws.CodingsAreLong }
+    ensures tell { laws.CodingsTell }
+{}
+
+/// Keys of indexes compare byte by byte as their values do, NULL first, also where more columns or
+/// other bytes stand behind; and equal keys have equal values. Only two values of one type are compared.
+pub fn index_keys_compare()
+    ensures compare { laws.IndexKeysCompare }
+    ensures tell { laws.IndexKeysTell }
+{}
+
+/// The same of the keys by which joins and groups work, over all numbers.
+pub fn keys_compare()
+    ensures compare { laws.WorkingKeysCompare }
+    ensures tell { laws.WorkingKeysTell }
+{}

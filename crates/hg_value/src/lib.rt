@@ -1,0 +1,19 @@
+//! Values in bytes: rows, and the keys by which indexes, joins and groups find them. It stands on
+//! the base crate and on the model's values. A row is seen as the list of its values; the contract
+//! that the layers above use is that of [`Row::read`] and [`Row::bytes`], and that keys compare byte
+//! by byte as values do ([`index_keys_compare`], [`keys_compare`]). Nothing here takes memory.
+#![tactic(auto)]
+
+mod decode;
+mod encode;
+mod hashing;
+mod keys;
+mod laws;
+mod order;
+mod row;
+
+pub use hashing::hash;
+pub use keys::{push_index_key, push_key};
+pub use laws::{codings_tell, index_keys_compare, keys_compare};
+pub use order::compare;
+pub use row::Row;
