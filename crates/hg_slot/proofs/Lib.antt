@@ -6,3 +6,4 @@ pub mod Finding
 pub mod Closing
 pub mod Verifying
 pub mod Overwriting
+pub mod Peeking

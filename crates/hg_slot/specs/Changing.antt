@@ -18,17 +18,22 @@ pub record IsInserted (old new : List ℕ) (slot : ℕ) (bytes : List ℕ) : Typ
   pub others : KeepsOthers old new slot
   pub count : slots new ≡ max (slots old) (slot + 1)
 
+-- What is wrong with a page that may be damaged: its kind where its first byte is another one; all
+-- else is a matter of size, and comes only where the page is no slotted page.
+abbrev pub IsWrong : List ℕ → Check → Type 0
+IsWrong page Kind = slice_index page 0 ≢ 83
+IsWrong page Size = (slice_index page 0 ≡ 83) × (IsSlotted page → ⊥)
+IsWrong page Frame = ⊥
+IsWrong page Link = ⊥
+IsWrong page Level = ⊥
+IsWrong page Order = ⊥
+IsWrong page RowBytes = ⊥
+
 -- The answer of a reading of a page that may be damaged: it is taken exactly where it is a slotted
--- page; its kind is wrong exactly where its first byte is; all else that is wrong is a matter of size.
+-- page.
 abbrev pub Verified : List ℕ → Result (Unit {0}) Check → Type 0
 Verified page (Ok u) = IsSlotted page
-Verified page (Err Kind) = slice_index page 0 ≢ 83
-Verified page (Err Size) = (slice_index page 0 ≡ 83) × (IsSlotted page → ⊥)
-Verified page (Err Frame) = ⊥
-Verified page (Err Link) = ⊥
-Verified page (Err Level) = ⊥
-Verified page (Err Order) = ⊥
-Verified page (Err RowBytes) = ⊥
+Verified page (Err e) = IsWrong page e
 
 -- A record was put into a slot that was empty, right below the records.
 pub record Fills (old new : List ℕ) (slot : ℕ) (bytes : List ℕ) : Type 0 where

@@ -1,12 +1,12 @@
 //! The calls on a slotted page. A page is 4,096 bytes; a slot is named by its number from 0. A page
 //! that [`verify`] takes is a slotted page, and each call leaves it one.
-ghost use Rattle.std.specs.Prelude.{◌≡◌, ◌≢◌, ℕ, ◌+◌, ◌≤◌, ◌↔◌, Some, None, MatchOption, IfOk, OnErr, IsOk, length, take, drop};
+ghost use Rattle.std.specs.Prelude.{◌≡◌, ◌≢◌, ℕ, ◌+◌, ◌≤◌, ◌↔◌, Some, None, MatchOption, IfOk, IfErr, OnErr, IsOk, length, take, drop, slice_index};
 ghost use Rattle.hg_slot.specs.Slotted.{slots, record_at, offset, IsSlotted, IsClean, IsRecord, Fits};
-ghost use Rattle.hg_slot.specs.Changing.{Empties, IsInserted, Overwrites, Verified};
+ghost use Rattle.hg_slot.specs.Changing.{Empties, IsInserted, Overwrites, IsWrong, Verified};
 
 use crate::change::{empty, fill, start};
 use crate::close::{fits, have_slot, head_with, make_room};
-use crate::entry::{COUNT, KIND, PAGE, number_at, set_bytes};
+use crate::entry::{COUNT, KIND, MAX_SLOTS, PAGE, entry_at, number_at, set_bytes};
 use crate::find::{find, first_empty};
 use crate::verify::{are_right, has_right_head};
 use hg_base::{Check, NoRoom};
@@ -42,6 +42,39 @@ pub fn get(page: &[u8], slot: u16) -> Option<&[u8]>
         Some(entry) => Some(&page[entry.offset..entry.offset + entry.size]),
         None => None,
     }
+}
+
+/// The record of a slot of a page whose bytes may be any, in constant time: it looks at the first
+/// byte, the number of slots and this slot's entry alone. On a slotted page it answers what [`get`]
+/// does. Of a damaged page it may show what the entry names, or answer an error.
+#[tactic(auto, using(crate::proofs::Peeking::peeking))]
+pub fn peek(page: &[u8], slot: u16) -> Result<Option<&[u8]>, Check>
+    requires { length page.now ≡ 4096 }
+    ensures slotted { IsSlotted page.now → IsOk result }
+    ensures shown { IfOk result (λ o. MatchOption o (record_at page.now slot ≡ None)
+        (λ r. record_at page.now slot ≡ Some r.now)) }
+    ensures wrong { IfErr result (IsWrong page.now) }
+    ensures kind { slice_index page.now 0 ≢ 83 → result ≡ Err Check.Kind }
+{
+    if page[0] != KIND {
+        return Err(Check::Kind);
+    }
+    let slot = slot as usize;
+    let count = number_at(page, COUNT);
+    if count > MAX_SLOTS {
+        return Err(Check::Size);
+    }
+    if slot >= count {
+        return Ok(None);
+    }
+    let entry = entry_at(page, slot);
+    if entry.offset == 0 {
+        return Ok(None);
+    }
+    if entry.offset + entry.size > PAGE {
+        return Err(Check::Size);
+    }
+    Ok(Some(&page[entry.offset..entry.offset + entry.size]))
 }
 
 /// Where the record of a slot begins on the page, and how many bytes it has. None where [`get`]
