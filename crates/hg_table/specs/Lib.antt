@@ -4,4 +4,7 @@ pub mod Versions
 pub mod Places
 pub mod Calls
 pub mod Steps
+pub mod Listing
+pub mod Altering
+pub mod InOrder
 pub mod TableLaws
