@@ -72,6 +72,12 @@ slots_here x held k (suc n) p e l h = elim (cases_eq k p.slot) [
           ∙ slots_here x held (suc k) n p e (omega arith) (omega arith)
     ]
 
+pub slots_below : (x : ℕ) (held : ℕ → Option RowVersion) (k n : ℕ) (p : Place) → k + n ≤ p.slot → version_at (in_slots x held k n) p ≡ None
+slots_below x held k zero p h = refl
+slots_below x held k (suc n) p h =
+    slot_step x held k n p false (and_no_right (x == p.page) (k == p.slot) (ne_eqb k p.slot (λ e. absurd (omega arith))))
+    ∙ slots_below x held (suc k) n p (omega arith)
+
 -- pages no two of which are one
 abbrev pub AreApart : List ℕ → Type 0
 AreApart [] = ⊤

@@ -1,5 +1,5 @@
 -- What the small calls do that the calls on a table are made of. Our own rule.
-use Rattle.std.specs.Prelude.{◌≡◌, ◌≢◌, ℕ, ◌<◌, ◌≤◌, Bool, true, false, List, Option, Some, None, length, is_some, ⊤, if◌then◌else◌}
+use Rattle.std.specs.Prelude.{◌≡◌, ◌≢◌, ℕ, ◌^◌, ◌<◌, ◌≤◌, Bool, true, false, List, Option, Some, None, length, is_some, ⊤, if◌then◌else◌}
 use Rattle.hg_base.specs.Space.{Space, key_in, at, IsFree}
 use Rattle.hg_base.specs.Causes.{NoneFull}
 use Rattle.hg_base.specs.Steadiness.{Steady}
@@ -28,6 +28,11 @@ IsLevel c = c ≡ check.Level
 pub record Looks (a b : Space) : Type 0 where
   pub steady : Steady none_mine a b
   pub takes_none : TakesNone a b
+
+-- A call was refused: nothing changed but counts, which may tell that a file was full.
+pub record Refused (a b : Space) : Type 0 where
+  pub steady : Steady none_mine a b
+  pub taken : b.taken ≡ a.taken
 
 -- A page that may be looked at: it can be pinned, and is a slotted page.
 pub record IsSound (s : Space) (x : ℕ) : Type 0 where
@@ -174,7 +179,18 @@ HoldsStamps page slot false = (columns : ℕ) (v : RowVersion) → Shows columns
 
 -- The stamp of its death was set in the record of a slot.
 pub record Kills (old new : List ℕ) (slot died : ℕ) : Type 0 where
+  pub small : died < 2 ^ 32
   pub record_bytes : List ℕ
   pub was : record_at old slot ≡ Some record_bytes
   pub long : 8 ≤ length record_bytes
   pub written : Overwrites old new slot 4 (to_le_bytes w32 died)
+
+-- The same whatever the number of values.
+abbrev pub IsWrongRecord : List ℕ → ℕ → Check → Type 0
+IsWrongRecord page slot check.Kind = IsSlotted page → ⊥
+IsWrongRecord page slot check.Size = IsSlotted page → ⊥
+IsWrongRecord page slot check.Frame = ⊥
+IsWrongRecord page slot check.Link = ⊥
+IsWrongRecord page slot check.Level = ⊥
+IsWrongRecord page slot check.Order = ⊥
+IsWrongRecord page slot check.RowBytes = (columns : ℕ) (v : RowVersion) → Shows columns (record_at page slot) (Some v) → ⊥

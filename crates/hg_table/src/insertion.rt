@@ -8,7 +8,7 @@ ghost use Rattle.hg_slot.specs.Changing.{IsInserted, IsWrong};
 ghost use Rattle.hg_value.specs.Coding.{coded};
 ghost use Rattle.hg_table.specs.Chains.{IsChain};
 ghost use Rattle.hg_table.specs.Calls.{none_mine, insert_mine, HasTable, Inserts, KeepsPages, AddsPage, InsertFault, newborn};
-ghost use Rattle.hg_table.specs.Steps.{Looks, Tries, HoldsRecord, PutsRecord, MakesPage, AddsRecord};
+ghost use Rattle.hg_table.specs.Steps.{Looks, Refused, Tries, HoldsRecord, PutsRecord, MakesPage, AddsRecord};
 
 use crate::open::{damaged, main_page};
 use crate::stored::record_of;
@@ -63,11 +63,12 @@ fn put_on<S: Pages>(space: &mut S, no: u32, bytes: &[u8]) -> Result<Option<u16>,
 }
 
 /// Takes a page and puts a record there.
+#[tactic(auto, using(crate::proofs::Seeing::refused))]
 fn new_page<S: Pages>(space: &mut S, bytes: &[u8]) -> Result<Place, PageFault>
     requires out { NoPins (S.state space.old) }
     requires short { length bytes.now ≤ 4076 }
     ensures made { IfOk result (MakesPage (S.state space.old) (S.state space.new) bytes.now) }
-    ensures err { OnErr result (Looks (S.state space.old) (S.state space.new)) }
+    ensures err { OnErr result (Refused (S.state space.old) (S.state space.new)) }
     ensures cause { HasCause (S.state space.old) (S.state space.new) result }
     ensures fault { IfErr result (InsertFault (S.state space.old) (S.state space.new)) }
 {
@@ -88,7 +89,7 @@ fn add_page<S: Pages>(table: &mut Table, space: &mut S, bytes: &[u8]) -> Result<
     requires short { length bytes.now ≤ 4076 }
     ensures made { IfOk result (λ place. AddsRecord (S.state space.old) (S.state space.new) table.old table.new bytes.now place) }
     ensures same { OnErr result (table.new ≡ table.old) }
-    ensures err { OnErr result (Looks (S.state space.old) (S.state space.new)) }
+    ensures err { OnErr result (Refused (S.state space.old) (S.state space.new)) }
     ensures cause { HasCause (S.state space.old) (S.state space.new) result }
     ensures fault { IfErr result (InsertFault (S.state space.old) (S.state space.new)) }
 {
@@ -119,7 +120,7 @@ pub fn insert<S: Pages>(
     ensures steady { IfOk result (λ place. Steady (insert_mine table.old place) (S.state space.old) (S.state space.new)) }
     ensures ok_counts { OnOk result (NoneFull (S.state space.old).counts (S.state space.new).counts) }
     ensures same { OnErr result (table.new ≡ table.old) }
-    ensures err { OnErr result (Looks (S.state space.old) (S.state space.new)) }
+    ensures err { OnErr result (Refused (S.state space.old) (S.state space.new)) }
     ensures cause { HasCause (S.state space.old) (S.state space.new) result }
     ensures fault { IfErr result (InsertFault (S.state space.old) (S.state space.new)) }
 {

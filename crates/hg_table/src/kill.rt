@@ -7,7 +7,7 @@ ghost use Rattle.hg_slot.specs.Slotted.{IsSlotted, record_at};
 ghost use Rattle.hg_slot.specs.Changing.{Overwrites};
 ghost use Rattle.hg_table.specs.Calls.{LookFault, IsVersionCheck, TakesNone};
 ghost use Rattle.hg_table.specs.Versions.{RowVersion};
-ghost use Rattle.hg_table.specs.Steps.{Looks, IsSoundAt, IsWrongVersion, ChangesPage, Kills, HoldsStamps};
+ghost use Rattle.hg_table.specs.Steps.{Looks, IsSoundAt, IsWrongRecord, ChangesPage, Kills, HoldsStamps};
 
 use crate::open::{damaged, open};
 use crate::stored::STAMPS;
@@ -30,7 +30,7 @@ fn kill_in(page: &mut [u8], slot: u16, died: Stamp) -> Result<(), Check>
     requires { length page.old ≡ 4096 }
     ensures ok { OnOk result (Kills page.old page.new slot died.0) }
     ensures err { OnErr result (page.new ≡ page.old) }
-    ensures wrong { IfErr result (λ check. (columns : ℕ) → IsWrongVersion page.old columns slot check) }
+    ensures wrong { IfErr result (IsWrongRecord page.old slot) }
 {
     slot::verify(page)?;
     if !holds_stamps(page, slot) {
