@@ -100,7 +100,7 @@ link_steady s l to out = record {
 
 -- a page that is taken is none that was not
 apart_taken : (a : Space) (x y : ℕ) → a.taken (key_in Main x) ≡ false → a.taken (key_in Main y) ≡ true → y ≢ x
-apart_taken a x y no yes e = false≢true (sym no ∙ ap (λ z. a.taken (key_in Main z)) (sym e) ∙ yes)
+apart_taken a x y free full e = false≢true (sym free ∙ ap (λ z. a.taken (key_in Main z)) (sym e) ∙ full)
 
 made_beside : (a b : Space) (r : List ℕ) (place : Place) (l : ℕ) → MakesPage a b r place → IsPlain a (key_in Main l) → IsSamePage a b (key_in Main l)
 made_beside a b r place l m p =

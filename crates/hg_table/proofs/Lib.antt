@@ -5,3 +5,5 @@ pub mod Walking
 pub mod Changed
 pub mod Killing
 pub mod Inserting
+pub mod Following
+pub mod Chaining
