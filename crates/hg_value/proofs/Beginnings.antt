@@ -1,7 +1,7 @@
 -- What stands at the front of bytes.
-use Rattle.std.proofs.Common.{◌≡◌, ℕ, ℤ, zero, suc, ◌+◌, ◌-◌, ◌<◌, ◌≤◌, Bool, true, false, List, [], ◌∷◌, ◌++◌, length, take, drop, get_or, refl, sym, ap, ◌∙◌, subst, arith, length-append, length-take-le, Option, Some, None}
+use Rattle.std.proofs.Common.{◌≡◌, ℕ, ℤ, zero, suc, ◌+◌, ◌-◌, ◌<◌, ◌≤◌, Bool, true, false, List, [], ◌∷◌, length, take, drop, get_or, refl, sym, ap, ◌∙◌, arith, length-append, length-take-le, Some}
 use Rattle.std.specs.Prelude.{IsTrue, FitsSigned, if◌then◌else◌, ◌==◌, ◌&&◌, nat_le, slice_get}
-use Rattle.std.specs.Int.{w32, w128, from_le_bytes, cast_signed}
+use Rattle.std.specs.Int.{w32, w128}
 use Rattle.std.specs.List.{AllByRecursion, list_all}
 use Rattle.std.proofs.lemmas.Bool.Decides.{nat_tests}
 use Rattle.std.proofs.lemmas.Bool.{and_parts}
@@ -34,33 +34,6 @@ wide_rest (Int x) e = by (fits_integer x) e
     by false p = length-wide x
 wide_rest (Text t) e = absurd (omega arith)
 
-int_first : (x : ℤ) (b : Bool) → get_or (if b then 1 ∷ narrow x else 3 ∷ wide x) 0 0 ≡ 2 → ⊥
-int_first x true p = absurd (omega arith)
-int_first x false p = absurd (omega arith)
-
-pub text_rest : (v : Value) → IsHeld v → get_or (coding v) 0 0 ≡ 2 → IsTrue (is_chars (drop 1 (drop 1 (coding v))))
-text_rest Null h e = absurd (omega arith)
-text_rest (Int x) h e = absurd (int_first x (fits_integer x) e)
-text_rest (Text t) h e = h
-
-pub coding_long : (v : Value) → 1 ≤ length (coding v)
-coding_long Null = omega arith
-coding_long (Int x) = by (fits_integer x)
-  where
-    by : (b : Bool) → 1 ≤ length (if b then 1 ∷ narrow x else 3 ∷ wide x)
-    by true = omega arith
-    by false = omega arith
-coding_long (Text t) = omega arith
-
-first_small : (v : Value) → get_or (coding v) 0 0 ≤ 3
-first_small Null = omega arith
-first_small (Int x) = by (fits_integer x)
-  where
-    by : (b : Bool) → get_or (if b then 1 ∷ narrow x else 3 ∷ wide x) 0 0 ≤ 3
-    by true = omega arith
-    by false = omega arith
-first_small (Text t) = omega arith
-
 -- ---- what a coding is read as, by its first byte
 
 pub decoded_narrow : (bytes : List ℕ) → get_or bytes 0 0 ≡ 1 → decoded bytes ≡ Int (narrow_number (drop 1 bytes))
@@ -89,28 +62,6 @@ none_unlike : (bytes : List ℕ) → ((v : Value) → IsHeld v → coding v ≡ 
 none_unlike bytes differs v rest h e =
     let long : length (coding v) ≡ front bytes = sym (front_is v rest) ∙ ap front e in
     differs v h (sym (take_at (coding v) rest (front bytes) long) ∙ ap (take (front bytes)) e)
-
-pub none_empty : BeginsWithNone []
-none_empty v rest h e = absurd (omega (arith, length-append (coding v) rest, ap length e, coding_long v))
-
-first_of_int : (x : ℤ) (r : List ℕ) (t : Bool) → get_or ((if t then 1 ∷ narrow x else 3 ∷ wide x) ++ r) 0 0 ≡ get_or (if t then 1 ∷ narrow x else 3 ∷ wide x) 0 0
-first_of_int x r true = refl
-first_of_int x r false = refl
-
-first_of : (w : Value) (r : List ℕ) → get_or (coding w ++ r) 0 0 ≡ get_or (coding w) 0 0
-first_of Null r = refl
-first_of (Int x) r = first_of_int x r (fits_integer x)
-first_of (Text t) r = refl
-
-pub none_other : (bytes : List ℕ) → 3 < get_or bytes 0 0 → BeginsWithNone bytes
-none_other [] l v rest h e = absurd (omega arith)
-none_other (b ∷ bs) l v rest h e =
-    let f : get_or (coding v ++ rest) 0 0 ≡ b = ap (λ r. get_or r 0 0) e in
-    absurd (omega (arith, first_small v, first_of v rest, f))
-
-pub begins_null : (bytes : List ℕ) → 0 < length bytes → get_or bytes 0 0 ≡ 0 → BeginsWith bytes 1
-begins_null [] l e = absurd (omega arith)
-begins_null (b ∷ bs) l e = record { within = omega arith; spells = record { value = Null; held = tt; is = ap (λ f. f ∷ []) e } }
 
 all_bytes : (bs : List ℕ) → ((i : ℕ) → get_or bs i 0 < 256) → AllByRecursion (λ b. b < 256) bs
 all_bytes [] h = tt
@@ -237,9 +188,6 @@ four_bytes bytes c e = ap (λ b. length (drop 1 b)) c.is ∙ narrow_rest c.value
 
 pub sixteen_bytes : (bytes : List ℕ) → IsCoding bytes → get_or bytes 0 0 ≡ 3 → length (drop 1 bytes) ≡ 16
 sixteen_bytes bytes c e = ap (λ b. length (drop 1 b)) c.is ∙ wide_rest c.value (ap (λ b. get_or b 0 0) (sym c.is) ∙ e)
-
-pub chars_bytes : (bytes : List ℕ) → IsCoding bytes → get_or bytes 0 0 ≡ 2 → IsTrue (is_chars (drop 1 (drop 1 bytes)))
-chars_bytes bytes c e = ap (λ b. is_chars (drop 1 (drop 1 b))) c.is ∙ text_rest c.value c.held (ap (λ b. get_or b 0 0) (sym c.is) ∙ e)
 
 pub decoded_other : (bytes : List ℕ) → (get_or bytes 0 0 ≡ 1 → ⊥) → (get_or bytes 0 0 ≡ 2 → ⊥) → (get_or bytes 0 0 ≡ 3 → ⊥) → decoded bytes ≡ Null
 unfolding decoded

@@ -1,21 +1,18 @@
 -- A coding spells one value, and nothing that stands behind it.
-use Rattle.std.proofs.Common.{◌≡◌, ℕ, ℤ, pos, negsuc, zero, suc, ◌+◌, ◌-◌, ◌*◌, ◌/◌, ◌%◌, ◌^◌, ◌<◌, ◌≤◌, Bool, true, false, List, [], ◌∷◌, ◌++◌, length, take, drop, get_or, refl, sym, ap, ◌∙◌, subst, arith, append_assoc, length-append, append-nil}
-use Rattle.std.specs.Prelude.{IsTrue, FitsSigned, if◌then◌else◌, ◌==◌}
+use Rattle.std.proofs.Common.{◌≡◌, ℕ, ℤ, pos, negsuc, suc, ◌+◌, ◌^◌, ◌<◌, ◌≤◌, Bool, true, false, List, [], ◌∷◌, ◌++◌, length, take, drop, get_or, refl, sym, ap, ◌∙◌, subst, arith, append_assoc, length-append}
+use Rattle.std.specs.Prelude.{FitsSigned, if◌then◌else◌, ◌==◌}
 use Rattle.std.specs.Int.{w32, w128, to_le_bytes, from_le_bytes, cast_signed, cast_unsigned, bytes_low_first}
-use Rattle.std.specs.List.{AllByRecursion, flat_map}
+use Rattle.std.specs.List.{AllByRecursion}
 use Rattle.std.proofs.lemmas.Bool.Decides.{nat_tests}
-use Rattle.std.proofs.lemmas.Bool.{and_parts}
 use Rattle.std.proofs.lemmas.Int.{to_z-of_z, of_z-to_z}
 use Rattle.std.proofs.lemmas.List.Sums.{sum_by-cons}
 use Rattle.std.proofs.Math.Facts.{sfits_to_z}
-use Rattle.std.proofs.lemmas.List.{take_at, drop_at, append_cancel_left}
+use Rattle.std.proofs.lemmas.List.{take_at, drop_at}
 use Rattle.hg_model.specs.Changes.{value_length, row_length}
 use Rattle.hg_model.specs.Tables.{fits_integer}
-use Rattle.hg_model.specs.Value.{is_printable, is_chars}
 use Rattle.hg_model.specs.declared.values.Value.{Value}
 use Rattle.hg_model.specs.declared.values.Value.TheVariants.{Null, Int, Text}
-use Rattle.hg_value.specs.Coding.{coding, coded, narrow, wide, IsHeld, IsStorable}
-use Rattle.hg_value.specs.Laws.{CodingsAreLong, CodingsTell}
+use Rattle.hg_value.specs.Coding.{coding, coded, narrow, wide, IsHeld}
 use Rattle.hg_value.specs.RowParts.{narrow_number, wide_number, decoded}
 use Rattle.hg_value.proofs.Digits.{number, length-low_first, number-low_first, low_first-number, number_below, sum_through-number}
 

@@ -1,13 +1,13 @@
 -- Reading a row from its bytes, value after value.
-use Rattle.std.proofs.Common.{◌≡◌, ℕ, zero, suc, ◌+◌, ◌-◌, ◌<◌, ◌≤◌, List, [], ◌∷◌, ◌++◌, length, take, drop, refl, sym, ap, ◌∙◌, subst, arith, append_assoc, append-nil, length-append, length-drop, take-append-drop}
+use Rattle.std.proofs.Common.{◌≡◌, ℕ, ◌+◌, ◌-◌, ◌<◌, ◌≤◌, List, [], ◌∷◌, ◌++◌, length, drop, refl, sym, ap, ◌∙◌, subst, arith, append_assoc, append-nil, length-append, take-append-drop}
 use Rattle.std.specs.Prelude.{Bool, true, false, ◌==◌}
 use Rattle.std.specs.Bool.{OnTrue, OnFalse}
 use Rattle.std.specs.List.{AllByRecursion}
 use Rattle.std.proofs.lemmas.Bool.Decides.{nat_tests}
 use Rattle.std.proofs.lemmas.List.{nil_from_length}
 use Rattle.hg_model.specs.declared.values.Value.{Value}
-use Rattle.hg_value.specs.Coding.{coding, coded, IsHeld, IsStorable, IsRowOf, IsNoRow}
-use Rattle.hg_value.specs.RowParts.{ends_from, row_values, AreParts, IsCoding, BeginsWith, BeginsWithNone, HasRead, AreEnds}
+use Rattle.hg_value.specs.Coding.{coding, coded, IsHeld, IsRowOf, IsNoRow}
+use Rattle.hg_value.specs.RowParts.{row_values, AreParts, BeginsWith, BeginsWithNone, HasRead, AreEnds}
 use Rattle.hg_value.proofs.Codings.{going_on, one_row}
 use Rattle.hg_value.proofs.Rows.{row_shown, parts_of, length-ends, coded-push, ends_from-push, held-push}
 
@@ -88,12 +88,6 @@ is_read n bytes ends a =
       only = λ vs w. is ∙ (one_row a.values vs [] [] a.row.storable.held w.storable.held (a.row.count ∙ sym w.count)
           (append-nil (coded a.values) ∙ a.row.spelled ∙ sym w.spelled ∙ sym (append-nil (coded vs)))).0;
     }
-
-pub too_many : (n : ℕ) (bytes : List ℕ) → 64 < n → IsNoRow n bytes
-too_many n bytes l ws w = omega (arith, w.count, w.storable.few)
-
-pub too_long : (n : ℕ) (bytes : List ℕ) → 3900 < length bytes → IsNoRow n bytes
-too_long n bytes l ws w = omega (arith, ap length w.spelled, w.storable.short)
 
 -- ---- what the end tells: whether nothing is left
 

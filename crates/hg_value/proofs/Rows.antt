@@ -1,13 +1,13 @@
 -- A row shows the values whose codings are its bytes.
-use Rattle.std.proofs.Common.{◌≡◌, ℕ, zero, suc, ◌+◌, ◌-◌, ◌<◌, ◌≤◌, List, [], ◌∷◌, ◌++◌, length, take, drop, get_or, refl, sym, ap, ◌∙◌, subst, arith, append_assoc, append-nil, length-append, length-take-le, Option, Some, None}
-use Rattle.std.specs.Prelude.{slice_get, IsTrue, true, false, is_ok}
+use Rattle.std.proofs.Common.{◌≡◌, ℕ, zero, suc, ◌+◌, ◌-◌, ◌<◌, ◌≤◌, List, [], ◌∷◌, ◌++◌, length, take, drop, get_or, refl, sym, ap, ◌∙◌, subst, arith, append_assoc, append-nil, length-append, Some}
+use Rattle.std.specs.Prelude.{slice_get}
 use Rattle.std.specs.List.{AllByRecursion}
 use Rattle.std.proofs.lemmas.List.{take_at, drop_at}
 use Rattle.std.proofs.lemmas.Grind.{flat_map-append}
 use Rattle.hg_model.specs.declared.values.Value.{Value}
-use Rattle.hg_value.specs.Coding.{coding, coded, IsHeld, IsStorable, HasRoom, IsRowOf, IsNoRow}
-use Rattle.hg_value.specs.RowParts.{decoded, values_from, ends_from, begin_from, row_values, AreParts, IsCoding, BeginsWith, BeginsWithNone, HasRead, AreEnds}
-use Rattle.hg_value.proofs.Codings.{decoded-coding, going_on, one_row}
+use Rattle.hg_value.specs.Coding.{coding, coded, IsHeld, IsStorable, HasRoom}
+use Rattle.hg_value.specs.RowParts.{decoded, values_from, ends_from, begin_from, row_values, AreParts, IsCoding}
+use Rattle.hg_value.proofs.Codings.{decoded-coding}
 
 -- ---- the view
 

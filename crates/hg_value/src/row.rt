@@ -87,7 +87,8 @@ impl Row {
         self.ends.is_empty()
     }
 
-    /// Puts a value behind the others.
+    /// Puts a value behind the others. NoRoom comes exactly where there would be more than 64 values
+    /// or more than 3,900 bytes; the row is then as it was.
     pub fn push(&mut self, v: &Value) -> Result<(), NoRoom>
         ensures ok { OnOk result (self.new ≡ self.old ++ v.now ∷ []) }
         ensures unchanged { OnErr result (self.new ≡ self.old) }

@@ -1,4 +1,4 @@
-use Rattle.std.proofs.Common.{rules, arith, ap, ◌∙◌, sym, ◌≡◌, length, drop}
+use Rattle.std.proofs.Common.{rules, arith, ap, ◌∙◌, sym, length, drop}
 use Rattle.std.specs.Prelude.{FitsSigned}
 use Rattle.std.specs.Int.{w128}
 use Rattle.hg_model.specs.declared.values.Value.TheVariants.{Int, Text}

@@ -1,4 +1,4 @@
-use Rattle.std.proofs.Common.{arith, subst, sym, ap, refl, ◌≡◌, ◌<◌, length, rules}
+use Rattle.std.proofs.Common.{arith, subst, ◌≡◌}
 use Rattle.hg_value.proofs.Reading.{read_none, read_more, read_length, none_there, found_by, none_by}
 use Rattle.hg_value.specs.RowParts.{HasRead}
 use Rattle.hg_value.proofs.decode.read_ends.Goals as goal

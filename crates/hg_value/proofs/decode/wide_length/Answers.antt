@@ -1,6 +1,5 @@
-use Rattle.std.proofs.Common.{rules, arith, ap, ◌∙◌, sym, ◌≡◌, true, false, take, drop}
+use Rattle.std.proofs.Common.{rules, arith, ap, ◌∙◌, sym, ◌≡◌, true, false}
 use Rattle.hg_model.specs.Tables.{fits_integer}
-use Rattle.hg_value.specs.RowParts.{wide_number}
 use Rattle.hg_value.proofs.Beginnings.{begins_wide, none_wide, none_wide_narrow}
 use Rattle.hg_value.proofs.Codings.{told}
 use Rattle.hg_value.proofs.decode.wide_length.Goals as goal

@@ -1,7 +1,5 @@
-use Rattle.std.proofs.Common.{length, ◌+◌, ◌≤◌, ◌++◌, ◌∙◌, sym, ap, ◌≡◌, true, false, rules, arith}
-use Rattle.std.specs.Int.{w32, w128, to_le_bytes, cast_unsigned}
+use Rattle.std.proofs.Common.{length, ◌++◌, ◌∙◌, ap, ◌≡◌, true, false, arith}
 use Rattle.hg_model.specs.Tables.{fits_integer}
-use Rattle.hg_value.specs.Coding.{coding}
 use Rattle.hg_value.proofs.Codings.{told, long_narrow, long_wide, written_narrow, written_wide}
 use Rattle.hg_value.proofs.encode.put_number.Goals as goal
 

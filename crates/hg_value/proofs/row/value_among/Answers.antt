@@ -1,6 +1,6 @@
-use Rattle.std.proofs.Common.{◌≡◌, ◌-◌, ◌≤◌, sym, ap, ◌∙◌, subst, length, take, drop, get_or, Some, arith}
-use Rattle.hg_value.specs.RowParts.{begin_from, decoded, IsCoding}
-use Rattle.hg_value.proofs.Rows.{PlaceOf, place_in, value_is}
+use Rattle.std.proofs.Common.{◌-◌, sym, ap, ◌∙◌, subst, take, drop, get_or, Some, arith}
+use Rattle.hg_value.specs.RowParts.{decoded, IsCoding}
+use Rattle.hg_value.proofs.Rows.{place_in, value_is}
 use Rattle.hg_value.proofs.row.value_among.Goals as goal
 use Rattle.hg_value.proofs.row.value_among.Goals.{After-beginning-begin, After-split_at-2}
 

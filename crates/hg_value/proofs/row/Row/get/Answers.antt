@@ -1,4 +1,4 @@
-use Rattle.std.proofs.Common.{sym, ap, ◌∙◌, length, arith}
+use Rattle.std.proofs.Common.{ap, length, arith}
 use Rattle.hg_value.proofs.Rows.{length-values}
 use Rattle.hg_value.proofs.row.Row.get.Goals as goal
 

@@ -1,7 +1,6 @@
-use Rattle.std.proofs.Common.{◌≡◌, ◌+◌, List, [], ◌∷◌, ◌++◌, refl, sym, ap, ◌∙◌, subst, length, arith}
-use Rattle.hg_value.specs.Coding.{coding, HasRoom}
-use Rattle.hg_value.specs.RowParts.{row_values}
-use Rattle.hg_value.proofs.Rows.{length-values, Pushes, pushing, room_is, room_means}
+use Rattle.std.proofs.Common.{◌+◌, [], ◌∷◌, ◌++◌, refl, sym, ap, ◌∙◌, subst, arith}
+use Rattle.hg_value.specs.Coding.{HasRoom}
+use Rattle.hg_value.proofs.Rows.{Pushes, pushing, room_is, room_means}
 use Rattle.hg_value.proofs.row.Row.push.Goals as goal
 use Rattle.hg_value.proofs.row.Row.push.Goals.{After-push, then-len-eq-MAX_VALUES-via-then-len-eq-MAX_VALUES, then-len-eq-MAX_VALUES-via-else-len-eq-MAX_VALUES+then-end-gt-MAX_BYTES}
 
