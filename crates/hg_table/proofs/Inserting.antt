@@ -12,14 +12,14 @@ use Rattle.hg_base.specs.declared.File.TheVariants.{Main}
 use Rattle.hg_base.specs.declared.Place.{Place}
 use Rattle.hg_base.specs.declared.Table.{Table}
 use Rattle.hg_model.specs.declared.values.Value.{Value}
-use Rattle.hg_slot.specs.Slotted.{record_at}
+use Rattle.hg_slot.specs.Slotted.{IsSlotted, record_at}
 use Rattle.hg_table.specs.Chains.{IsLine, IsPath, IsChain, has_page, last_of}
 use Rattle.hg_table.specs.Versions.{Placed, RowVersion, HoldsVersions, IsStored, IsTable, Shows, in_pages, most_slots}
-use Rattle.hg_table.specs.Calls.{none_mine, page_mine, insert_mine, IsNamed, Inserts, IsTableWith, PutsIn, KeepsPages, AddsPage, HasNoRoom, newborn}
+use Rattle.hg_table.specs.Calls.{HasTable, none_mine, page_mine, insert_mine, IsNamed, Inserts, IsTableWith, PutsIn, KeepsPages, AddsPage, HasNoRoom, newborn}
 use Rattle.hg_table.specs.Steps.{ChangesPage, Changes, Puts, HoldsRecord, HasNoPlace, MakesPage, AddsRecord, IsLinked, LeadsTo, first_with, Looks}
 use Rattle.hg_table.specs.Listing.{AreApart, put}
 use Rattle.hg_table.specs.Altering.{with_slot, with_new, none_held, at_here, at_other, pages_put, pages_new}
-use Rattle.hg_table.specs.TableLaws.{line-plain, all_map, all_both, distinct-apart, distinct-taken, holds-same}
+use Rattle.hg_table.specs.TableLaws.{chain_stays, line-plain, all_map, all_both, distinct-apart, distinct-taken, holds-same}
 use Rattle.hg_table.proofs.Seeing.{slot_small}
 use Rattle.hg_table.proofs.Places.{all_has}
 use Rattle.hg_table.proofs.Walking.{shown_none, looks_page}
@@ -194,3 +194,17 @@ adds_behind a m b old new r place k plain h = record {
 
 pub adds_page : (a b : Space) (old new : Table) (r : List ℕ) (place : Place) (n : ℕ) → AddsRecord a b old new r place → HasNoRoom a old.last n → AddsPage a b old new place.page n
 adds_page a b old new r place n h full = record { last = h.last; not_taken = h.not_taken; taken = h.taken; full = full }
+
+-- the last page of a table is a slotted page
+pub last_page : (a : Space) (t : Table) (l : ℕ) → HasTable a t → t.last ≡ Some l → (page : List ℕ) × (a.bytes (key_in Main l) ≡ Some page) × IsSlotted page
+last_page a t l h last =
+    let on : HoldsVersions a h.columns l (h.table.held l) =
+    all_has (λ y. HoldsVersions a h.columns y (h.table.held y)) h.pages l h.table.holds (last_has h.pages l (sym h.table.chain.last ∙ last)) in
+    (on.page, on.told, on.slotted)
+
+none_all : (pages : List ℕ) → AllByRecursion (λ x. ⊥ → ⊥) pages
+none_all [] = tt
+none_all (x ∷ xs) = (λ n. n, none_all xs)
+
+pub looked_chain : (a m : Space) (t : Table) (pages : List ℕ) → Looks a m → IsChain a t pages → IsChain m t pages
+looked_chain a m t pages k chain = chain_stays none_mine a m t pages k.steady (none_all pages) chain
