@@ -1,0 +1,60 @@
+use Rattle.std.specs.Prelude.{◌≡◌, ℕ, ◌+◌, true, List, Option, Some, None, IfOk}
+use Rattle.std.proofs.Common.{sym, ◌∙◌, ap, subst}
+use Rattle.std.proofs.lemmas.Result.{IfOk-weaker}
+use Rattle.hg_base.specs.Space.{Space, key}
+use Rattle.hg_base.specs.declared.Place.{Place}
+use Rattle.hg_base.specs.declared.Table.{Table}
+use Rattle.hg_table.specs.Places.{behind, first_place}
+use Rattle.hg_table.specs.Calls.{HasStart}
+use Rattle.hg_table.specs.Steps.{IsNextSlot}
+use Rattle.hg_table.proofs.Following.{table_line, rest_line, place_sound, start_on, first_of_table, next_here, next_behind}
+use Rattle.hg_table.proofs.walk.after.Goals as goal
+
+pub look-requires-clause-sound : goal.look-requires-clause-sound
+look-requires-clause-sound g c = λ told.
+    place_sound (g.S.Pages.state c.args.space.now) c.args.table.now c.in-Some.place c.requires.out
+    (subst (HasStart (g.S.Pages.state c.args.space.now) c.args.table.now) c.in-Some.is (c.requires.start told))
+
+pub returns-in-Some-2-clause-next : goal.returns-in-Some-2-clause-next
+returns-in-Some-2-clause-next g c = λ columns pages versions table.
+    let a : Space = g.S.Pages.state c.args.space.now in
+    let t : Table = c.args.table.now in
+    let h : HasStart a t (Some c.in-Some.place) = subst (HasStart a t) c.in-Some.is (c.requires.start table.told) in
+    next_here a t columns pages versions c.in-Some.place c.in-Some-2.slot table (start_on a t columns pages versions c.in-Some.place table h)
+    (λ page told. subst (IsNextSlot page (c.in-Some.place.slot + 1)) c.in-Some-2.is (c.in_ok-slot-in-Some.ensures.next page told))
+    ∙ ap (λ (p : Option Place). first_place (behind pages p versions)) (sym c.in-Some.is)
+
+pub first_along-requires-in-Some-clause-line : goal.first_along-requires-in-Some-clause-line
+first_along-requires-in-Some-clause-line g c = λ told.
+    let a : Space = g.S.Pages.state c.args.space.now in
+    let b : Space = g.S.Pages.state c.look.new.space in
+    let t : Table = c.args.table.now in
+    let h : HasStart a t (Some c.in-Some.place) =
+    subst (HasStart a t) c.in-Some.is (c.requires.start (sym c.in_ok-slot-in-Some.ensures.looks.steady.told ∙ told)) in
+    rest_line a b t h.columns h.pages h.versions c.in-Some.place.page c.next.result c.in_ok-slot-in-Some.ensures.looks h.table h.page
+    (c.next.ensures ∙ ap (λ p. b.next (key p)) c.main_page.ensures)
+
+pub returns-in-None-clause-next : goal.returns-in-None-clause-next
+returns-in-None-clause-next g c =
+    let a : Space = g.S.Pages.state c.args.space.now in
+    let t : Table = c.args.table.now in
+    IfOk-weaker c.first_along.result _ _
+    (λ next known columns pages versions table.
+    first_of_table a t columns pages versions next table (known (table_line a t columns pages versions table))
+    ∙ ap (λ (p : Option Place). first_place (behind pages p versions)) (sym c.in-None.is))
+    c.first_along.ensures.first
+
+pub returns-in_default-clause-next : goal.returns-in_default-clause-next
+returns-in_default-clause-next g c =
+    let a : Space = g.S.Pages.state c.args.space.now in
+    let b : Space = g.S.Pages.state c.look.new.space in
+    let t : Table = c.args.table.now in
+    IfOk-weaker c.first_along-in-Some.result _ _
+    (λ next known columns pages versions table.
+    let h : HasStart a t (Some c.in-Some.place) = subst (HasStart a t) c.in-Some.is (c.requires.start table.told) in
+    next_behind a t columns pages versions c.in-Some.place next table (start_on a t columns pages versions c.in-Some.place table h)
+    (λ page told. subst (IsNextSlot page (c.in-Some.place.slot + 1)) c.in_default.is (c.in_ok-slot-in-Some.ensures.next page told))
+    (known (rest_line a b t columns pages versions c.in-Some.place.page c.next.result c.in_ok-slot-in-Some.ensures.looks table
+    (start_on a t columns pages versions c.in-Some.place table h) (c.next.ensures ∙ ap (λ p. b.next (key p)) c.main_page.ensures)))
+    ∙ ap (λ (p : Option Place). first_place (behind pages p versions)) (sym c.in-Some.is))
+    c.first_along-in-Some.ensures.first

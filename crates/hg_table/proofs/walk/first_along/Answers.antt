@@ -1,0 +1,72 @@
+use Rattle.std.specs.Prelude.{◌≡◌, ℕ, ◌+◌, true, List, Option, Some, None}
+use Rattle.std.proofs.Common.{sym, ◌∙◌, ap, subst, arith, rules}
+use Rattle.hg_base.specs.Space.{Space, key, key_in}
+use Rattle.hg_base.specs.Causes.{Licensed}
+use Rattle.hg_base.specs.declared.File.TheVariants.{Main}
+use Rattle.hg_base.specs.declared.pages.PageFault.{PageFault}
+use Rattle.hg_table.specs.Calls.{LookFault, IsWalkCheck}
+use Rattle.hg_table.specs.Steps.{HoldsLine, IsNextSlot, IsFirstFull}
+use Rattle.hg_table.proofs.Walking.{Passed, line_ended, line_found, line_passed, line_short, looks_then, next_page, next_sound, not_told}
+use Rattle.hg_table.proofs.walk.first_along.Goals as goal
+
+pub returns-in_default-clause-first : goal.returns-in_default-clause-first
+returns-in_default-clause-first g c = λ h.
+    line_ended (g.S.Pages.state c.args.space.now) c.args.start h c.loop-turn._turn
+    (subst (λ o. Passed (g.S.Pages.state c.args.space.now) c.args.start h o c.loop-turn._turn) c.in_default.is (c.loop-turn.invariant.passed h))
+
+pub returns-in-None-clause-first : goal.returns-in-None-clause-first
+returns-in-None-clause-first g c = λ h.
+    line_ended (g.S.Pages.state c.args.space.now) c.args.start h c.loop-turn._turn
+    (subst (λ o. Passed (g.S.Pages.state c.args.space.now) c.args.start h o c.loop-turn._turn) c.in-None.is (c.loop-turn.invariant.passed h))
+
+pub look-requires-clause-sound : goal.look-requires-clause-sound
+look-requires-clause-sound g c = λ told.
+    let a : Space = g.S.Pages.state c.args.space.now in
+    let h : HoldsLine a c.args.start = c.requires.line (sym c.loop-turn.invariant.looks.steady.told ∙ told) in
+    next_sound a (g.S.Pages.state c.loop-turn.space) c.args.start h c.in-Some.no c.loop-turn._turn c.loop-turn.invariant.looks
+    (next_page a c.args.start h c.in-Some.no c.loop-turn._turn
+    (subst (λ o. Passed a c.args.start h o c.loop-turn._turn) c.in-Some.is (c.loop-turn.invariant.passed h)))
+
+pub returns-in-Some-2-clause-first : goal.returns-in-Some-2-clause-first
+returns-in-Some-2-clause-first g c = λ h.
+    let a : Space = g.S.Pages.state c.args.space.now in
+    line_found a (g.S.Pages.state c.loop-turn.space) c.args.start h c.in-Some.no c.in-Some-2.slot c.loop-turn._turn c.loop-turn.invariant.looks
+    (subst (λ o. Passed a c.args.start h o c.loop-turn._turn) c.in-Some.is (c.loop-turn.invariant.passed h))
+    (λ page told. subst (IsNextSlot page 0) c.in-Some-2.is (c.in_ok-slot.ensures.next page told))
+
+pub loop-turn-preserved : goal.loop-turn-preserved
+loop-turn-preserved g c =
+    let a : Space = g.S.Pages.state c.args.space.now in
+    let b : Space = g.S.Pages.state c.loop-turn.space in
+    let d : Space = g.S.Pages.state c.look.new.space in
+    let x : ℕ = c.in-Some.no in
+    record {
+      looks = looks_then a b d c.loop-turn.invariant.looks c.in_ok-slot.ensures.looks;
+      passed = λ h. subst (λ o. Passed a c.args.start h o (c.loop-turn._turn + 1)) (sym (c.next-next.ensures ∙ ap (λ p. d.next (key p)) c.main_page.ensures))
+          (line_passed a b d c.args.start h x c.loop-turn._turn c.loop-turn.invariant.looks c.in_ok-slot.ensures.looks
+          (subst (λ o. Passed a c.args.start h o c.loop-turn._turn) c.in-Some.is (c.loop-turn.invariant.passed h))
+          (λ page told. subst (IsNextSlot page 0) c.in_default-2.is (c.in_ok-slot.ensures.next page told)));
+    }
+
+-- where the space tells, no walk goes so far
+never_told : (g : _) (c : goal.After-damaged g) → (g.S.Pages.state c.args.space.now).told ≡ true → ⊥
+never_told g c told =
+    let a : Space = g.S.Pages.state c.args.space.now in
+    let h : HoldsLine a c.args.start = c.requires.line told in
+    line_short a c.args.start h c.in-Some-next.no c.loop-turn._turn (omega arith)
+    (subst (λ o. Passed a c.args.start h o c.loop-turn._turn) c.in-Some-next.is (c.loop-turn.invariant.passed h))
+
+pub returns-in-Some-next-clause-cause : goal.returns-in-Some-next-clause-cause
+returns-in-Some-next-clause-cause g c =
+    let a : Space = g.S.Pages.state c.args.space.now in
+    let b : Space = g.S.Pages.state c.loop-turn.space in
+    record {
+      later = c.loop-turn.invariant.looks.steady.counts;
+      failed = subst (Licensed a b) (sym c.damaged.ensures) (not_told a.told (never_told g c));
+    }
+
+pub returns-in-Some-next-clause-fault : goal.returns-in-Some-next-clause-fault
+returns-in-Some-next-clause-fault g c =
+    let a : Space = g.S.Pages.state c.args.space.now in
+    let b : Space = g.S.Pages.state c.loop-turn.space in
+    subst (LookFault IsWalkCheck a b) (sym c.damaged.ensures) (not_told a.told (never_told g c), tt)

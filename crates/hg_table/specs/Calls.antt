@@ -1,0 +1,158 @@
+-- What the calls on a table ask, what they do, and why they fail. Our own rule.
+use Rattle.std.specs.Prelude.{◌≡◌, ℕ, true, false, List, [], ◌∷◌, ◌++◌, length, Option, Some, None, IsSome, IsTrue, MatchOption, ⊤, ◌⊎◌}
+use Rattle.hg_base.specs.Space.{Space, key_in, at, IsFull}
+use Rattle.hg_base.specs.Causes.{MainFailed, TempFailed, NoneFull, Rose}
+use Rattle.hg_base.specs.Steadiness.{Mine, these_pages}
+use Rattle.hg_base.specs.declared.File.TheVariants as file
+use Rattle.hg_base.specs.declared.Place.{Place}
+use Rattle.hg_base.specs.declared.Table.{Table}
+use Rattle.hg_base.specs.declared.Check.{Check}
+use Rattle.hg_base.specs.declared.Check.TheVariants.{Kind, Size, Frame, Link, Level, Order, RowBytes}
+use Rattle.hg_base.specs.declared.pages.PageFault.{PageFault}
+use Rattle.hg_base.specs.declared.pages.PageFault.TheVariants as fault
+use Rattle.hg_model.specs.declared.values.Value.{Value}
+use Rattle.hg_slot.specs.Slotted.{Fits}
+use Rattle.hg_table.specs.Chains.{IsChain, has_page}
+use Rattle.hg_table.specs.Versions.{Placed, RowVersion, IsTable}
+use Rattle.hg_table.specs.Places.{version_at}
+
+-- a call that owns no page
+abbrev pub none_mine : Mine
+none_mine = these_pages (λ _. ⊥)
+
+-- a call that owns this page of the main file
+abbrev pub page_mine : ℕ → Mine
+page_mine x = these_pages (λ q. q ≡ key_in file.Main x)
+
+-- the page q is the one named here
+abbrev pub IsNamed : Option ℕ → ℕ → Type 0
+IsNamed None q = ⊥
+IsNamed (Some x) q = q ≡ key_in file.Main x
+
+-- an insertion owns the last page of its table, and the page of the new version
+abbrev pub insert_mine : Table → Place → Mine
+insert_mine t place = these_pages (λ q. IsNamed t.last q ⊎ (q ≡ key_in file.Main place.page))
+
+-- What a call asks where the space tells: this is a table.
+pub record HasTable (s : Space) (t : Table) : Type 0 where
+  pub columns : ℕ
+  pub pages : List ℕ
+  pub versions : List Placed
+  pub table : IsTable s t columns pages versions
+
+-- The same, its rows have so many values, and the place is on one of its pages.
+pub record HasPage (s : Space) (t : Table) (columns : ℕ) (place : Place) : Type 0 where
+  pub pages : List ℕ
+  pub versions : List Placed
+  pub table : IsTable s t columns pages versions
+  pub page : IsTrue (has_page pages place.page)
+
+-- the same, and a version stands at the place
+pub record HasVersion (s : Space) (t : Table) (columns : ℕ) (place : Place) : Type 0 where
+  pub pages : List ℕ
+  pub versions : List Placed
+  pub table : IsTable s t columns pages versions
+  pub there : IsSome (version_at versions place)
+
+-- the same, and the place, if one is named, is on one of its pages
+pub record HasStart (s : Space) (t : Table) (start : Option Place) : Type 0 where
+  pub columns : ℕ
+  pub pages : List ℕ
+  pub versions : List Placed
+  pub table : IsTable s t columns pages versions
+  pub page : MatchOption start ⊤ (λ place. IsTrue (has_page pages place.page))
+
+-- One version more was put among the others.
+pub record PutsIn (old new : List Placed) (v : Placed) : Type 0 where
+  pub before : List Placed
+  pub after : List Placed
+  pub was : old ≡ before ++ after
+  pub now : new ≡ before ++ v ∷ after
+
+-- a row that was born under this stamp and did not die, at a place
+abbrev pub newborn : List Value → ℕ → Place → Placed
+newborn row born place = record { place = place; version = record { born = born; died = None; row = row } }
+
+-- It is a table with one version more.
+pub record IsTableWith (s : Space) (t : Table) (columns : ℕ) (pages : List ℕ) (old : List Placed) (v : Placed) : Type 0 where
+  pub versions : List Placed
+  pub puts : PutsIn old versions v
+  pub table : IsTable s t columns pages versions
+
+-- A version was put into a table of these pages: they are the same, or one page more at the end.
+pub record Inserts (a b : Space) (old new : Table) (pages : List ℕ) (v : Placed) : Type 0 where
+  pub now : List ℕ
+  pub chain : IsChain b new now
+  pub grown : (now ≡ pages) ⊎ (now ≡ pages ++ v.place.page ∷ [])
+  pub table : (columns : ℕ) (versions : List Placed) → length v.version.row ≡ columns → IsTable a old columns pages versions
+      → IsTableWith b new columns now versions v
+
+-- no record of n bytes fits the page named; where none is named, there is no page
+abbrev pub HasNoRoom : Space → Option ℕ → ℕ → Type 0
+HasNoRoom s None n = ⊤
+HasNoRoom s (Some x) n = (page : List ℕ) → s.bytes (key_in file.Main x) ≡ Some page → Fits page n → ⊥
+
+-- It went to the last page of the table, and no page was taken.
+pub record KeepsPages (a b : Space) (old new : Table) (x : ℕ) : Type 0 where
+  pub last : old.last ≡ Some x
+  pub same : new ≡ old
+  pub taken : b.taken ≡ a.taken
+
+-- It went to a new page, since n bytes do not fit the last page of the table, or it had none.
+pub record AddsPage (a b : Space) (old new : Table) (x n : ℕ) : Type 0 where
+  pub last : new.last ≡ Some x
+  pub not_taken : a.taken (key_in file.Main x) ≡ false
+  pub taken : b.taken ≡ at a.taken (key_in file.Main x) true
+  pub full : HasNoRoom a old.last n
+
+-- Why an insertion fails: a device failed, or all pages of the main file are taken, or, where the
+-- space does not tell, the last page is damaged.
+abbrev pub IsPageCheck : Check → Type 0
+IsPageCheck Kind = ⊤
+IsPageCheck Size = ⊤
+IsPageCheck Frame = ⊥
+IsPageCheck Link = ⊥
+IsPageCheck Level = ⊥
+IsPageCheck Order = ⊥
+IsPageCheck RowBytes = ⊥
+
+abbrev pub InsertFault : Space → Space → PageFault → Type 0
+InsertFault a b fault.MainFault = MainFailed a.counts b.counts × NoneFull a.counts b.counts
+InsertFault a b fault.TempFault = TempFailed a.counts b.counts × NoneFull a.counts b.counts
+InsertFault a b fault.MainFull =
+    IsFull a file.Main × Rose a.counts.main_full b.counts.main_full × (b.counts.temp_full ≡ a.counts.temp_full)
+InsertFault a b fault.TempFull = ⊥
+InsertFault a b (fault.Damaged page check) = (a.told ≡ false) × IsPageCheck check × NoneFull a.counts b.counts
+
+-- What may be wrong with a version that is read or killed, and with a table that is walked.
+abbrev pub IsVersionCheck : Check → Type 0
+IsVersionCheck Kind = ⊤
+IsVersionCheck Size = ⊤
+IsVersionCheck Frame = ⊥
+IsVersionCheck Link = ⊥
+IsVersionCheck Level = ⊤
+IsVersionCheck Order = ⊥
+IsVersionCheck RowBytes = ⊤
+
+abbrev pub IsWalkCheck : Check → Type 0
+IsWalkCheck Kind = ⊤
+IsWalkCheck Size = ⊤
+IsWalkCheck Frame = ⊥
+IsWalkCheck Link = ⊥
+IsWalkCheck Level = ⊤
+IsWalkCheck Order = ⊤
+IsWalkCheck RowBytes = ⊥
+
+-- Why a call fails that takes no page: a device failed, or, where the space does not tell, one of
+-- these checks did.
+abbrev pub LookFault : (Check → Type 0) → Space → Space → PageFault → Type 0
+LookFault checks a b fault.MainFault = MainFailed a.counts b.counts
+LookFault checks a b fault.TempFault = TempFailed a.counts b.counts
+LookFault checks a b fault.MainFull = ⊥
+LookFault checks a b fault.TempFull = ⊥
+LookFault checks a b (fault.Damaged page check) = (a.told ≡ false) × checks check
+
+-- A call that takes no page and finds no file full.
+pub record TakesNone (a b : Space) : Type 0 where
+  pub taken : b.taken ≡ a.taken
+  pub none_full : NoneFull a.counts b.counts

@@ -1,0 +1,10 @@
+pub mod Marks
+pub mod Chains
+pub mod Versions
+pub mod Places
+pub mod Calls
+pub mod Steps
+pub mod Listing
+pub mod Altering
+pub mod InOrder
+pub mod TableLaws

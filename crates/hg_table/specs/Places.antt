@@ -1,0 +1,47 @@
+-- Versions found by place. Our own rule.
+use Rattle.std.specs.Prelude.{ℕ, ◌==◌, ◌&&◌, nat_lt, map, Bool, true, false, List, [], ◌∷◌, Option, Some, None, if◌then◌else◌}
+use Rattle.std.specs.List.{filter}
+use Rattle.hg_base.specs.declared.Place.{Place}
+use Rattle.hg_model.specs.Visible.{is_visible}
+use Rattle.hg_table.specs.Chains.{has_page}
+use Rattle.hg_table.specs.Versions.{Placed, RowVersion}
+
+-- a version stands at this place
+abbrev pub is_at : Place → Placed → Bool
+is_at p v = v.place.page == p.page && v.place.slot == p.slot
+
+-- the version at a place
+abbrev pub version_at : List Placed → Place → Option RowVersion
+version_at [] p = None
+version_at (v ∷ vs) p = if is_at p v then Some v.version else version_at vs p
+
+-- the pages behind one of them
+abbrev pub pages_behind : List ℕ → ℕ → List ℕ
+pages_behind [] x = []
+pages_behind (y ∷ ys) x = if y == x then ys else pages_behind ys x
+
+-- a version stands behind a place: in a later slot of its page, or on a page behind it
+abbrev pub comes_behind : List ℕ → Place → Placed → Bool
+comes_behind later p v =
+    if v.place.page == p.page then nat_lt p.slot v.place.slot else has_page later v.place.page
+
+-- the versions behind a place of a table with these pages; all where no place is named
+abbrev pub behind : List ℕ → Option Place → List Placed → List Placed
+behind pages None versions = versions
+behind pages (Some p) versions = filter (comes_behind (pages_behind pages p.page) p) versions
+
+abbrev pub first_place : List Placed → Option Place
+first_place [] = None
+first_place (v ∷ vs) = Some v.place
+
+-- a version is there and a snapshot sees it
+abbrev pub sees : (ℕ → Bool) → ℕ → Option RowVersion → Bool
+sees committed snapshot None = false
+sees committed snapshot (Some v) = is_visible committed snapshot v
+
+-- the versions, where the one at a place died under a stamp
+abbrev pub killed_at : Place → ℕ → Placed → Placed
+killed_at p d v = if is_at p v then record v { version = record v.version { died = Some d } } else v
+
+abbrev pub killed : Place → ℕ → List Placed → List Placed
+killed p d versions = map (killed_at p d) versions

@@ -1,0 +1,47 @@
+//! Pins of pages whose numbers may be any.
+ghost use Rattle.std.specs.Prelude.{◌≡◌, true, IfOk, IfErr, OnOk, OnErr};
+ghost use Rattle.hg_base.specs.Space.{NoPins, IsFree, IsPinned, IsSame, key_in};
+ghost use Rattle.hg_base.specs.Causes.{HasCause, NoneFull};
+ghost use Rattle.hg_table.specs.Calls.{LookFault};
+ghost use Rattle.hg_table.specs.Steps.{main_page, IsLevel};
+
+use hg_base::{Check, File, PageFault, PageId, Pages};
+
+/// The page of the main file with this number.
+pub fn main_page(no: u32) -> PageId
+    ensures { result ≡ main_page no }
+{
+    PageId {
+        file: File::Main,
+        no,
+    }
+}
+
+/// What was found wrong with a page.
+pub fn damaged(no: u32, check: Check) -> PageFault
+    ensures { result ≡ PageFault.Damaged (main_page no) check }
+{
+    PageFault::Damaged {
+        page: main_page(no),
+        check,
+    }
+}
+
+/// Pins a page of the main file. A page that cannot be pinned is damage of the check `Level`.
+pub fn open<S: Pages>(space: &mut S, no: u32) -> Result<S::Pin, PageFault>
+    requires out { NoPins (S.state space.old) }
+    requires free { (S.state space.old).told ≡ true → IsFree (S.state space.old) (main_page no) }
+    ensures names { IfOk result (λ pin. S.pin_page pin ≡ main_page no) }
+    ensures free { OnOk result (IsFree (S.state space.old) (main_page no)) }
+    ensures ok { OnOk result (IsPinned (S.state space.old) (S.state space.new) (key_in File.Main no)) }
+    ensures err { OnErr result (IsSame (S.state space.old) (S.state space.new)) }
+    ensures cause { HasCause (S.state space.old) (S.state space.new) result }
+    ensures fault { IfErr result (LookFault IsLevel (S.state space.old) (S.state space.new)) }
+    ensures none_full { NoneFull (S.state space.old).counts (S.state space.new).counts }
+{
+    let page = main_page(no);
+    if !space.can_pin(page) {
+        return Err(damaged(no, Check::Level));
+    }
+    space.pin(page)
+}

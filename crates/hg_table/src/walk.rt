@@ -1,0 +1,129 @@
+//! The way along a table's versions.
+ghost use Rattle.std.specs.Prelude.{◌≡◌, ℕ, ◌+◌, ◌<◌, ◌≤◌, true, List, length, Some, None, IsOk, IfOk, IfErr, OnOk};
+ghost use Rattle.hg_base.specs.Space.{NoPins, key_in, IsFree};
+ghost use Rattle.hg_base.specs.Causes.{HasCause};
+ghost use Rattle.hg_base.specs.Steadiness.{IsPlain};
+ghost use Rattle.hg_base.specs.declared.Table.{Table as TableOf};
+ghost use Rattle.hg_slot.specs.Slotted.{IsSlotted};
+ghost use Rattle.hg_slot.specs.Changing.{IsWrong};
+ghost use Rattle.hg_table.specs.Versions.{Placed, RowVersion, IsTable, in_pages};
+ghost use Rattle.hg_table.specs.Places.{behind, first_place};
+ghost use Rattle.hg_table.specs.Calls.{HasStart, LookFault, IsWalkCheck};
+ghost use Rattle.hg_table.specs.Steps.{Looks, IsSound, IsNextSlot, HoldsLine, main_page};
+
+use crate::open::{damaged, main_page, open};
+use hg_base::{Check, File, PageFault, Pages, Place, Table};
+use hg_slot::slot;
+
+/// No page has more slots.
+const MOST_SLOTS: u32 = 128;
+
+/// The first slot from `from` on that is not empty, on a page whose bytes may be any.
+fn next_slot(page: &[u8], from: u32) -> Result<Option<u16>, Check>
+    requires { length page.now ≡ 4096 }
+    ensures slotted { IsSlotted page.now → IsOk result }
+    ensures next { IsSlotted page.now → IfOk result (IsNextSlot page.now from) }
+    ensures wrong { IfErr result (IsWrong page.now) }
+{
+    for slot in from..MOST_SLOTS {
+        if slot::peek(page, slot as u16)?.is_some() {
+            return Ok(Some(slot as u16));
+        }
+    }
+    Ok(None)
+}
+
+/// The first slot that is not empty, on a page that is read whole.
+fn first_slot(page: &[u8]) -> Result<Option<u16>, Check>
+    requires { length page.now ≡ 4096 }
+    ensures slotted { IsSlotted page.now → IsOk result }
+    ensures next { IfOk result (IsNextSlot page.now 0) }
+    ensures wrong { IfErr result (IsWrong page.now) }
+{
+    slot::verify(page)?;
+    next_slot(page, 0)
+}
+
+/// Pins a page and looks for a slot that is not empty: on a page that is entered for the first, and
+/// else from `from` on.
+fn look<S: Pages>(
+    space: &mut S,
+    no: u32,
+    from: u32,
+    entering: bool,
+) -> Result<Option<u16>, PageFault>
+    requires out { NoPins (S.state space.old) }
+    requires sound { (S.state space.old).told ≡ true → IsSound (S.state space.old) no }
+    requires first { entering ≡ true → from ≡ 0 }
+    ensures next { IfOk result (λ slot. (page : List ℕ) → (S.state space.old).bytes (key_in File.Main no) ≡ Some page → IsNextSlot page from slot) }
+    ensures plain { OnOk result (IsFree (S.state space.old) (main_page no)) }
+    ensures looks { Looks (S.state space.old) (S.state space.new) }
+    ensures cause { HasCause (S.state space.old) (S.state space.new) result }
+    ensures fault { IfErr result (LookFault IsWalkCheck (S.state space.old) (S.state space.new)) }
+{
+    let pin = open(space, no)?;
+    let bytes = space.bytes(&pin);
+    let found = if entering {
+        first_slot(bytes)
+    } else {
+        next_slot(bytes, from)
+    };
+    space.unpin(pin);
+    match found {
+        Ok(slot) => Ok(slot),
+        Err(check) => Err(damaged(no, check)),
+    }
+}
+
+/// The first version of a line of pages.
+fn first_along<S: Pages>(space: &mut S, start: Option<u32>) -> Result<Option<Place>, PageFault>
+    requires out { NoPins (S.state space.old) }
+    requires line { (S.state space.old).told ≡ true → HoldsLine (S.state space.old) start }
+    ensures first { IfOk result (λ first. (l : HoldsLine (S.state space.old) start) → first ≡ first_place (in_pages l.held l.pages)) }
+    ensures looks { Looks (S.state space.old) (S.state space.new) }
+    ensures cause { HasCause (S.state space.old) (S.state space.new) result }
+    ensures fault { IfErr result (LookFault IsWalkCheck (S.state space.old) (S.state space.new)) }
+{
+    let mut next = start;
+    for _turn in 0..space.taken(File::Main) {
+        let Some(no) = next else {
+            return Ok(None);
+        };
+        if let Some(slot) = look(space, no, 0, true)? {
+            return Ok(Some(Place { page: no, slot }));
+        }
+        next = space.next(main_page(no));
+    }
+    match next {
+        None => Ok(None),
+        Some(no) => Err(damaged(no, Check::Order)),
+    }
+}
+
+/// The place of the next version behind `at`, or of the first.
+pub fn after<S: Pages>(
+    table: &Table,
+    space: &mut S,
+    at: Option<Place>,
+) -> Result<Option<Place>, PageFault>
+    requires out { NoPins (S.state space.old) }
+    requires start { (S.state space.old).told ≡ true → HasStart (S.state space.old) table.now at }
+    ensures next { IfOk result (λ next. (columns : ℕ) (pages : List ℕ) (versions : List Placed) → IsTable (S.state space.old) table.now columns pages versions
+        → next ≡ first_place (behind pages at versions)) }
+    ensures looks { Looks (S.state space.old) (S.state space.new) }
+    ensures cause { HasCause (S.state space.old) (S.state space.new) result }
+    ensures fault { IfErr result (LookFault IsWalkCheck (S.state space.old) (S.state space.new)) }
+{
+    match at {
+        None => first_along(space, table.first),
+        Some(place) => {
+            if let Some(slot) = look(space, place.page, place.slot as u32 + 1, false)? {
+                return Ok(Some(Place {
+                    page: place.page,
+                    slot,
+                }));
+            }
+            first_along(space, space.next(main_page(place.page)))
+        }
+    }
+}
