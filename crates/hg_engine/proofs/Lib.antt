@@ -1,0 +1,11 @@
+pub mod SeenLaws
+pub mod PutLaws
+pub mod StandLaws
+pub mod Looking
+pub mod Scans
+pub mod Filling
+pub mod Creating
+pub mod Stepping
+pub mod Turns
+pub mod Saying
+pub mod Inserting

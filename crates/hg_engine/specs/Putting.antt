@@ -1,0 +1,83 @@
+-- What it does to a table and its space that rows are put into it under one stamp, which is not
+-- committed yet. Our own rule.
+use Rattle.std.specs.Prelude.{◌≡◌, ℕ, ◌+◌, ◌<◌, ◌≤◌, ◌⊎◌, Bool, true, false, List, ◌++◌, length, All}
+use Rattle.std.specs.List.{AllByRecursion}
+use Rattle.std.specs.List.Sorted.{IsPermutation}
+use Rattle.hg_base.specs.Space.{Space, key_in, taken_in}
+use Rattle.hg_base.specs.Causes.{Rose, MainFailed, TempFailed}
+use Rattle.hg_base.specs.Steadiness.{Mine, Steady, these_pages}
+use Rattle.hg_base.specs.declared.File.TheVariants.{Main}
+use Rattle.hg_base.specs.declared.Table.{Table}
+use Rattle.hg_base.specs.declared.pages.PageFault.{PageFault}
+use Rattle.hg_base.specs.declared.pages.PageFault.TheVariants as fault
+use Rattle.hg_model.specs.declared.values.Value.{Value}
+use Rattle.hg_table.specs.Chains.{IsChain, has_page}
+use Rattle.hg_table.specs.Versions.{Placed, IsTable}
+use Rattle.hg_base.specs.declared.Place.{Place}
+use Rattle.hg_table.specs.Calls.{IsNamed, Inserts, KeepsPages, AddsPage, insert_mine, newborn}
+use Rattle.hg_engine.specs.Seen.{seen_rows, IsPast}
+
+-- Rows joined the versions of a table, born under one stamp: who sees the stamp sees them too, and
+-- nobody else sees a change.
+pub record Joined (stamp : ℕ) (old new : List Placed) (rows : List (List Value)) : Type 0 where
+  pub unseen : (committed : ℕ → Bool) (snapshot : ℕ) → committed stamp ≡ false
+      → seen_rows committed snapshot new ≡ seen_rows committed snapshot old
+  pub seen : (committed : ℕ → Bool) (snapshot : ℕ) → committed stamp ≡ true → stamp ≤ snapshot
+      → IsPermutation (seen_rows committed snapshot new) (seen_rows committed snapshot old ++ rows)
+  pub past : (last : ℕ) → stamp ≤ last → AllByRecursion (IsPast last) old → AllByRecursion (IsPast last) new
+
+-- the table's last page, and every page that was not taken
+abbrev pub table_mine : Space → Table → Mine
+table_mine a t = these_pages (λ q. IsNamed t.last q ⊎ (a.taken q ≡ false))
+
+-- a table with other pages, of which the new ones were not taken before; n pages more at most
+pub record Grows (a b : Space) (old new : Table) (pages now : List ℕ) (n : ℕ) : Type 0 where
+  pub chain : IsChain b new now
+  pub from : (x : ℕ) → has_page now x ≡ true → (has_page pages x ≡ true) ⊎ (a.taken (key_in Main x) ≡ false)
+  pub last : (q : ℕ) → IsNamed new.last q → IsNamed old.last q ⊎ (a.taken q ≡ false)
+  pub steady : Steady (table_mine a old) a b
+  pub stays : (q : ℕ) → a.taken q ≡ true → b.taken q ≡ true
+  pub more : taken_in a Main ≤ taken_in b Main
+  pub few : taken_in b Main ≤ taken_in a Main + n
+
+-- these rows were put into the table
+pub record Puts (a b : Space) (old new : Table) (pages : List ℕ) (stamp columns : ℕ) (rows : List (List Value)) : Type 0 where
+  pub now : List ℕ
+  pub grows : Grows a b old new pages now (length rows)
+  pub joined : (versions : List Placed) → IsTable a old columns pages versions
+      → (more : List Placed) × IsTable b new columns now more × Joined stamp versions more rows
+
+-- Why n rows could not all be put into a table: a device failed; or all pages of the main file are
+-- taken, and n more than were taken before would be too many; or a page is damaged, where the space
+-- does not tell.
+abbrev pub PutFault : Space → Space → ℕ → PageFault → Type 0
+PutFault a b n fault.MainFault = MainFailed a.counts b.counts
+PutFault a b n fault.TempFault = TempFailed a.counts b.counts
+PutFault a b n fault.MainFull = (a.limit Main < taken_in a Main + n) × Rose a.counts.main_full b.counts.main_full
+PutFault a b n fault.TempFull = ⊥
+PutFault a b n (fault.Damaged page check) = a.told ≡ false
+
+-- some of the rows were put into the table before it failed
+pub record PutsSome (a b : Space) (old new : Table) (pages : List ℕ) (stamp columns : ℕ) (rows : List (List Value)) (f : PageFault) : Type 0 where
+  pub done : List (List Value)
+  pub puts : Puts a b old new pages stamp columns done
+  pub few : length done ≤ length rows
+  pub cause : PutFault a b (length rows) f
+
+-- One insertion into the table as it stands, after others: what the call on the table says.
+pub record OneMore (b c : Space) (mid new : Table) (place : Place) (stamp n : ℕ) (row : List Value) : Type 0 where
+  pub inserts : (pages : List ℕ) → IsChain b mid pages → Inserts b c mid new pages (newborn row stamp place)
+  pub pages : KeepsPages b c mid new place.page ⊎ AddsPage b c mid new place.page n
+  pub steady : Steady (insert_mine mid place) b c
+
+-- each row has so many values
+abbrev pub HaveColumns : ℕ → List (List Value) → Type 0
+HaveColumns columns rows = All (λ row. length row ≡ columns) rows
+
+-- rows may be put into a table: it has pages, and where the space tells it is one of rows of as many values
+pub record CanPut (s : Space) (t : Table) (rows : List (List Value)) : Type 0 where
+  pub columns : ℕ
+  pub fit : HaveColumns columns rows
+  pub pages : List ℕ
+  pub chain : IsChain s t pages
+  pub whole : s.told ≡ true → (versions : List Placed) × IsTable s t columns pages versions

@@ -1,0 +1,94 @@
+-- What a step of an engine promises: it says lines, and is a step of the plain machine. Our own rule.
+use Rattle.std.specs.Prelude.{◌≡◌, ◌≢◌, ℕ, ◌<◌, ◌≤◌, true, List, [], ◌∷◌, length, All, Option, Some, Result, MatchResult, slice_get, slice_set, Bool, false}
+use Rattle.std.specs.List.{list_any}
+use Rattle.hg_base.specs.Space.{Space, NoPins}
+use Rattle.hg_base.specs.Causes.{Later, Rose}
+use Rattle.hg_base.specs.declared.File.{File}
+use Rattle.hg_base.specs.declared.File.TheVariants.{Main, Temp}
+use Rattle.hg_io.specs.Count.{raised}
+use Rattle.hg_machine.specs.CreateTable.{AllDifferent}
+use Rattle.hg_machine.specs.Reply.{Reply as Line, text_of, has_error, fault_lines, created, inserted, row, at_end, closed, syntax_error, line_too_long, unknown_table, device_fault, main_full, damaged, stamps_used_up}
+use Rattle.hg_machine.specs.State.{State}
+use Rattle.hg_reply.specs.declared.reply.Reply.{Reply}
+use Rattle.hg_base.specs.declared.Table.{Table}
+use Rattle.hg_base.specs.declared.pages.PageFault.{PageFault}
+use Rattle.hg_base.specs.declared.pages.PageFault.TheVariants as fault
+use Rattle.hg_model.specs.declared.values.Value.{Value}
+use Rattle.hg_table.specs.Chains.{IsChain}
+use Rattle.hg_engine.specs.Putting.{HaveColumns, CanPut, Puts, PutsSome}
+use Rattle.hg_engine.specs.Standing.{Stands}
+use Rattle.hg_engine.specs.declared.entries.Entry.{Entry}
+use Rattle.hg_engine.specs.declared.tables.Tables.{Tables}
+
+-- what an engine keeps of its tables stands for this state
+abbrev pub TablesAre : Space → Tables → State → Type 0
+TablesAre s x state = Stands s x.entries.items x.stamps x.scan state
+
+-- these are the lines of the reply
+pub record Tells (reply : Reply) (lines : List Line) : Type 0 where
+  pub text : reply.text.items ≡ text_of lines
+  pub errors : reply.has_error ≡ has_error lines
+
+-- no more lines say that a device failed than that device's count rose
+pub record Counted (a b : Space) (lines : List Line) : Type 0 where
+  pub main : raised a.counts.main_device (fault_lines Main lines) ≤ b.counts.main_device
+  pub temp : raised a.counts.temp_device (fault_lines Temp lines) ≤ b.counts.temp_device
+
+-- where the space tells, it is a step of the machine
+pub record StepsTo (a b : Space) (old new : Tables) (Step : State → List Line → State → Type 0) (lines : List Line) : Type 0 where
+  pub to : (before : State) → TablesAre a old before → (after : State) × TablesAre b new after × (a.told ≡ true → Step before lines after)
+
+-- a table of that name and these columns may be made
+pub record MayCreate (entries : List Entry) (name : List ℕ) (columns : List (List ℕ)) : Type 0 where
+  pub different : AllDifferent columns
+  pub unknown : All (λ (e : Entry). e.name ≢ name) entries
+  pub few : length entries < 64
+
+-- the line of a fault; a full temporary file has none, since nothing is put there
+abbrev pub line_of : PageFault → Line
+line_of fault.MainFault = device_fault Main
+line_of fault.TempFault = device_fault Temp
+line_of fault.MainFull = main_full
+line_of fault.TempFull = main_full
+line_of (fault.Damaged page check) = damaged page check
+
+-- rows may be put into the k-th table
+abbrev pub CanPutAt : Space → List Entry → ℕ → List (List Value) → Type 0
+CanPutAt s entries k rows = (e : Entry) → slice_get entries k ≡ Some e → CanPut s e.data rows
+
+-- an entry with other pages
+abbrev pub with_ends : Entry → Table → Entry
+with_ends e ends = record e { «data» = ends }
+
+-- rows were put into the k-th table, all of them or some
+pub record PutsInto (a b : Space) (old new : List Entry) (k stamp : ℕ) (rows : List (List Value)) (r : Result (Unit {0}) PageFault) (e : Entry) : Type 0 where
+  pub ends : Table
+  pub after : new ≡ slice_set old k (with_ends e ends)
+  pub put : (pages : List ℕ) (columns : ℕ) → IsChain a e.data pages → HaveColumns columns rows
+      → MatchResult r (λ u. Puts a b e.data ends pages stamp columns rows) (λ f. PutsSome a b e.data ends pages stamp columns rows f)
+
+-- whether a line says that the main file is full
+abbrev pub says_full : Line → Bool
+says_full created = false
+says_full (inserted count) = false
+says_full (row values) = false
+says_full at_end = false
+says_full closed = false
+says_full syntax_error = false
+says_full line_too_long = false
+says_full (unknown_table name) = false
+says_full (device_fault failed) = false
+says_full main_full = true
+says_full (damaged page check) = false
+says_full stamps_used_up = false
+
+-- a line says that the main file is full only where the count of its full answers rose
+pub record FullOnlyWhereFull (a b : Space) (lines : List Line) : Type 0 where
+  pub rose : list_any says_full lines ≡ true → Rose a.counts.main_full b.counts.main_full
+
+-- what no step changes: whether the space tells, and how many pages it may have; and no count falls
+pub record IsSameSpace (a b : Space) : Type 0 where
+  pub told : b.told ≡ a.told
+  pub limit : b.limit ≡ a.limit
+  pub pins : NoPins b
+  pub later : Later a.counts b.counts

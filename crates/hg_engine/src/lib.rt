@@ -1,0 +1,16 @@
+//! The engine: tables of versions in a space of pages, the stamps of its changes, and the SELECT at work.
+//! It stands on tables (`hg_table`), the pool of frames (`hg_pool`) and the seam to scripts (`hg_reply`).
+//!
+//! The contract used above is that of [`Engine`]: one call is one small step of the plain machine over
+//! the engine's own state.
+#![tactic(auto)]
+
+mod create;
+mod entries;
+mod faults;
+mod fill;
+mod insert;
+mod next;
+mod putting;
+mod scan;
+mod tables;
