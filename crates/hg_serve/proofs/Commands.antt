@@ -68,11 +68,6 @@ create-inner tokens slice body end first name columns begins (inner, free, few, 
     let rest : slice ≡ (inner ++ close ∷ []) ++ end = cc in
     (record { front = inner; reads = sep; parts = rest ∙ append_assoc inner (close ∷ []) end }, few)
 
-pub create-begins : (tokens body end : List Token) (name : List ℕ) (columns : List (List ℕ)) → IsCreateTable name columns body
-    → tokens ≡ body ++ end → (rest : List Token) × (tokens ≡ create_words name ++ rest) × IsFree name
-create-begins tokens body end name columns (inner, free, few, sep, is) parts =
-    ((inner ++ close ∷ []) ++ end, parts ∙ ap (λ l. l ++ end) is, free)
-
 pub create-body : (slice behind end : List Token) (name : List ℕ) (columns : List (List ℕ)) → IsFree name
     → (s : StandsFirst (Separated IsColumn) slice columns behind) → length columns ≤ 16
     → IsCreateTable name columns (create_words name ++ (s.front ++ close ∷ []))
@@ -92,10 +87,6 @@ insert-inner tokens slice body end first table rows begins (inner, free, few, se
     let all : insert_words first ++ slice ≡ insert_words table ++ (inner ++ end) = sym begins ∙ parts ∙ ap (λ l. l ++ end) is in
     let rest : slice ≡ inner ++ end = cc in
     (record { front = inner; reads = sep; parts = rest }, few)
-
-pub insert-begins : (tokens body end : List Token) (table : List ℕ) (rows : List (List Value)) → IsInsert table rows body
-    → tokens ≡ body ++ end → (rest : List Token) × (tokens ≡ insert_words table ++ rest) × IsFree table
-insert-begins tokens body end table rows (inner, free, few, sep, is) parts = (inner ++ end, parts ∙ ap (λ l. l ++ end) is, free)
 
 -- any command
 

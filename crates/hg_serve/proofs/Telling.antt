@@ -8,7 +8,7 @@ use Rattle.hg_machine.specs.Reply.{Reply, reply_text, is_error, is_fault_of, tex
 use Rattle.hg_reply.specs.declared.reply.Reply.{Reply as Said}
 use Rattle.hg_reply.specs.Steps.{DeviceFaults, Says}
 use Rattle.hg_serve.specs.declared.output.Output.{Output}
-use Rattle.hg_serve.specs.Output.{Passes, Breaks, WritesFront, Seen, seen, Counted, NoneFell, Tells, TellsInPart}
+use Rattle.hg_serve.specs.Output.{Passes, Breaks, Seen, seen, Counted, NoneFell, Tells, TellsInPart}
 
 pub or-false : (b : Bool) → (b || false) ≡ b
 or-false true = refl
@@ -70,12 +70,6 @@ on_err (Err e) p = p
 pub passes-none : (w : Option (List ℕ)) (waiting : List ℕ) → Passes w w waiting waiting []
 passes-none w waiting = record { passed = []; parts = append-nil waiting; written = sym (then-nil w) }
 
-pub passes-all : (w new : Option (List ℕ)) (waiting : List ℕ) → new ≡ then w waiting → Passes w new waiting [] []
-passes-all w new waiting is = record { passed = waiting; parts = refl; written = is }
-
-pub breaks-front : (w new : Option (List ℕ)) (waiting : List ℕ) → WritesFront w new waiting → Breaks w new waiting []
-breaks-front w new waiting f = record { front = f.front; rest = f.rest; parts = append-nil waiting ∙ f.parts; written = f.written }
-
 pub passes-then : (w0 w1 w2 : Option (List ℕ)) (b0 b1 b2 t u : List ℕ) → Passes w0 w1 b0 b1 t → Passes w1 w2 b1 b2 u
     → Passes w0 w2 b0 b2 (t ++ u)
 passes-then w0 w1 w2 b0 b1 b2 t u p q = record {
@@ -107,15 +101,6 @@ breaks-more w0 w1 b t u p = record {
 -- what waited was written whole
 pub passes-flushed : (w0 w1 : Option (List ℕ)) (b0 b1 : List ℕ) → Passes w0 w1 b0 [] [] → b1 ≡ [] → Passes w0 w1 b0 b1 []
 passes-flushed w0 w1 b0 b1 p empty = record { passed = p.passed; parts = p.parts ∙ ap (λ l. p.passed ++ l) (sym empty); written = p.written }
-
--- text was put behind what waited
-pub passes-put : (w0 w1 : Option (List ℕ)) (b0 b1 b2 t : List ℕ) → Passes w0 w1 b0 b1 [] → b2 ≡ b1 ++ t → Passes w0 w1 b0 b2 t
-passes-put w0 w1 b0 b1 b2 t p is = record {
-  passed = p.passed;
-  parts =
-      ap (λ l. l ++ t) (sym (append-nil b0) ∙ p.parts) ∙ append_assoc p.passed b1 t ∙ ap (λ l. p.passed ++ l) (sym is);
-  written = p.written;
-}
 
 -- the counts of faults
 

@@ -95,3 +95,6 @@ pub fn read_line(kept: &[u8], ended: bool, tokens: &mut Tokens) -> Asked
     }
     read_text(said(kept, ended), tokens)
 }
+
+#[cfg(test)]
+mod tests;

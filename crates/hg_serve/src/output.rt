@@ -47,6 +47,7 @@ impl Output {
     /// Writes what waits to the sink where it leaves no room for so many bytes.
     fn make_room<K: Sink>(&mut self, bytes: usize, sink: &mut K) -> Result<(), Failed>
         requires { bytes ≤ 16384 }
+        ensures waits { array_vec_len self.old.bytes + bytes ≤ 32768 → sink.new ≡ sink.old }
         ensures ok { OnOk result (Passes (K.written sink.old) (K.written sink.new) self.old.bytes.items self.new.bytes.items []) }
         ensures room { OnOk result (array_vec_len self.new.bytes + bytes ≤ 32768) }
         ensures part { OnErr result (Breaks (K.written sink.old) (K.written sink.new) self.old.bytes.items []) }
@@ -61,8 +62,10 @@ impl Output {
         Ok(())
     }
 
-    /// Puts a reply behind the others. What waited goes to the sink first where it leaves no room.
+    /// Puts a reply behind the others. What waited goes to the sink first where it leaves no room, and
+    /// else nothing is written.
     pub fn put<K: Sink>(&mut self, reply: &Reply, sink: &mut K) -> Result<(), Failed>
+        ensures waits { array_vec_len self.old.bytes + array_vec_len reply.now.text ≤ 32768 → sink.new ≡ sink.old }
         ensures ok { OnOk result (Passes (K.written sink.old) (K.written sink.new) self.old.bytes.items self.new.bytes.items reply.now.text.items) }
         ensures errors { OnOk result (self.new.errors ≡ (self.old.errors || reply.now.has_error)) }
         ensures part { OnErr result (Breaks (K.written sink.old) (K.written sink.new) self.old.bytes.items reply.now.text.items) }

@@ -1,0 +1,114 @@
+//! What lines ask for, worked out by hand.
+use crate::lines::{Asked, read_line};
+use crate::scan::Tokens;
+use arrayvec::ArrayVec;
+use hg_machine::Statement;
+use std::alloc::{AllocError, Global};
+use std::process::Abort;
+use std::test::Fail;
+
+/// What is asked for, in a word, and how many rows or columns it has.
+fn kind(asked: &Asked) -> (&'static str, usize) {
+    match asked {
+        Asked::Nothing => ("nothing", 0),
+        Asked::SyntaxError => ("syntax", 0),
+        Asked::TooLong => ("too long", 0),
+        Asked::Statement(Statement::CreateTable { name: _, columns }) => ("create", columns.len()),
+        Asked::Statement(Statement::Insert { table: _, rows }) => ("insert", rows.len()),
+        Asked::Statement(Statement::Select { table: _ }) => ("select", 0),
+    }
+}
+
+fn asks(rt: &impl Abort, tokens: &mut Tokens, line: &str, word: &str, count: usize) {
+    let asked = read_line(line.as_bytes(), true, tokens);
+    let (found, number) = kind(&asked);
+    assert_eq!(rt; found, word, "{line}");
+    assert_eq!(rt; number, count, "{line}");
+}
+
+#[test]
+fn comments_and_blanks(rt: HostRuntime) {
+    let mut tokens: Tokens = ArrayVec::new();
+    let t = &mut tokens;
+    asks(&rt, t, " \t", "nothing", 0);
+    asks(&rt, t, "--", "nothing", 0);
+    asks(&rt, t, " \t-- \u{1} any bytes: 'x'", "nothing", 0);
+    asks(&rt, t, "SELECT*FROM t -- all rows", "select", 0);
+    asks(&rt, t, "select * from T;--", "select", 0);
+    asks(&rt, t, "SELECT * FROM t - -", "syntax", 0);
+    asks(&rt, t, "SELECT * -- FROM t", "syntax", 0);
+    asks(&rt, t, "SELECT * FROM t\r", "select", 0);
+    asks(&rt, t, "SELECT * FROM t\r\r", "syntax", 0);
+    asks(&rt, t, "\u{e9}", "syntax", 0);
+}
+
+#[test]
+fn numbers_and_lists(rt: HostRuntime) {
+    let mut tokens: Tokens = ArrayVec::new();
+    let t = &mut tokens;
+    asks(
+        &rt,
+        t,
+        "CREATE TABLE t (a INTEGER, b INTEGER);",
+        "create",
+        2,
+    );
+    asks(&rt, t, "CREATE TABLE t (a INTEGER, )", "syntax", 0);
+    asks(&rt, t, "CREATE TABLE table (a INTEGER)", "syntax", 0);
+    asks(
+        &rt,
+        t,
+        "INSERT INTO t VALUES (2147483647, NULL), (-2147483648, +7)",
+        "insert",
+        2,
+    );
+    asks(&rt, t, "INSERT INTO t VALUES (2147483648)", "syntax", 0);
+    asks(&rt, t, "INSERT INTO t VALUES (-2147483649)", "syntax", 0);
+    asks(&rt, t, "INSERT INTO t VALUES (--1)", "syntax", 0);
+    asks(&rt, t, "INSERT INTO t VALUES ((1))", "syntax", 0);
+    asks(&rt, t, "INSERT INTO t VALUES (1),", "syntax", 0);
+    asks(&rt, t, "INSERT INTO t VALUES (1)(2)", "syntax", 0);
+    asks(
+        &rt,
+        t,
+        "INSERT INTO t VALUES (1,2,3,4,5,6,7,8,9,10,11,12,13,14,15,16)",
+        "insert",
+        1,
+    );
+    asks(
+        &rt,
+        t,
+        "INSERT INTO t VALUES (1,2,3,4,5,6,7,8,9,10,11,12,13,14,15,16,17)",
+        "syntax",
+        0,
+    );
+}
+
+/// An INSERT of so many rows of one value.
+fn rows(alloc: Global, count: usize) -> Result<String, AllocError> {
+    let mut line = String::from_str(alloc, "INSERT INTO t VALUES (0)")?;
+    for _ in 1..count {
+        line.push_str(",(1)")?;
+    }
+    Ok(line)
+}
+
+#[test]
+fn limits(rt: HostRuntime) -> Result<(), Fail> {
+    let alloc = rt.alloc();
+    let mut tokens: Tokens = ArrayVec::new();
+    asks(&rt, &mut tokens, rows(alloc, 64)?.as_str(), "insert", 64);
+    asks(&rt, &mut tokens, rows(alloc, 65)?.as_str(), "syntax", 0);
+    let blanks = [b' '; 4097];
+    let (most, _) = blanks.split_at(4096);
+    assert_eq!(rt; kind(&read_line(most, true, &mut tokens)).0, "nothing");
+    assert_eq!(rt; kind(&read_line(&blanks, true, &mut tokens)).0, "too long");
+    assert_eq!(rt; kind(&read_line(&blanks, false, &mut tokens)).0, "too long");
+    let commas = [b','; 4096];
+    assert_eq!(rt; kind(&read_line(&commas, true, &mut tokens)).0, "syntax");
+    assert_eq!(rt;
+        kind(&read_line(b"SELECT * FROM t\r", false, &mut tokens)).0,
+        "syntax"
+    );
+    Ok(())
+}
