@@ -11,7 +11,8 @@ pub enum Next {
 
 /// What answers statements: one call is one small step of the plain machine, so that the reply of a
 /// call is short. A statement is answered by `command`, and by `more` as long as the answer is
-/// [`Next::More`]. No call takes memory.
+/// [`Next::More`]. No call takes memory. Both are called only where the engine stands for some state of
+/// the plain machine: a new engine does, and each step keeps it so.
 ///
 /// In the clauses `stands` ties the engine to a state of the plain machine: its tables with their
 /// rows, what the SELECT at work has still to give, the pages in use and the stamps given. Where a
@@ -42,6 +43,7 @@ pub trait Machine {
     /// Answers a statement up to its first turn.
     fn command(&mut self, statement: Statement, reply: &mut Reply) -> Next
         requires idle { pending self.old ≡ false }
+        requires stands { (s : State) × stands self.old s }
         ensures step { (lines : List Line) × Says reply.new (faults self.old) (faults self.new) lines
             × Moves stands (setting self.old).told self.old self.new (λ before lines after. Begins before statement lines after) lines }
         ensures more { (result ≡ Next.More) ↔ (pending self.new ≡ true) }
@@ -51,6 +53,7 @@ pub trait Machine {
     /// Gives one turn of the statement at work.
     fn more(&mut self, reply: &mut Reply) -> Next
         requires pending { pending self.old ≡ true }
+        requires stands { (s : State) × stands self.old s }
         ensures step { (lines : List Line) × Says reply.new (faults self.old) (faults self.new) lines
             × Moves stands (setting self.old).told self.old self.new Turn lines }
         ensures nearer { turns self.new < turns self.old }

@@ -23,6 +23,11 @@ at-rest true P back never = absurd (never (back refl))
 at-rest false P back never = refl
 
 module _ {E : Type 0} (Stands : E → State → Type 0) (told : Bool) where
+  -- an engine that stood for a state stands for one after the step
+  pub stands-on : (old new : E) (Step : State → List Reply → State → Type 0) (lines : List Reply) → ((s : State) × Stands old s)
+      → Moves Stands told old new Step lines → (s : State) × Stands new s
+  stands-on old new Step lines stood p = let there = p.to stood.0 stood.1 in (there.0, there.1)
+
   -- the engine stays as it is
   pub moves-stay : (e : E) (Step : State → List Reply → State → Type 0) (lines : List Reply) → ((s : State) → Step s lines s)
       → Moves Stands told e e Step lines

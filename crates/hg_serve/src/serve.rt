@@ -2,7 +2,7 @@
 ghost use Rattle.std.specs.Prelude.{◌≡◌, ◌≢◌, ◌≤◌, ◌<◌, ◌+◌, ◌-◌, ◌^◌, ◌⊎◌, List, ℕ, true, false, IfOk, OnErr, length, take, min};
 ghost use Rattle.hg_io.specs.Count.{raised, Rose, HasCause};
 ghost use Rattle.hg_io.specs.Bytes.{Reads};
-ghost use Rattle.hg_machine.specs.State.{first_state};
+ghost use Rattle.hg_machine.specs.State.{State, first_state};
 ghost use Rattle.hg_machine.specs.Outcome.{Took, AnswersAll, AnswersWholeLines, AnswersUpToLimit, AnswersInPart};
 ghost use Rattle.hg_serve.specs.Output.{NoneFell};
 ghost use Rattle.hg_serve.specs.Ending.{Ends, ReadsSome, TakesSoMany, outside};
@@ -34,6 +34,7 @@ fn read_some<S: Source>(source: &mut S, buffer: &mut [u8], room: usize) -> Resul
 /// lines that wait are written before the source is asked for more.
 fn serve<E: Machine, S: Source, K: Sink>(engine: &mut E, source: &mut S, sink: &mut K) -> Status
     requires idle { E.pending engine.old ≡ false }
+    requires stands { (s : State) × E.stands engine.old s }
     ensures ends { E.stands engine.old (first_state (E.setting engine.old).limit) → Ends (E.setting engine.old)
         (outside (S.left source.old) (S.given source.old) (K.written sink.old) (E.faults engine.old))
         (outside (S.left source.new) (S.given source.new) (K.written sink.new) (E.faults engine.new)) result }
@@ -75,8 +76,8 @@ fn serve<E: Machine, S: Source, K: Sink>(engine: &mut E, source: &mut S, sink: &
     }
 }
 
-/// Serves the script of `source` by the engine, and writes the replies to `sink`. Nothing is pending in
-/// the engine, before and after.
+/// Serves the script of `source` by the engine, and writes the replies to `sink`. The engine stands for
+/// some state of the plain machine, as a new engine does. Nothing is pending in it, before and after.
 ///
 /// In the clauses, the outside is what source, sink and engine tell at one moment: the bytes left, the
 /// count of bytes given, the bytes written, and the devices' counts of faults. What is said of the
@@ -87,6 +88,7 @@ pub fn serve_lines<E: Machine, S: Source, K: Sink>(
     sink: &mut K,
 ) -> Status
     requires idle { E.pending engine.old ≡ false }
+    requires stands { (s : State) × E.stands engine.old s }
 
     // The script was read to its end, and what is written is the text of a run of the machine over all
     // its lines, with an error line exactly where the status is Errors.

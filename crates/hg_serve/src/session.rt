@@ -3,6 +3,7 @@ ghost use Rattle.std.specs.Prelude.{◌≡◌, ◌↔◌, List, true, false, OnO
 ghost use Rattle.hg_io.specs.Count.{HasCause};
 ghost use Rattle.hg_machine.specs.Reply.{Reply as ReplyOf, reply_text, is_error};
 ghost use Rattle.hg_machine.specs.Run.{Turns};
+ghost use Rattle.hg_machine.specs.State.{State};
 ghost use Rattle.hg_reply.specs.Lines.{reply_of};
 ghost use Rattle.hg_reply.specs.Steps.{Says, Moves};
 ghost use Rattle.hg_serve.specs.Output.{seen, Counted, NoneFell, Tells, TellsInPart};
@@ -30,9 +31,11 @@ fn say_alone(reply: &mut Reply, line: &ReplyLine) -> Next
 /// The immediate replies of what a line asks for.
 fn begin<E: Machine>(engine: &mut E, asked: Asked, reply: &mut Reply) -> Next
     requires idle { E.pending engine.old ≡ false }
+    requires stands { (s : State) × E.stands engine.old s }
     ensures step { (lines : List ReplyOf) × Says reply.new (E.faults engine.old) (E.faults engine.new) lines
         × Moves E.stands (E.setting engine.old).told engine.old engine.new (BeginsAsked asked) lines }
     ensures more { (result ≡ Next.More) ↔ (E.pending engine.new ≡ true) }
+    ensures stands { (s : State) × E.stands engine.new s }
     ensures setting { E.setting engine.new ≡ E.setting engine.old }
     ensures later { NoneFell (E.faults engine.old) (E.faults engine.new) }
 {
@@ -50,9 +53,11 @@ fn begin<E: Machine>(engine: &mut E, asked: Asked, reply: &mut Reply) -> Next
 /// Runs the statement at work to its end, where the sink failed. Its lines are dropped.
 fn run_out<E: Machine>(engine: &mut E, next: Next, reply: &mut Reply)
     requires more { (next ≡ Next.More) ↔ (E.pending engine.old ≡ true) }
+    requires stands { (s : State) × E.stands engine.old s }
     ensures turns { (lines : List ReplyOf) × Counted (E.faults engine.old) (E.faults engine.new) lines
         × Moves E.stands (E.setting engine.old).told engine.old engine.new Turns lines }
     ensures idle { E.pending engine.new ≡ false }
+    ensures stands { (s : State) × E.stands engine.new s }
     ensures setting { E.setting engine.new ≡ E.setting engine.old }
     ensures later { NoneFell (E.faults engine.old) (E.faults engine.new) }
 {
@@ -72,6 +77,7 @@ fn give_turns<E: Machine, K: Sink>(
     sink: &mut K,
 ) -> Result<(), Failed>
     requires more { (next ≡ Next.More) ↔ (E.pending engine.old ≡ true) }
+    requires stands { (s : State) × E.stands engine.old s }
     ensures ok { OnOk result ((lines : List ReplyOf)
         × Tells (seen (K.written sink.old) (E.faults engine.old)) (seen (K.written sink.new) (E.faults engine.new)) output.old output.new lines
         × Moves E.stands (E.setting engine.old).told engine.old engine.new Turns lines) }
@@ -79,6 +85,7 @@ fn give_turns<E: Machine, K: Sink>(
         × TellsInPart (seen (K.written sink.old) (E.faults engine.old)) (seen (K.written sink.new) (E.faults engine.new)) output.old.bytes.items lines
         × Moves E.stands (E.setting engine.old).told engine.old engine.new Turns lines) }
     ensures idle { E.pending engine.new ≡ false }
+    ensures stands { (s : State) × E.stands engine.new s }
     ensures setting { E.setting engine.new ≡ E.setting engine.old }
     ensures later { NoneFell (E.faults engine.old) (E.faults engine.new) }
     ensures cause { HasCause (K.faults sink.old) (K.faults sink.new) result }
@@ -111,6 +118,7 @@ impl Session {
     ghost use Rattle.std.specs.Prelude.{◌≡◌, ◌≤◌, ◌∷◌, [], ◌++◌, ℕ, List, true, false, take, OnOk, OnErr};
     ghost use Rattle.hg_io.specs.Count.{Rose, HasCause};
     ghost use Rattle.hg_machine.specs.Script.{Line, whole_lines, lines_of};
+    ghost use Rattle.hg_machine.specs.State.{State};
     ghost use Rattle.hg_serve.specs.Output.{Seen, seen, NoneFell, Passes, Breaks};
     ghost use Rattle.hg_serve.specs.Session.{AnswersLine, BreaksInLine};
     ghost use Rattle.hg_serve.specs.Serving.{Serves, Halts, Finishes, Closes};
@@ -136,6 +144,7 @@ impl Session {
         sink: &mut K,
     ) -> Result<(), Failed>
         requires idle { E.pending engine.old ≡ false }
+        requires stands { (s : State) × E.stands engine.old s }
         ensures ok { OnOk result ((whole : List ℕ) → self.old.line.items ≡ take 4097 whole
             → AnswersLine E.stands (E.setting engine.old).told engine.old engine.new (seen (K.written sink.old) (E.faults engine.old))
             (seen (K.written sink.new) (E.faults engine.new)) self.old.output self.new.output (record { bytes = whole; ended = ended })) }
@@ -143,6 +152,7 @@ impl Session {
             → BreaksInLine E.stands (E.setting engine.old).told engine.old engine.new (seen (K.written sink.old) (E.faults engine.old))
             (seen (K.written sink.new) (E.faults engine.new)) self.old.output.bytes.items (record { bytes = whole; ended = ended })) }
         ensures idle { E.pending engine.new ≡ false }
+        ensures stands { (s : State) × E.stands engine.new s }
         ensures setting { E.setting engine.new ≡ E.setting engine.old }
         ensures later { NoneFell (E.faults engine.old) (E.faults engine.new) }
         ensures cause { HasCause (K.faults sink.old) (K.faults sink.new) result }
@@ -165,6 +175,7 @@ impl Session {
         sink: &mut K,
     ) -> Result<(), Failed>
         requires idle { E.pending engine.old ≡ false }
+        requires stands { (s : State) × E.stands engine.old s }
         ensures ok { OnOk result ((first : E) (w : Seen) (taken : List ℕ)
             → Serves E.stands (E.setting engine.old).told first engine.old w (seen (K.written sink.old) (E.faults engine.old)) self.old taken
             → Serves E.stands (E.setting engine.old).told first engine.new w (seen (K.written sink.new) (E.faults engine.new)) self.new (taken ++ b ∷ [])) }
@@ -172,6 +183,7 @@ impl Session {
             → Serves E.stands (E.setting engine.old).told first engine.old w (seen (K.written sink.old) (E.faults engine.old)) self.old taken
             → Halts E.stands (E.setting engine.old).told first engine.new w (seen (K.written sink.new) (E.faults engine.new)) (whole_lines (taken ++ b ∷ []))) }
         ensures idle { E.pending engine.new ≡ false }
+        ensures stands { (s : State) × E.stands engine.new s }
         ensures setting { E.setting engine.new ≡ E.setting engine.old }
         ensures later { NoneFell (E.faults engine.old) (E.faults engine.new) }
         ensures cause { HasCause (K.faults sink.old) (K.faults sink.new) result }
@@ -197,6 +209,7 @@ impl Session {
         sink: &mut K,
     ) -> Result<(), Failed>
         requires idle { E.pending engine.old ≡ false }
+        requires stands { (s : State) × E.stands engine.old s }
         ensures ok { OnOk result ((first : E) (w : Seen) (taken : List ℕ)
             → Serves E.stands (E.setting engine.old).told first engine.old w (seen (K.written sink.old) (E.faults engine.old)) self.old taken
             → Serves E.stands (E.setting engine.old).told first engine.new w (seen (K.written sink.new) (E.faults engine.new)) self.new (taken ++ bytes.now)) }
@@ -204,6 +217,7 @@ impl Session {
             → Serves E.stands (E.setting engine.old).told first engine.old w (seen (K.written sink.old) (E.faults engine.old)) self.old taken
             → Halts E.stands (E.setting engine.old).told first engine.new w (seen (K.written sink.new) (E.faults engine.new)) (whole_lines (taken ++ bytes.now))) }
         ensures idle { E.pending engine.new ≡ false }
+        ensures stands { (s : State) × E.stands engine.new s }
         ensures setting { E.setting engine.new ≡ E.setting engine.old }
         ensures later { NoneFell (E.faults engine.old) (E.faults engine.new) }
         ensures cause { HasCause (K.faults sink.old) (K.faults sink.new) result }
@@ -248,6 +262,7 @@ impl Session {
     /// Answers a last line that no line feed ends, and closes the session.
     pub fn end<E: Machine, K: Sink>(&mut self, engine: &mut E, sink: &mut K) -> Status
         requires idle { E.pending engine.old ≡ false }
+        requires stands { (s : State) × E.stands engine.old s }
         ensures closes { (first : E) (w : Seen) (taken : List ℕ)
             → Serves E.stands (E.setting engine.old).told first engine.old w (seen (K.written sink.old) (E.faults engine.old)) self.old taken
             → Closes E.stands (E.setting engine.old).told first engine.new w (seen (K.written sink.new) (E.faults engine.new)) (lines_of taken) result }

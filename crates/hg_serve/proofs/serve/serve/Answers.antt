@@ -17,6 +17,7 @@ loop-taken-init g c = record {
     serves-start _ _ c.args.engine.now _ _ c.new-session.ensures.empty c.new-session.ensures.errors c.new-session.ensures.line,
   );
   idle = c.requires.idle;
+  stands = c.requires.stands;
   same = refl;
   within = omega arith;
   later = fell-none _;
@@ -152,6 +153,7 @@ loop-taken-preserved g c =
             (fed.ok c.args.engine.now _ served.0 (serves-as _ _ _ (sym told) c.args.engine.now _ _ _ _ _ _ refl serves)),
       );
       idle = c.feed.ensures.idle;
+      stands = c.feed.ensures.stands;
       same = c.feed.ensures.setting ∙ so_far.same;
       within = omega (arith, c.loop-taken-test.true, c.min-room.ensures, read.bound);
       later = fell-then _ _ _ so_far.later c.feed.ensures.later;

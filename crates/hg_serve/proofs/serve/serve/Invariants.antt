@@ -1,5 +1,6 @@
 use Rattle.std.proofs.Common.{◌≡◌, ◌≤◌, ◌-◌, ◌^◌, ℕ, List, length, false}
 use Rattle.hg_machine.specs.Outcome.{Took}
+use Rattle.hg_machine.specs.State.{State}
 use Rattle.hg_serve.specs.Ending.{outside}
 use Rattle.hg_serve.specs.Output.{seen, NoneFell}
 use Rattle.hg_serve.specs.Serving.{Serves}
@@ -14,6 +15,7 @@ invariant-loop-taken g l = record {
       × Serves g.E.Machine.stands (g.E.Machine.setting l.fn.engine).told l.fn.engine l.engine
       (seen (g.K.Sink.written l.fn.sink) (g.E.Machine.faults l.fn.engine)) (seen (g.K.Sink.written l.sink) (g.E.Machine.faults l.engine)) l.session bytes;
   idle : g.E.Machine.pending l.engine ≡ false;
+  stands : (s : State) × g.E.Machine.stands l.engine s;
   same : g.E.Machine.setting l.engine ≡ g.E.Machine.setting l.fn.engine;
   within : l.taken ≤ 2 ^ 32;
   later : NoneFell (g.E.Machine.faults l.fn.engine) (g.E.Machine.faults l.engine);

@@ -1,13 +1,14 @@
 use Rattle.std.proofs.Common.{[], ◌++◌, refl, ap, ◌∙◌, arith}
 use Rattle.hg_machine.specs.Outcome.{Setting}
 use Rattle.hg_serve.proofs.Telling.{tells-none, tells-then, tells-put, part-then, part-put, part-more, fell-none, fell-then}
-use Rattle.hg_serve.proofs.Moving.{at-rest, moves-no_turn, moves-turn, moves-turns, moves-ends}
+use Rattle.hg_serve.proofs.Moving.{at-rest, stands-on, moves-no_turn, moves-turn, moves-turns, moves-ends}
 use Rattle.hg_serve.proofs.session.give_turns.Goals as goal
 
 pub loop-left-init : goal.loop-left-init
 loop-left-init g c = record {
   given = ([], tells-none _ _, moves-no_turn _ _ _);
   more = c.requires.more;
+  stands = c.requires.stands;
   same = refl;
   later = fell-none _;
   sink_later = omega arith;
@@ -26,6 +27,7 @@ loop-left-preserved g c =
         moves-turn _ _ _ _ _ _ given.0 step.0 (ap (λ (s : Setting). s.told) so_far.same) given.2 step.2,
       );
       more = c.more-left.ensures.more;
+      stands = stands-on _ _ _ _ _ step.0 so_far.stands step.2;
       same = c.more-left.ensures.setting ∙ so_far.same;
       later = fell-then _ _ _ so_far.later (record { main = c.more-left.ensures.later.0; temp = c.more-left.ensures.later.1 });
       sink_later = omega (arith, so_far.sink_later, put.cause.later);

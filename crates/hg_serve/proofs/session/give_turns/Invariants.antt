@@ -1,5 +1,6 @@
 use Rattle.std.proofs.Common.{◌≡◌, ◌≤◌, ◌↔◌, List, true}
 use Rattle.hg_machine.specs.Reply.{Reply}
+use Rattle.hg_machine.specs.State.{State}
 use Rattle.hg_reply.specs.declared.machine.Next.TheVariants.{More}
 use Rattle.hg_reply.specs.Steps.{Moves}
 use Rattle.hg_serve.specs.Output.{seen, NoneFell, Tells}
@@ -12,6 +13,7 @@ invariant-loop-left g l = record {
       × Tells (seen (g.K.Sink.written l.fn.sink) (g.E.Machine.faults l.fn.engine)) (seen (g.K.Sink.written l.sink) (g.E.Machine.faults l.engine)) l.fn.output l.output lines
       × Moves g.E.Machine.stands (g.E.Machine.setting l.fn.engine).told l.fn.engine l.engine SomeTurns lines;
   more : (l.left ≡ More) ↔ (g.E.Machine.pending l.engine ≡ true);
+  stands : (s : State) × g.E.Machine.stands l.engine s;
   same : g.E.Machine.setting l.engine ≡ g.E.Machine.setting l.fn.engine;
   later : NoneFell (g.E.Machine.faults l.fn.engine) (g.E.Machine.faults l.engine);
   sink_later : g.K.Sink.faults l.fn.sink ≤ g.K.Sink.faults l.sink;

@@ -1,5 +1,6 @@
 use Rattle.std.proofs.Common.{◌≡◌, ◌↔◌, List, true}
 use Rattle.hg_machine.specs.Reply.{Reply}
+use Rattle.hg_machine.specs.State.{State}
 use Rattle.hg_reply.specs.declared.machine.Next.TheVariants.{More}
 use Rattle.hg_reply.specs.Steps.{Moves}
 use Rattle.hg_serve.specs.Output.{Counted, NoneFell}
@@ -11,6 +12,7 @@ invariant-loop-left g l = record {
   given : (lines : List Reply) × Counted (g.E.Machine.faults l.fn.engine) (g.E.Machine.faults l.engine) lines
       × Moves g.E.Machine.stands (g.E.Machine.setting l.fn.engine).told l.fn.engine l.engine SomeTurns lines;
   more : (l.left ≡ More) ↔ (g.E.Machine.pending l.engine ≡ true);
+  stands : (s : State) × g.E.Machine.stands l.engine s;
   same : g.E.Machine.setting l.engine ≡ g.E.Machine.setting l.fn.engine;
   later : NoneFell (g.E.Machine.faults l.fn.engine) (g.E.Machine.faults l.engine);
 }

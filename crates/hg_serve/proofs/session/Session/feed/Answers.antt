@@ -8,6 +8,7 @@ use Rattle.hg_serve.proofs.session.Session.feed.Goals as goal
 pub loop-b-init : goal.loop-b-init
 loop-b-init g c = record {
   idle = c.requires.idle;
+  stands = c.requires.stands;
   same = refl;
   serves = λ first w taken serves. serves-as _ _ _ refl first _ w _ _ _ _ (sym (append-nil taken)) serves;
   later = fell-none _;
@@ -33,6 +34,7 @@ loop-b-preserved g c =
     let fed = c.in_default.ensures {u = tt} in
     record {
       idle = c.take_byte.ensures.idle;
+      stands = c.take_byte.ensures.stands;
       same = c.take_byte.ensures.setting ∙ so_far.same;
       serves = λ first w taken serves.
           serves-as _ _ _ told first _ w _ _ _ _ (parts-more taken bytes i c.loop-b-test.true)

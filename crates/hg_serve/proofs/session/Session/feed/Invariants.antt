@@ -1,4 +1,5 @@
 use Rattle.std.proofs.Common.{◌≡◌, ◌≤◌, ◌++◌, List, ℕ, take, false}
+use Rattle.hg_machine.specs.State.{State}
 use Rattle.hg_serve.specs.Output.{Seen, seen, NoneFell}
 use Rattle.hg_serve.specs.Serving.{Serves}
 use Rattle.hg_serve.proofs.session.Session.feed.Given as goal
@@ -6,6 +7,7 @@ use Rattle.hg_serve.proofs.session.Session.feed.Given as goal
 abbrev pub invariant-loop-b : goal.invariant-loop-b
 invariant-loop-b g l = record {
   idle : g.E.Machine.pending l.engine ≡ false;
+  stands : (s : State) × g.E.Machine.stands l.engine s;
   same : g.E.Machine.setting l.engine ≡ g.E.Machine.setting l.fn.engine;
   serves : (first : g.row.E.Denot) (w : Seen) (taken : List ℕ)
       → Serves g.E.Machine.stands (g.E.Machine.setting l.fn.engine).told first l.fn.engine w (seen (g.K.Sink.written l.fn.sink) (g.E.Machine.faults l.fn.engine)) l.fn.self taken
