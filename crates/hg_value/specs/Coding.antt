@@ -1,7 +1,7 @@
 -- How values and rows are spelled in bytes. Our own rule: NULL is the byte 0; a number of 32 bits
 -- signed the byte 1 and four bytes; a text the byte 2, its length and its bytes; any other number
 -- the byte 3 and sixteen bytes. Numbers are in two's complement, the least byte first.
-use Rattle.std.specs.Prelude.{ℕ, ℤ, List, [], ◌∷◌, ◌++◌, ◌+◌, ◌<◌, ◌≤◌, ◌≡◌, length, IsTrue, FitsSigned, if◌then◌else◌, ⊤}
+use Rattle.std.specs.Prelude.{ℕ, ℤ, List, [], ◌∷◌, ◌+◌, ◌<◌, ◌≤◌, ◌≡◌, length, IsTrue, FitsSigned, if◌then◌else◌, ⊤}
 use Rattle.std.specs.Int.{w32, w128, to_le_bytes, cast_unsigned}
 use Rattle.std.specs.List.{flat_map, AllByRecursion}
 use Rattle.hg_model.specs.Tables.{fits_integer}

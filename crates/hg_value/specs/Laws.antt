@@ -10,9 +10,12 @@ use Rattle.hg_value.specs.Coding.{coding, coded, IsHeld}
 use Rattle.hg_value.specs.Comparing.{AreOfOneType, AreOfOneShape}
 use Rattle.hg_value.specs.Keys.{index_key, working_key, key_of_columns, IsNarrow}
 
--- a coding has as many bytes as a value, and a row, is said to have
-abbrev pub CodingsAreLong : Type 0
-CodingsAreLong = ((v : Value) → length (coding v) ≡ value_length v) × ((vs : List Value) → length (coded vs) ≡ row_length vs)
+-- a value's coding, and a row's, has as many bytes as it is said to have
+abbrev pub ValuesAreAsLong : Type 0
+ValuesAreAsLong = (v : Value) → length (coding v) ≡ value_length v
+
+abbrev pub RowsAreAsLong : Type 0
+RowsAreAsLong = (vs : List Value) → length (coded vs) ≡ row_length vs
 
 -- bytes spell one row of so many values at most, whatever stands behind them
 abbrev pub CodingsTell : Type 0
@@ -40,13 +43,19 @@ abbrev pub IsIndexed : Value → Type 0
 IsIndexed v = IsHeld v × IsNarrow v
 
 abbrev pub IndexKeysCompare : Type 0
-IndexKeysCompare = KeysCompare index_key IsIndexed × ColumnsCompare index_key IsIndexed
+IndexKeysCompare = KeysCompare index_key IsIndexed
+
+abbrev pub IndexColumnsCompare : Type 0
+IndexColumnsCompare = ColumnsCompare index_key IsIndexed
 
 abbrev pub IndexKeysTell : Type 0
 IndexKeysTell = KeysTell index_key IsIndexed
 
 abbrev pub WorkingKeysCompare : Type 0
-WorkingKeysCompare = KeysCompare working_key IsHeld × ColumnsCompare working_key IsHeld
+WorkingKeysCompare = KeysCompare working_key IsHeld
+
+abbrev pub WorkingColumnsCompare : Type 0
+WorkingColumnsCompare = ColumnsCompare working_key IsHeld
 
 abbrev pub WorkingKeysTell : Type 0
 WorkingKeysTell = KeysTell working_key IsHeld

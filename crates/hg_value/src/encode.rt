@@ -3,7 +3,7 @@ ghost use Rattle.std.specs.Prelude.{◌≡◌, ◌+◌, ◌≤◌, ◌++◌, len
 ghost use Rattle.hg_model.specs.Tables.{fits_integer};
 ghost use Rattle.hg_model.specs.Value.{is_chars};
 ghost use Rattle.hg_model.specs.declared.values.Value.TheVariants as of;
-ghost use Rattle.hg_value.specs.Coding.{coding};
+ghost use Rattle.hg_value.specs.Coding.{coding, IsHeld};
 ghost use Rattle.arrayvec.specs.ArrayVec.{array_vec_len};
 
 use arrayvec::ArrayVec;
@@ -27,7 +27,9 @@ pub fn is_narrow(x: i128) -> bool
 
 /// How many bytes a value has.
 pub fn coded_length(v: &Value) -> usize
-    ensures { result ≡ length (coding v.now) }
+    ensures value { result ≡ length (coding v.now) }
+    ensures small { result ≤ 257 }
+    ensures held { IsHeld v.now }
 {
     match v {
         Value::Null => 1,

@@ -3,7 +3,8 @@ ghost use Rattle.hg_value.specs.Laws as laws;
 
 /// Codings: how long they are, and that bytes spell at most one row of so many values.
 pub fn codings_tell()
-    ensures long { laws.CodingsAreLong }
+    ensures value { laws.ValuesAreAsLong }
+    ensures row { laws.RowsAreAsLong }
     ensures tell { laws.CodingsTell }
 {}
 
@@ -11,11 +12,13 @@ pub fn codings_tell()
 /// other bytes stand behind; and equal keys have equal values. Only two values of one type are compared.
 pub fn index_keys_compare()
     ensures compare { laws.IndexKeysCompare }
+    ensures columns { laws.IndexColumnsCompare }
     ensures tell { laws.IndexKeysTell }
 {}
 
 /// The same of the keys by which joins and groups work, over all numbers.
 pub fn keys_compare()
     ensures compare { laws.WorkingKeysCompare }
+    ensures columns { laws.WorkingColumnsCompare }
     ensures tell { laws.WorkingKeysTell }
 {}

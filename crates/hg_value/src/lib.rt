@@ -11,6 +11,8 @@ mod keys;
 mod laws;
 mod order;
 mod row;
+#[cfg(test)]
+mod tests;
 
 pub use hashing::hash;
 pub use keys::{push_index_key, push_key};

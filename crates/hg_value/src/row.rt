@@ -1,4 +1,7 @@
 //! Rows.
+ghost use Rattle.std.specs.Prelude.{◌≡◌, ◌<◌, length, slice_get, Some};
+ghost use Rattle.hg_value.specs.RowParts.{begin_from, row_values, AreParts};
+
 use crate::decode::{decode, read_ends};
 use crate::encode::{coded_length, put_value};
 use arrayvec::ArrayVec;
@@ -16,6 +19,29 @@ const MAX_VALUES: usize = 64;
 pub struct Row {
     bytes: ArrayVec<u8, 3900>,
     ends: ArrayVec<u16, 64>,
+}
+
+/// Where the value at a place begins.
+fn beginning(ends: &[u16], place: usize) -> usize
+    requires { place < length ends.now }
+    ensures { result ≡ begin_from 0 ends.now place }
+{
+    if place == 0 {
+        return 0;
+    }
+    ends[place - 1] as usize
+}
+
+/// The value at a place of a row of these parts.
+fn value_among(ends: &[u16], bytes: &[u8], place: usize) -> Value
+    requires parts { AreParts ends.now bytes.now }
+    requires inside { place < length ends.now }
+    ensures { slice_get (row_values ends.now bytes.now) place ≡ Some result }
+{
+    let begin = beginning(ends, place);
+    let end = ends[place] as usize;
+    let behind = bytes.split_at(begin).1;
+    decode(behind.split_at(end - begin).0)
 }
 
 impl Model for Row {
@@ -61,7 +87,8 @@ impl Row {
         self.ends.is_empty()
     }
 
-    /// Puts a value behind the others.
+    /// Puts a value behind the others. NoRoom comes exactly where there would be more than 64 values
+    /// or more than 3,900 bytes; the row is then as it was.
     pub fn push(&mut self, v: &Value) -> Result<(), NoRoom>
         ensures ok { OnOk result (self.new ≡ self.old ++ v.now ∷ []) }
         ensures unchanged { OnErr result (self.new ≡ self.old) }
@@ -81,10 +108,7 @@ impl Row {
         requires { k < length self.now }
         ensures { slice_get self.now k ≡ Some result }
     {
-        let place = k as usize;
-        let begin = if place == 0 { 0 } else { self.ends[place - 1] };
-        let end = self.ends[place];
-        decode(&self.bytes[begin as usize..end as usize])
+        value_among(self.ends.as_slice(), self.bytes.as_slice(), k as usize)
     }
 
     /// Takes all values away.
@@ -126,7 +150,7 @@ impl Row {
         ensures empty { OnFalse result (self.new ≡ []) }
     {
         self.clear();
-        if n > 64 || bytes.len() > MAX_BYTES {
+        if n as usize > MAX_VALUES || bytes.len() > MAX_BYTES {
             return false;
         }
         if !read_ends(bytes, n, &mut self.ends) {

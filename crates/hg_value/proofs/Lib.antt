@@ -1,0 +1,6 @@
+mod Digits
+mod KeyOrder
+mod Codings
+mod Beginnings
+mod Rows
+mod Reading
