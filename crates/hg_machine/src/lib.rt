@@ -6,8 +6,10 @@
 //! script; `specs/Outcome.antt` what a run of the engine took from its source and gave to its sink.
 #![tactic(auto)]
 
+mod laws;
 mod statements;
 mod tokens;
 
+pub use laws::few_rows_never_fill_main;
 pub use statements::{Cell, Content, Row, Statement};
 pub use tokens::{Part, RESERVED, Sign, Token};
