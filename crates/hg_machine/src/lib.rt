@@ -4,6 +4,7 @@
 //!
 //! The contract used above: `specs/Run.antt` says which replies are a run of the machine over a
 //! script; `specs/Outcome.antt` what a run of the engine took from its source and gave to its sink.
+//! `specs/Laws.antt` has a law of runs, which [`few_rows_never_fill_main`] carries.
 #![tactic(auto)]
 
 mod laws;
