@@ -9,3 +9,4 @@ pub mod Insert
 pub mod Select
 pub mod Run
 pub mod Outcome
+pub mod Laws

@@ -4,10 +4,13 @@
 //!
 //! The contract used above: `specs/Run.antt` says which replies are a run of the machine over a
 //! script; `specs/Outcome.antt` what a run of the engine took from its source and gave to its sink.
+//! `specs/Laws.antt` has a law of runs, which [`few_rows_never_fill_main`] carries.
 #![tactic(auto)]
 
+mod laws;
 mod statements;
 mod tokens;
 
+pub use laws::few_rows_never_fill_main;
 pub use statements::{Cell, Content, Row, Statement};
 pub use tokens::{Part, RESERVED, Sign, Token};

@@ -8,6 +8,7 @@
 
 mod machine;
 mod reply;
+mod row;
 
 pub use machine::{Machine, Next};
 pub use reply::{REPLY_BYTES, Reply, ReplyLine};

@@ -77,7 +77,7 @@ impl Reply {
     }
 
     /// Puts text behind the lines.
-    fn put(&mut self, text: &[u8])
+    pub(crate) fn put(&mut self, text: &[u8])
         requires { array_vec_len self.old.text + length text.now ≤ 16384 }
         ensures text { self.new.text.items ≡ self.old.text.items ++ text.now }
         ensures errors { self.new.has_error ≡ self.old.has_error }

@@ -1,7 +1,8 @@
 //! The bytes of every line, worked out by hand.
 use crate::{Reply, ReplyLine};
 use hg_base::{Check, File, PageId};
-use hg_model::Name;
+use hg_model::{Chars, Name, Value};
+use hg_value::Row;
 use std::process::Abort;
 
 fn says(rt: &impl Abort, reply: &mut Reply, line: ReplyLine, text: &str, is_error: bool) {
@@ -140,4 +141,64 @@ fn lines_stand_behind_one_another(rt: HostRuntime) {
         b"error 17 main device fault\nclosed *\n".as_slice()
     );
     assert!(rt; reply.has_error);
+}
+
+fn text(rt: &impl Abort, characters: &str) -> Value {
+    Value::Text(Chars::parse(characters).expect(rt, "a text"))
+}
+
+fn row_says(rt: &impl Abort, values: &[Value], text: &str) {
+    let mut row = Row::new();
+    for value in values {
+        assert!(rt; row.push(value).is_ok());
+    }
+    let mut reply = Reply::new();
+    reply.say_row(&row);
+    assert_eq!(rt; reply.text.as_slice(), text.as_bytes());
+    assert!(rt; !reply.has_error);
+}
+
+#[test]
+fn rows_of_one_value(rt: HostRuntime) {
+    let rt = &rt;
+    row_says(rt, &[Value::Null], "row * NULL\n");
+    row_says(rt, &[Value::Int(-4)], "row * -4\n");
+    row_says(rt, &[Value::Int(0)], "row * 0\n");
+    row_says(
+        rt,
+        &[Value::Int(1 << 100)],
+        "row * 1267650600228229401496703205376\n",
+    );
+    row_says(rt, &[text(rt, "")], "row * ''\n");
+    row_says(rt, &[text(rt, "it's")], "row * 'it''s'\n");
+    row_says(rt, &[text(rt, "''a,")], "row * '''''a,'\n");
+}
+
+#[test]
+fn rows_of_more_values(rt: HostRuntime) {
+    let rt = &rt;
+    row_says(rt, &[text(rt, "'"), Value::Null], "row * '''',NULL\n");
+    let sixteen = [
+        Value::Int(0),
+        Value::Int(1),
+        Value::Null,
+        Value::Int(-4),
+        text(rt, "x"),
+        Value::Int(5),
+        Value::Int(6),
+        Value::Int(7),
+        Value::Int(-2147483648),
+        Value::Null,
+        text(rt, "o'clock"),
+        Value::Int(11),
+        Value::Int(12),
+        Value::Int(13),
+        Value::Int(-(1 << 100)),
+        Value::Int(15),
+    ];
+    row_says(
+        rt,
+        &sixteen,
+        "row * 0,1,NULL,-4,'x',5,6,7,-2147483648,NULL,'o''clock',11,12,13,-1267650600228229401496703205376,15\n",
+    );
 }
