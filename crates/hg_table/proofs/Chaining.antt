@@ -47,20 +47,20 @@ kept_page a b None x y s free e l p =
     let same : IsSamePage a b (key_in Main y) = beside a b None x y s (λ q. absurd (let z : ◌≡◌ {A = Option ℕ} None (Some y) = q in cc)) m p in
     record { apart = m; taken = taken_still a b x y e m; of_heap = same.of_heap; bytes = same.bytes; next = λ n. same.next }
 kept_page a b (Some k) x y s free e l p = elim (cases_eq k y) [
-      | inl i ↦
-        let m : y ≢ x = apart_new a x y free p.taken in
-        record {
-          apart = m;
-          taken = taken_still a b x y e m;
-          of_heap = subst (λ z. b.of_heap (key_in Main z) ≡ a.of_heap (key_in Main z)) i l.of_heap;
-          bytes = subst (λ z. b.bytes (key_in Main z) ≡ a.bytes (key_in Main z)) i l.bytes;
-          next = λ n. absurd (n (ap (λ z. Some z) i));
-        }
-      | inr d ↦
-        let m : y ≢ x = apart_new a x y free p.taken in
-        let same : IsSamePage a b (key_in Main y) = beside a b (Some k) x y s (λ q. d (some_same k y q)) m p in
-        record { apart = m; taken = taken_still a b x y e m; of_heap = same.of_heap; bytes = same.bytes; next = λ n. same.next }
-    ]
+  | inl i ↦
+      let m : y ≢ x = apart_new a x y free p.taken in
+      record {
+        apart = m;
+        taken = taken_still a b x y e m;
+        of_heap = subst (λ z. b.of_heap (key_in Main z) ≡ a.of_heap (key_in Main z)) i l.of_heap;
+        bytes = subst (λ z. b.bytes (key_in Main z) ≡ a.bytes (key_in Main z)) i l.bytes;
+        next = λ n. absurd (n (ap (λ z. Some z) i));
+      }
+  | inr d ↦
+      let m : y ≢ x = apart_new a x y free p.taken in
+      let same : IsSamePage a b (key_in Main y) = beside a b (Some k) x y s (λ q. d (some_same k y q)) m p in
+      record { apart = m; taken = taken_still a b x y e m; of_heap = same.of_heap; bytes = same.bytes; next = λ n. same.next }
+]
   where
     some_same : (i j : ℕ) → ◌≡◌ {A = Option ℕ} (Some i) (Some j) → i ≡ j
     some_same i j e = cc

@@ -21,15 +21,15 @@ use Rattle.hg_table.specs.TableLaws.{IsSameLink, line_stays, line-plain, all_map
 -- every page is linked as before
 pub changed_link : (a b : Space) (x y : ℕ) (P : List ℕ → List ℕ → Type 0) → ChangesPage a b x P → IsPlain a (key_in Main y) → IsSameLink a b (key_in Main y)
 changed_link a b x y P c plain = elim (cases_eq y x) [
-      | inl e ↦ subst (λ z. IsSameLink a b (key_in Main z)) (sym e) (record {
-          taken = ap (λ f. f (key_in Main x)) c.takes_none.taken;
-          of_heap = c.of_heap;
-          next = c.next;
-        })
-      | inr n ↦
-        let s : IsSamePage a b (key_in Main y) = c.steady.pages (key_in Main y) (λ q. n (key_in-one Main y x q)) plain in
-        record { taken = s.taken; of_heap = s.of_heap; next = s.next }
-    ]
+  | inl e ↦ subst (λ z. IsSameLink a b (key_in Main z)) (sym e) (record {
+    taken = ap (λ f. f (key_in Main x)) c.takes_none.taken;
+    of_heap = c.of_heap;
+    next = c.next;
+  })
+  | inr n ↦
+      let s : IsSamePage a b (key_in Main y) = c.steady.pages (key_in Main y) (λ q. n (key_in-one Main y x q)) plain in
+      record { taken = s.taken; of_heap = s.of_heap; next = s.next }
+]
 
 pub changed_line : (a b : Space) (from : Option ℕ) (xs : List ℕ) (x : ℕ) (P : List ℕ → List ℕ → Type 0) → ChangesPage a b x P → IsLine a from xs → IsLine b from xs
 changed_line a b from xs x P c l =
@@ -73,13 +73,13 @@ pub changed_holds : (a b : Space) (columns x y j : ℕ) (o : Option RowVersion) 
     → ChangesPage a b x P → ((old new : List ℕ) → P old new → ChangesSlot columns j o old new)
     → IsPlain a (key_in Main y) → HoldsVersions a columns y (held y) → HoldsVersions b columns y (with_slot held x j o y)
 changed_holds a b columns x y j o held P c f plain h = elim (cases_eq y x) [
-      | inl e ↦ subst (λ z. HoldsVersions b columns z (with_slot held x j o z)) (sym e)
-          (changed_here a b columns x j o held P c f (subst (λ z. HoldsVersions a columns z (held z)) e h))
-      | inr n ↦
-        let s : IsSamePage a b (key_in Main y) = c.steady.pages (key_in Main y) (λ q. n (key_in-one Main y x q)) plain in
-        subst (HoldsVersions b columns y) (sym (at_other held x y (at (held x) j o) n))
-        (record { page = h.page; told = s.bytes ∙ h.told; slotted = h.slotted; each = h.each })
-    ]
+  | inl e ↦ subst (λ z. HoldsVersions b columns z (with_slot held x j o z)) (sym e)
+      (changed_here a b columns x j o held P c f (subst (λ z. HoldsVersions a columns z (held z)) e h))
+  | inr n ↦
+      let s : IsSamePage a b (key_in Main y) = c.steady.pages (key_in Main y) (λ q. n (key_in-one Main y x q)) plain in
+      subst (HoldsVersions b columns y) (sym (at_other held x y (at (held x) j o) n))
+      (record { page = h.page; told = s.bytes ∙ h.told; slotted = h.slotted; each = h.each })
+]
 
 -- the table with one slot changed
 pub changed_table : (a b : Space) (t : Table) (columns x j : ℕ) (o : Option RowVersion) (pages : List ℕ) (versions new : List Placed) (P : List ℕ → List ℕ → Type 0)

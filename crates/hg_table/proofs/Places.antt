@@ -66,11 +66,11 @@ past_slots held (x ∷ xs) p l =
 pub version_of : (s : Space) (t : Table) (columns : ℕ) (pages : List ℕ) (versions : List Placed) (p : Place)
     → (table : IsTable s t columns pages versions) → has_page pages p.page ≡ true → version_at versions p ≡ table.held p.page p.slot
 version_of s t columns pages versions p table h = elim (cases_lt p.slot most_slots) [
-      | inl l ↦ ap (λ vs. version_at vs p) table.listed
-          ∙ pages_here table.held pages p (distinct-apart s.taken (s.limit Main) pages table.chain.line.taken) h l
-      | inr l ↦ ap (λ vs. version_at vs p) table.listed ∙ past_slots table.held pages p l
-          ∙ sym (held_past s columns p.page p.slot (table.held p.page) (all_has (λ x. HoldsVersions s columns x (table.held x)) pages p.page table.holds h) l)
-    ]
+  | inl l ↦ ap (λ vs. version_at vs p) table.listed
+      ∙ pages_here table.held pages p (distinct-apart s.taken (s.limit Main) pages table.chain.line.taken) h l
+  | inr l ↦ ap (λ vs. version_at vs p) table.listed ∙ past_slots table.held pages p l
+      ∙ sym (held_past s columns p.page p.slot (table.held p.page) (all_has (λ x. HoldsVersions s columns x (table.held x)) pages p.page table.holds h) l)
+]
 
 pub sound_of : (s : Space) (t : Table) (columns : ℕ) (pages : List ℕ) (versions : List Placed) (p : Place) → NoPins s
     → IsTable s t columns pages versions → has_page pages p.page ≡ true → IsSoundAt s columns p.page p.slot (version_at versions p)
@@ -94,10 +94,10 @@ none_apart (y ∷ ys) x h = (
 pub there_page : (s : Space) (t : Table) (columns : ℕ) (pages : List ℕ) (versions : List Placed) (p : Place)
     → IsTable s t columns pages versions → IsSome (version_at versions p) → has_page pages p.page ≡ true
 there_page s t columns pages versions p table there = elim (cases_Bool (has_page pages p.page)) [
-      | inl e ↦ e
-      | inr e ↦ absurd (let n : version_at versions p ≡ None =
-            ap (λ vs. version_at vs p) table.listed ∙ pages_other table.held pages p (none_apart pages p.page e) in false≢true (subst IsSome n there))
-    ]
+  | inl e ↦ e
+  | inr e ↦ absurd (let n : version_at versions p ≡ None =
+      ap (λ vs. version_at vs p) table.listed ∙ pages_other table.held pages p (none_apart pages p.page e) in false≢true (subst IsSome n there))
+]
 
 -- the place that a call was given is on a page of the table, with whatever lists it is described
 pub same_page : (s : Space) (t : Table) (columns c : ℕ) (pages : List ℕ) (versions : List Placed) (p : Place)

@@ -30,17 +30,17 @@ none_past page k s h = record-out page k (omega (arith, s.few))
 -- the slot of a record is one of the slots
 pub slot_small : (page r : List ℕ) (k : ℕ) → IsSlotted page → record_at page k ≡ Some r → k < most_slots
 slot_small page r k s e = elim (cases_lt k 128) [
-      | inl h ↦ omega (arith, most_slots-is)
-      | inr h ↦ absurd (let n : ◌≡◌ {A = Option (List ℕ)} None (Some r) = sym (none_past page k s h) ∙ e in cc)
-    ]
+  | inl h ↦ omega (arith, most_slots-is)
+  | inr h ↦ absurd (let n : ◌≡◌ {A = Option (List ℕ)} None (Some r) = sym (none_past page k s h) ∙ e in cc)
+]
 
 -- one more slot that is empty
 pub none_more : (page : List ℕ) (from k : ℕ) → ((j : ℕ) → from ≤ j → j < k → record_at page j ≡ None) → record_at page k ≡ None
     → (j : ℕ) → from ≤ j → j < k + 1 → record_at page j ≡ None
 none_more page from k none here j l h = elim (cases_eq j k) [
-      | inl e ↦ ap (record_at page) e ∙ here
-      | inr d ↦ none j l (omega arith)
-    ]
+  | inl e ↦ ap (record_at page) e ∙ here
+  | inr d ↦ none j l (omega arith)
+]
 
 -- a page that was empty holds the one record that was put there
 pub one_record : (a b r : List ℕ) (slot : ℕ) → slots a ≡ 0 → IsSlotted b → IsInserted a b slot r → HoldsRecord b slot r

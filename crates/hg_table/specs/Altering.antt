@@ -55,19 +55,19 @@ pub slots_put : (x : ℕ) (f g : ℕ → Option RowVersion) (k n j : ℕ) (v : R
     → ((i : ℕ) → i ≢ j → g i ≡ f i) → PutsIn (in_slots x f k n) (in_slots x g k n) (put x j v)
 slots_put x f g k zero j v l h was now rest = absurd (omega arith)
 slots_put x f g k (suc n) j v l h was now rest = elim (cases_eq k j) [
-      | inl e ↦ record {
-          before = [];
-          after = in_slots x f (suc k) n;
-          was = ap (λ o. in_slot x k o ++ in_slots x f (suc k) n) (ap f e ∙ was);
-          now = ap (λ o. in_slot x k o ++ in_slots x g (suc k) n) (ap g e ∙ now)
-              ∙ ap (λ y. put x y v ∷ in_slots x g (suc k) n) e
-              ∙ ap (λ r. put x j v ∷ r) (slots_agree x g f (suc k) n (λ i p q. rest i (λ d. absurd (omega arith))));
-        }
-      | inr d ↦ puts_same (in_slots x f k (suc n)) (in_slots x g k (suc n)) (in_slot x k (f k) ++ in_slots x f (suc k) n) (in_slot x k (f k) ++ in_slots x g (suc k) n) (put x j v)
-          refl (ap (λ o. in_slot x k o ++ in_slots x g (suc k) n) (rest k d))
-          (puts_under (in_slot x k (f k)) (in_slots x f (suc k) n) (in_slots x g (suc k) n) (put x j v)
-          (slots_put x f g (suc k) n j v (omega arith) (omega arith) was now rest))
-    ]
+  | inl e ↦ record {
+    before = [];
+    after = in_slots x f (suc k) n;
+    was = ap (λ o. in_slot x k o ++ in_slots x f (suc k) n) (ap f e ∙ was);
+    now = ap (λ o. in_slot x k o ++ in_slots x g (suc k) n) (ap g e ∙ now)
+        ∙ ap (λ y. put x y v ∷ in_slots x g (suc k) n) e
+        ∙ ap (λ r. put x j v ∷ r) (slots_agree x g f (suc k) n (λ i p q. rest i (λ d. absurd (omega arith))));
+  }
+  | inr d ↦ puts_same (in_slots x f k (suc n)) (in_slots x g k (suc n)) (in_slot x k (f k) ++ in_slots x f (suc k) n) (in_slot x k (f k) ++ in_slots x g (suc k) n) (put x j v)
+      refl (ap (λ o. in_slot x k o ++ in_slots x g (suc k) n) (rest k d))
+      (puts_under (in_slot x k (f k)) (in_slots x f (suc k) n) (in_slots x g (suc k) n) (put x j v)
+      (slots_put x f g (suc k) n j v (omega arith) (omega arith) was now rest))
+]
 
 pub beside_all : (held : ℕ → ℕ → Option RowVersion) (x j : ℕ) (o : Option RowVersion) (xs : List ℕ) → AllByRecursion (λ y. y ≢ x) xs
     → AllByRecursion (λ y. (i : ℕ) → with_slot held x j o y i ≡ held y i) xs
@@ -170,13 +170,13 @@ and_right_no a b e f = ap (λ t. t && b) e ∙ f
 pub pages_killed : (held : ℕ → ℕ → Option RowVersion) (xs : List ℕ) (p : Place) (d : ℕ) (v : RowVersion) → held p.page p.slot ≡ Some v
     → killed p d (in_pages held xs) ≡ in_pages (with_slot held p.page p.slot (Some (dead v d))) xs
 pages_killed held xs p d v there = pages_map (killed_at p d) held (with_slot held p.page p.slot (Some (dead v d))) xs (λ x i. elim (cases_eq x p.page) [
-      | inr n ↦ one_beside p d x i (held x i) (and_left_no (x == p.page) (i == p.slot) (ne_eqb x p.page n))
-          ∙ ap (in_slot x i) (sym (page_beside held p.page p.slot (Some (dead v d)) x i n))
-      | inl e ↦ elim (cases_eq i p.slot) [
-          | inr n ↦ one_beside p d x i (held x i) (and_right_no (x == p.page) (i == p.slot) (eq-eqb x p.page e) (ne_eqb i p.slot n))
-              ∙ ap (in_slot x i) (ap (λ y. held y i) e ∙ sym (slot_beside held p.page p.slot (Some (dead v d)) x i e n))
-          | inl f ↦ ap (λ o. map (killed_at p d) (in_slot x i o)) (ap (λ y. held y i) e ∙ ap (held p.page) f ∙ there)
-              ∙ one_killed p d x i v (and_both (x == p.page) (i == p.slot) (eq-eqb x p.page e) (eq-eqb i p.slot f))
-              ∙ ap (in_slot x i) (sym (slot_here held p.page p.slot (Some (dead v d)) x i e f))
-        ]
-    ])
+  | inr n ↦ one_beside p d x i (held x i) (and_left_no (x == p.page) (i == p.slot) (ne_eqb x p.page n))
+      ∙ ap (in_slot x i) (sym (page_beside held p.page p.slot (Some (dead v d)) x i n))
+  | inl e ↦ elim (cases_eq i p.slot) [
+    | inr n ↦ one_beside p d x i (held x i) (and_right_no (x == p.page) (i == p.slot) (eq-eqb x p.page e) (ne_eqb i p.slot n))
+        ∙ ap (in_slot x i) (ap (λ y. held y i) e ∙ sym (slot_beside held p.page p.slot (Some (dead v d)) x i e n))
+    | inl f ↦ ap (λ o. map (killed_at p d) (in_slot x i o)) (ap (λ y. held y i) e ∙ ap (held p.page) f ∙ there)
+        ∙ one_killed p d x i v (and_both (x == p.page) (i == p.slot) (eq-eqb x p.page e) (eq-eqb i p.slot f))
+        ∙ ap (in_slot x i) (sym (slot_here held p.page p.slot (Some (dead v d)) x i e f))
+  ]
+])

@@ -199,8 +199,8 @@ behind-in-order pages (x ∷ xs) v ys order =
 apart-from : (l : List ℕ) (p : Place) (w : Placed) → comes_behind l p w ≡ true → is_at p w ≡ false
 apart-from l p w h = elim (eqb_tells w.place.page p.page) [
   | inl same ↦
-    let less : nat_lt p.slot w.place.slot ≡ true = sym (ap (λ b. if b then nat_lt p.slot w.place.slot else has_page l w.place.page) same.0) ∙ h in
-    ap (λ b. b && (w.place.slot == p.slot)) same.0 ∙ eq-no w.place.slot p.slot (λ e. absurd (false≢true (sym (lt-no p.slot w.place.slot (omega arith)) ∙ less)))
+      let less : nat_lt p.slot w.place.slot ≡ true = sym (ap (λ b. if b then nat_lt p.slot w.place.slot else has_page l w.place.page) same.0) ∙ h in
+      ap (λ b. b && (w.place.slot == p.slot)) same.0 ∙ eq-no w.place.slot p.slot (λ e. absurd (false≢true (sym (lt-no p.slot w.place.slot (omega arith)) ∙ less)))
   | inr apart ↦ ap (λ b. b && (w.place.slot == p.slot)) apart.0
 ]
 
@@ -208,10 +208,10 @@ apart-from l p w h = elim (eqb_tells w.place.page p.page) [
 at-either : (u w : Placed) → is_at u.place w ≡ false → is_at w.place u ≡ false
 at-either u w h = elim (eqb_tells u.place.page w.place.page) [
   | inl page ↦ elim (eqb_tells u.place.slot w.place.slot) [
-      | inl slot ↦ absurd (false≢true (sym h ∙ ap (λ b. b && (w.place.slot == u.place.slot)) (eq-yes w.place.page u.place.page (sym page.1))
-          ∙ eq-yes w.place.slot u.place.slot (sym slot.1)))
-      | inr apart ↦ ap (λ b. b && (u.place.slot == w.place.slot)) page.0 ∙ apart.0
-    ]
+    | inl slot ↦ absurd (false≢true (sym h ∙ ap (λ b. b && (w.place.slot == u.place.slot)) (eq-yes w.place.page u.place.page (sym page.1))
+        ∙ eq-yes w.place.slot u.place.slot (sym slot.1)))
+    | inr apart ↦ ap (λ b. b && (u.place.slot == w.place.slot)) page.0 ∙ apart.0
+  ]
   | inr apart ↦ ap (λ b. b && (u.place.slot == w.place.slot)) apart.0
 ]
 

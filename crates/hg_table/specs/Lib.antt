@@ -8,3 +8,4 @@ pub mod Listing
 pub mod Altering
 pub mod InOrder
 pub mod TableLaws
+pub mod Kept

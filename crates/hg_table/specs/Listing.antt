@@ -26,7 +26,7 @@ version_at-append (v ∷ xs) ys p =
 
 -- a slot shows its own place alone
 pub one_slot : (x k : ℕ) (o : Option RowVersion) (p : Place) → version_at (in_slot x k o) p ≡ (if (x == p.page && k == p.slot) then o else None)
-one_slot x k None p = elim (x == p.page && k == p.slot) as (λ b. ◌≡◌ {A = Option RowVersion} None (if b then None else None)) [ | true ↦ refl | false ↦ refl ]
+one_slot x k None p = elim (x == p.page && k == p.slot) as (λ b. ◌≡◌ {A = Option RowVersion} None (if b then None else None)) [ true ↦ refl | false ↦ refl ]
 one_slot x k (Some v) p = refl
 
 slot_step : (x : ℕ) (held : ℕ → Option RowVersion) (k n : ℕ) (p : Place) (b : Bool) → (x == p.page && k == p.slot) ≡ b
@@ -66,11 +66,11 @@ pub slots_here : (x : ℕ) (held : ℕ → Option RowVersion) (k n : ℕ) (p : P
     → version_at (in_slots x held k n) p ≡ held p.slot
 slots_here x held k zero p e l h = absurd (omega arith)
 slots_here x held k (suc n) p e l h = elim (cases_eq k p.slot) [
-      | inl i ↦ slot_step x held k n p true (and_yes (x == p.page) (k == p.slot) (eq-eqb x p.page e) (eq-eqb k p.slot i))
-          ∙ ap (or_else (held k)) (slots_above x held (suc k) n p (omega arith)) ∙ or_else-none (held k) ∙ ap held i
-      | inr d ↦ slot_step x held k n p false (and_no_right (x == p.page) (k == p.slot) (ne_eqb k p.slot d))
-          ∙ slots_here x held (suc k) n p e (omega arith) (omega arith)
-    ]
+  | inl i ↦ slot_step x held k n p true (and_yes (x == p.page) (k == p.slot) (eq-eqb x p.page e) (eq-eqb k p.slot i))
+      ∙ ap (or_else (held k)) (slots_above x held (suc k) n p (omega arith)) ∙ or_else-none (held k) ∙ ap held i
+  | inr d ↦ slot_step x held k n p false (and_no_right (x == p.page) (k == p.slot) (ne_eqb k p.slot d))
+      ∙ slots_here x held (suc k) n p e (omega arith) (omega arith)
+]
 
 pub slots_below : (x : ℕ) (held : ℕ → Option RowVersion) (k n : ℕ) (p : Place) → k + n ≤ p.slot → version_at (in_slots x held k n) p ≡ None
 slots_below x held k zero p h = refl
@@ -97,9 +97,9 @@ apart_under x y (z ∷ xs) e h = (λ q. h.0 (q ∙ sym e), apart_under x y xs e 
 
 pub has_cases : (x y : ℕ) (xs : List ℕ) (P : Type 0) → has_page (x ∷ xs) y ≡ true → (x ≡ y → P) → (x ≢ y → has_page xs y ≡ true → P) → P
 has_cases x y xs P h same other = elim (cases_eq x y) [
-      | inl e ↦ same e
-      | inr d ↦ other d (sym (ap (λ t. t || has_page xs y) (ne_eqb x y d)) ∙ h)
-    ]
+  | inl e ↦ same e
+  | inr d ↦ other d (sym (ap (λ t. t || has_page xs y) (ne_eqb x y d)) ∙ h)
+]
 
 -- the version of a place on one of the pages
 pub pages_here : (held : ℕ → ℕ → Option RowVersion) (xs : List ℕ) (p : Place) → AreApart xs → has_page xs p.page ≡ true → p.slot < most_slots
@@ -142,10 +142,10 @@ pub first_slot : (x : ℕ) (f : ℕ → Option RowVersion) (k n j : ℕ) (v : Ro
     → ((i : ℕ) → k ≤ i → i < j → f i ≡ None) → first_place (in_slots x f k n ++ rest) ≡ Some (record { page = x; slot = j })
 first_slot x f k zero j v rest l h e none = absurd (omega arith)
 first_slot x f k (suc n) j v rest l h e none = elim (cases_eq k j) [
-      | inl i ↦ ap (λ o. first_place ((in_slot x k o ++ in_slots x f (suc k) n) ++ rest)) (ap f i ∙ e) ∙ ap (λ y. Some (record { page = x; slot = y })) i
-      | inr d ↦ ap (λ o. first_place ((in_slot x k o ++ in_slots x f (suc k) n) ++ rest)) (none k (omega arith) (omega arith))
-          ∙ first_slot x f (suc k) n j v rest (omega arith) (omega arith) e (λ i p q. none i (omega arith) q)
-    ]
+  | inl i ↦ ap (λ o. first_place ((in_slot x k o ++ in_slots x f (suc k) n) ++ rest)) (ap f i ∙ e) ∙ ap (λ y. Some (record { page = x; slot = y })) i
+  | inr d ↦ ap (λ o. first_place ((in_slot x k o ++ in_slots x f (suc k) n) ++ rest)) (none k (omega arith) (omega arith))
+      ∙ first_slot x f (suc k) n j v rest (omega arith) (omega arith) e (λ i p q. none i (omega arith) q)
+]
 
 -- what a test keeps of two lists, one behind the other
 pub filter_both : (t : Placed → Bool) (xs ys : List Placed) → filter t (xs ++ ys) ≡ filter t xs ++ filter t ys

@@ -26,7 +26,7 @@ fn holds_stamps(page: &[u8], slot: u16) -> bool
 }
 
 /// Sets the stamp under which the version of a slot died.
-fn kill_in(page: &mut [u8], slot: u16, died: Stamp) -> Result<(), Check>
+pub fn kill_in(page: &mut [u8], slot: u16, died: Stamp) -> Result<(), Check>
     requires { length page.old ≡ 4096 }
     ensures ok { OnOk result (Kills page.old page.new slot died.0) }
     ensures err { OnErr result (page.new ≡ page.old) }

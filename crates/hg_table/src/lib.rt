@@ -11,6 +11,8 @@ mod open;
 mod reading;
 mod stamping;
 mod stored;
+#[cfg(test)]
+mod tests;
 mod walk;
 
 pub use calls::TableCalls;

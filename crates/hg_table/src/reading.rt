@@ -18,7 +18,7 @@ use hg_slot::slot;
 use hg_value::Row;
 
 /// What a snapshot sees of a slot of a page whose bytes may be any.
-fn read_in(
+pub fn read_in(
     page: &[u8],
     slot: u16,
     columns: u8,
@@ -50,7 +50,7 @@ fn read_in(
 }
 
 /// The stamps and the row of a slot of a page whose bytes may be any.
-fn version_in(
+pub fn version_in(
     page: &[u8],
     slot: u16,
     columns: u8,

@@ -19,7 +19,7 @@ use hg_slot::slot;
 const MOST_SLOTS: u32 = 128;
 
 /// The first slot from `from` on that is not empty, on a page whose bytes may be any.
-fn next_slot(page: &[u8], from: u32) -> Result<Option<u16>, Check>
+pub fn next_slot(page: &[u8], from: u32) -> Result<Option<u16>, Check>
     requires { length page.now ≡ 4096 }
     ensures slotted { IsSlotted page.now → IsOk result }
     ensures next { IsSlotted page.now → IfOk result (IsNextSlot page.now from) }
@@ -34,7 +34,7 @@ fn next_slot(page: &[u8], from: u32) -> Result<Option<u16>, Check>
 }
 
 /// The first slot that is not empty, on a page that is read whole.
-fn first_slot(page: &[u8]) -> Result<Option<u16>, Check>
+pub fn first_slot(page: &[u8]) -> Result<Option<u16>, Check>
     requires { length page.now ≡ 4096 }
     ensures slotted { IsSlotted page.now → IsOk result }
     ensures next { IfOk result (IsNextSlot page.now 0) }

@@ -30,21 +30,21 @@ pub returns-clause-made : goal.returns-clause-made
 returns-clause-made g c =
     elim c.match-table.branch [
       | in-Some w ↦
-        let a : Space = g.S.Pages.state c.args.space.now in
-        let m : Space = g.S.Pages.state c.new_page.new.space in
-        let t : Table = c.args.table.now in
-        let place : Place = c.in_ok-place.place in
-        adds_next a m (g.S.Pages.state c.match-table.space) t (record { first = c.match-table.table.first; last = Some place.page }) c.args.bytes.now place w.in-Some.last
-        c.in_ok-place.ensures.made
-        (chain_last a t c.requires.chain.0 w.in-Some.last c.requires.chain.1 w.in-Some.is) w.in-Some.is
-        (ap (λ s. g.S.Pages.state s) w.space-is ∙ w.set_next.ensures ∙ ap (λ p. with_next m (key p) (Some place.page)) w.main_page.ensures)
-        (ap (λ (u : Table). u.first) w.table-is) refl
+          let a : Space = g.S.Pages.state c.args.space.now in
+          let m : Space = g.S.Pages.state c.new_page.new.space in
+          let t : Table = c.args.table.now in
+          let place : Place = c.in_ok-place.place in
+          adds_next a m (g.S.Pages.state c.match-table.space) t (record { first = c.match-table.table.first; last = Some place.page }) c.args.bytes.now place w.in-Some.last
+          c.in_ok-place.ensures.made
+          (chain_last a t c.requires.chain.0 w.in-Some.last c.requires.chain.1 w.in-Some.is) w.in-Some.is
+          (ap (λ s. g.S.Pages.state s) w.space-is ∙ w.set_next.ensures ∙ ap (λ p. with_next m (key p) (Some place.page)) w.main_page.ensures)
+          (ap (λ (u : Table). u.first) w.table-is) refl
       | in-None w ↦
-        let a : Space = g.S.Pages.state c.args.space.now in
-        let t : Table = c.args.table.now in
-        let place : Place = c.in_ok-place.place in
-        subst (λ s. AddsRecord a s t (record { first = c.match-table.table.first; last = Some place.page }) c.args.bytes.now place)
-        (sym (ap (λ s. g.S.Pages.state s) w.space-is))
-        (adds_first a (g.S.Pages.state c.new_page.new.space) t (record { first = c.match-table.table.first; last = Some place.page }) c.args.bytes.now place
-        c.in_ok-place.ensures.made w.in-None.is (ap (λ (u : Table). u.first) w.table-is) refl)
+          let a : Space = g.S.Pages.state c.args.space.now in
+          let t : Table = c.args.table.now in
+          let place : Place = c.in_ok-place.place in
+          subst (λ s. AddsRecord a s t (record { first = c.match-table.table.first; last = Some place.page }) c.args.bytes.now place)
+          (sym (ap (λ s. g.S.Pages.state s) w.space-is))
+          (adds_first a (g.S.Pages.state c.new_page.new.space) t (record { first = c.match-table.table.first; last = Some place.page }) c.args.bytes.now place
+          c.in_ok-place.ensures.made w.in-None.is (ap (λ (u : Table). u.first) w.table-is) refl)
     ]

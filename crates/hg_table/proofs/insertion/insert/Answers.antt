@@ -33,15 +33,15 @@ returns-in-Some-2-clause-ok g c = λ pages chain.
 
 looked : (g : _) (c : goal.After-as_slice-2 g) → Looks (g.S.Pages.state c.args.space.now) (g.S.Pages.state c.match-table.space)
 looked g c = elim c.match-table.branch [
-      | in-Some+in_ok-slot+in_default-2 w ↦
-        let a : Space = g.S.Pages.state c.args.space.now in
-        let b : Space = g.S.Pages.state w.put_on.new.space in
-        let put = subst (PutsRecord a b w.in-Some.last w.as_slice.result.now) w.in_default-2.is w.in_ok-slot.ensures.put in
-        subst (λ s. Looks a (g.S.Pages.state s)) (sym w.space-is) put.looks
-      | in_default w ↦
-        let a : Space = g.S.Pages.state c.args.space.now in
-        subst (λ s. Looks a (g.S.Pages.state s)) (sym w.space-is) (looks_same a c.requires.out)
-    ]
+  | in-Some+in_ok-slot+in_default-2 w ↦
+      let a : Space = g.S.Pages.state c.args.space.now in
+      let b : Space = g.S.Pages.state w.put_on.new.space in
+      let put = subst (PutsRecord a b w.in-Some.last w.as_slice.result.now) w.in_default-2.is w.in_ok-slot.ensures.put in
+      subst (λ s. Looks a (g.S.Pages.state s)) (sym w.space-is) put.looks
+  | in_default w ↦
+      let a : Space = g.S.Pages.state c.args.space.now in
+      subst (λ s. Looks a (g.S.Pages.state s)) (sym w.space-is) (looks_same a c.requires.out)
+]
 
 pub add_page-requires-clause-chain : goal.add_page-requires-clause-chain
 add_page-requires-clause-chain g c =
@@ -56,9 +56,9 @@ returns-clause-ok g c =
     let r : List ℕ = c.as_slice-2.result.now in
     let k : Looks a m = elim c.match-table.branch [
       | in-Some+in_ok-slot+in_default-2 w ↦
-        let s : Space = g.S.Pages.state w.put_on.new.space in
-        let put = subst (PutsRecord a s w.in-Some.last w.as_slice.result.now) w.in_default-2.is w.in_ok-slot.ensures.put in
-        subst (λ z. Looks a (g.S.Pages.state z)) (sym w.space-is) put.looks
+          let s : Space = g.S.Pages.state w.put_on.new.space in
+          let put = subst (PutsRecord a s w.in-Some.last w.as_slice.result.now) w.in_default-2.is w.in_ok-slot.ensures.put in
+          subst (λ z. Looks a (g.S.Pages.state z)) (sym w.space-is) put.looks
       | in_default w ↦ subst (λ z. Looks a (g.S.Pages.state z)) (sym w.space-is) (looks_same a c.requires.out)
     ] in
     IfOk-weaker c.add_page.result _ _

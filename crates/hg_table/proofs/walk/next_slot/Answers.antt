@@ -5,6 +5,6 @@ use Rattle.hg_table.proofs.walk.next_slot.Goals as goal
 
 pub returns-clause-next : goal.returns-clause-next
 returns-clause-next c = λ s k l. elim (cases_lt k 128) [
-      | inl h ↦ c.loop-slot.invariant k l (omega arith)
-      | inr h ↦ none_past c.args.page.now k s h
-    ]
+  | inl h ↦ c.loop-slot.invariant k l (omega arith)
+  | inr h ↦ none_past c.args.page.now k s h
+]

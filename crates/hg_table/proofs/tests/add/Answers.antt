@@ -1,0 +1,12 @@
+use Rattle.std.specs.Prelude.{◌≡◌, length}
+use Rattle.std.proofs.Common.{sym, ◌∙◌, arith}
+use Rattle.hg_table.specs.Calls.{insert_mine, newborn}
+use Rattle.hg_table.specs.Kept.{ready_inserted}
+use Rattle.hg_table.proofs.tests.add.Goals as goal
+
+pub returns : goal.returns
+returns g c =
+    let four : length c.args.row.now ≡ 4 = omega (arith, c.len.ensures.count, c.if-len-ne4.false) in
+    ready_inserted (g.S.Pages.state c.args.space.now) (g.S.Pages.state c.insert.new.space) c.args.table.now c.insert.new.self 4
+    (newborn c.args.row.now c.args.born.0 c.in_ok-insert.field-0) (insert_mine c.args.table.now c.in_ok-insert.field-0)
+    c.in_ok-insert.ensures.steady four c.in_ok-insert.ensures.ok c.requires

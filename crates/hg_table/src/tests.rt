@@ -1,0 +1,315 @@
+//! A table of many rows over a plain space, stamps, and damaged pages under the readers.
+ghost use Rattle.std.specs.Prelude.{Some, OnOk, IfOk, IfSome};
+ghost use Rattle.hg_table.specs.Kept.{IsReady, IsReadyAt};
+ghost use Rattle.hg_base.specs.Space.{NoPins};
+
+use crate::kill::kill_in;
+use crate::reading::{read_in, version_in};
+use crate::walk::{first_slot, next_slot};
+use crate::{Stamps, TableCalls};
+use hg_base::{Check, File, PageFault, Pages, Place, PlainSpace, Stamp, Table};
+use hg_model::{Chars, Value};
+use hg_value::Row;
+use std::test::Fail;
+
+/// How many bytes a row has at the most and at the least.
+const LONGEST: usize = 1000;
+
+const SHORTEST: usize = 4;
+
+/// A text of so many letters, at most 255.
+fn letters(count: usize) -> Value {
+    let bytes = [b'a'; 255];
+    let end = count.min(255);
+    match str::from_utf8(&bytes[..end]) {
+        Ok(text) => Chars::parse(text).map_or(Value::Null, Value::Text),
+        Err(_) => Value::Null,
+    }
+}
+
+/// A row of four texts or NULLs that has so many bytes, from 4 to 1,000.
+fn sized_row(bytes: usize) -> Row {
+    let mut row = Row::new();
+    let mut left = bytes;
+    for others in [3usize, 2, 1, 0] {
+        let value = if left >= others + 2 {
+            letters(left - others - 2)
+        } else {
+            Value::Null
+        };
+        let before = row.bytes().len();
+        let _ = row.push(&value);
+        left = left.saturating_sub(row.bytes().len().saturating_sub(before));
+    }
+    row
+}
+
+/// How many bytes the row of this number has.
+fn size_of_row(number: u32) -> usize {
+    SHORTEST + number as usize % (LONGEST - SHORTEST + 1)
+}
+
+/// Puts a row of four values into a table. False where the row is none that may be put there.
+fn add<S: Pages>(
+    table: &mut Table,
+    space: &mut S,
+    row: &Row,
+    born: Stamp,
+) -> Result<bool, PageFault>
+    requires { IsReady (S.state space.old) table.old 4 }
+    ensures { OnOk result (IsReady (S.state space.new) table.new 4) }
+{
+    if row.bytes().len() > LONGEST || row.len() != 4 {
+        return Ok(false);
+    }
+    table.insert(space, row, born)?;
+    Ok(true)
+}
+
+/// Puts so many rows into a table.
+fn fill<S: Pages>(
+    table: &mut Table,
+    space: &mut S,
+    count: u32,
+    born: Stamp,
+) -> Result<u32, PageFault>
+    requires { IsReady (S.state space.old) table.old 4 }
+    ensures { OnOk result (IsReady (S.state space.new) table.new 4) }
+{
+    let mut put: u32 = 0;
+    for number in 0..count {
+        let row = sized_row(size_of_row(number));
+        if add(table, space, &row, born)? {
+            put = put.saturating_add(1);
+        }
+    }
+    Ok(put)
+}
+
+/// The next row behind a place, where the snapshot sees it, and whether it is the row of this number.
+fn step<S: Pages>(
+    table: &Table,
+    space: &mut S,
+    at: Option<Place>,
+    number: u32,
+    snapshot: Stamp,
+    stamps: &Stamps,
+    out: &mut Row,
+) -> Result<Option<(Place, bool)>, PageFault>
+    requires { IsReadyAt (S.state space.old) table.now 4 at }
+    ensures { IfOk result (λ o. IfSome o (λ p. IsReadyAt (S.state space.new) table.now 4 (Some p.0))) }
+{
+    let Some(place) = table.after(space, at)? else {
+        return Ok(None);
+    };
+    let seen = table.read(space, place, 4, snapshot, stamps, out)?;
+    let right = seen && out.bytes() == sized_row(size_of_row(number)).bytes();
+    Ok(Some((place, right)))
+}
+
+/// How many rows of a table are those that were put there, in order.
+fn count_rows<S: Pages>(
+    table: &Table,
+    space: &mut S,
+    most: u32,
+    snapshot: Stamp,
+    stamps: &Stamps,
+) -> Result<u32, PageFault>
+    requires { IsReady (S.state space.old) table.now 4 }
+{
+    let mut out = Row::new();
+    let mut at = None;
+    let mut right: u32 = 0;
+    for number in 0..most {
+        let Some((place, is_right)) = step(table, space, at, number, snapshot, stamps, &mut out)?
+        else {
+            return Ok(right);
+        };
+        if is_right {
+            right = right.saturating_add(1);
+        }
+        at = Some(place);
+    }
+    Ok(right)
+}
+
+/// A table of no page.
+fn no_table<S: Pages>(space: &S) -> Table
+    requires { NoPins (S.state space.now) }
+    ensures { IsReady (S.state space.now) result 4 }
+{
+    Table {
+        first: None,
+        last: None,
+    }
+}
+
+/// The rows that were put, those that a snapshot sees, and the pages taken.
+fn round<S: Pages>(
+    space: &mut S,
+    count: u32,
+    stamps: &Stamps,
+    born: Stamp,
+) -> Result<(u32, u32, u32), PageFault>
+    requires { NoPins (S.state space.old) }
+{
+    let mut table = no_table(space);
+    let put = fill(&mut table, space, count, born)?;
+    let seen = count_rows(&table, space, 20_000, born, stamps)?;
+    Ok((put, seen, space.taken(File::Main)))
+}
+
+/// Commits a stamp that was drawn.
+fn commit(stamps: &mut Stamps, stamp: Stamp) {
+    if 0 < stamp.0 && stamp.0 <= stamps.last().0 {
+        stamps.commit(stamp);
+    }
+}
+
+#[test]
+fn many_rows(rt: HostRuntime) -> Result<(), Fail> {
+    let mut space = PlainSpace::new(rt.alloc());
+    let mut stamps = Stamps::new(rt.alloc())?;
+    let born = stamps.draw().ok_or("no stamp")?;
+    commit(&mut stamps, born);
+    // row i has 4 + i % 997 bytes, its record 8 more and its slot 4: 5,127,000 bytes in all, which are
+    // at least 1,257 pages of 4,080; rows that go to the last page alone leave a part of each page
+    assert_eq!(rt;
+        round(&mut space, 10_000, &stamps, born)?,
+        (10_000, 10_000, 1_361)
+    );
+    Ok(())
+}
+
+#[test]
+fn stamps_in_order(rt: HostRuntime) -> Result<(), Fail> {
+    let mut stamps = Stamps::new(rt.alloc())?;
+    assert_eq!(rt; stamps.last(), Stamp(0));
+    let first = stamps.draw().ok_or("no stamp")?;
+    let second = stamps.draw().ok_or("no stamp")?;
+    assert_eq!(rt;
+        (first, second, stamps.last()),
+        (Stamp(1), Stamp(2), Stamp(2))
+    );
+    commit(&mut stamps, second);
+    assert!(rt; !stamps.is_committed(Stamp(0)) && !stamps.is_committed(first));
+    assert!(rt; stamps.is_committed(second) && !stamps.is_committed(Stamp(3)));
+    let mut drawn: u32 = 2;
+    for _turn in 0..1_048_580u32 {
+        if stamps.draw().is_some() {
+            drawn = drawn.saturating_add(1);
+        }
+    }
+    assert_eq!(rt; (drawn, stamps.last()), (1_048_576, Stamp(1_048_576)));
+    Ok(())
+}
+
+/// A page with these bytes at its front and these at its end, and zeros between them.
+fn page_of(front: &[u8], end: &[u8]) -> [u8; 4096] {
+    let mut page = [0; 4096];
+    if front.len() <= 4096 {
+        page[..front.len()].copy_from_slice(front);
+    }
+    if end.len() <= 4096 {
+        let from = 4096 - end.len();
+        page[from..].copy_from_slice(end);
+    }
+    page
+}
+
+/// What a page that is entered answers, one that is looked at from its first slot on, a read and a
+/// version of its first slot, and a death there.
+fn answers(page: &[u8; 4096], stamps: &Stamps) -> [Option<Check>; 5] {
+    let mut out = Row::new();
+    let mut copy = *page;
+    [
+        first_slot(page).err(),
+        next_slot(page, 0).err(),
+        read_in(page, 0, 1, Stamp(1), stamps, &mut out).err(),
+        version_in(page, 0, 1, &mut out).err(),
+        kill_in(&mut copy, 0, Stamp(1)).err(),
+    ]
+}
+
+#[test]
+fn damaged_pages(rt: HostRuntime) -> Result<(), Fail> {
+    let mut stamps = Stamps::new(rt.alloc())?;
+    let born = stamps.draw().ok_or("no stamp")?;
+    commit(&mut stamps, born);
+    let kind = Some(Check::Kind);
+    let size = Some(Check::Size);
+    let row = Some(Check::RowBytes);
+    // a page of zeros
+    let page = page_of(&[], &[]);
+    assert_eq!(rt; answers(&page, &stamps), [kind, kind, kind, kind, kind]);
+    // 129 slots, that end at 532 = 0x0214
+    let page = page_of(&[0x53, 0, 129, 0, 0x14, 2], &[]);
+    assert_eq!(rt; answers(&page, &stamps), [size, size, size, size, size]);
+    // records of 9 bytes at 4080 = 0x0FF0 and of 8 at 4088, which share a byte: seen where the page is
+    // read whole; the first one is born under 0, so that no snapshot sees it, and has no row
+    let front = [
+        0x53, 0, 2, 0, 0xF0, 0x0F, 0, 0, 0, 0, 0, 0, 0, 0, 0, 0, 0xF0, 0x0F, 9, 0, 0xF8, 0x0F, 8, 0,
+    ];
+    let page = page_of(&front, &[7; 8]);
+    assert_eq!(rt; answers(&page, &stamps), [size, None, None, row, size]);
+    // one record of 9 bytes at 4087 = 0x0FF7: born under 1, not dead, and a byte that begins no value
+    let front = [
+        0x53, 0, 1, 0, 0xF7, 0x0F, 0, 0, 0, 0, 0, 0, 0, 0, 0, 0, 0xF7, 0x0F, 9, 0,
+    ];
+    let page = page_of(&front, &[1, 0, 0, 0, 0, 0, 0, 0, 9]);
+    assert_eq!(rt; answers(&page, &stamps), [None, None, row, row, None]);
+    // the same with a row of one NULL
+    let page = page_of(&front, &[1, 0, 0, 0, 0, 0, 0, 0, 0]);
+    assert_eq!(rt; answers(&page, &stamps), [None, None, None, None, None]);
+    // one record of 5 bytes at 4091 = 0x0FFB, too short for two stamps
+    let front = [
+        0x53, 0, 1, 0, 0xFB, 0x0F, 0, 0, 0, 0, 0, 0, 0, 0, 0, 0, 0xFB, 0x0F, 5, 0,
+    ];
+    let page = page_of(&front, &[1, 0, 0, 0, 0]);
+    assert_eq!(rt; answers(&page, &stamps), [None, None, row, row, row]);
+    // no record: nothing to see, and no version
+    let page = page_of(&[0x53, 0, 0, 0, 0, 0x10], &[]);
+    assert_eq!(rt; answers(&page, &stamps), [None, None, None, row, row]);
+    Ok(())
+}
+
+/// What a snapshot sees of bytes of stamps before a row of one NULL.
+fn sees(born: u8, died: u8, snapshot: u32, stamps: &Stamps) -> Option<bool> {
+    let front = [
+        0x53, 0, 1, 0, 0xF7, 0x0F, 0, 0, 0, 0, 0, 0, 0, 0, 0, 0, 0xF7, 0x0F, 9, 0,
+    ];
+    let page = page_of(&front, &[born, 0, 0, 0, died, 0, 0, 0, 0]);
+    let mut out = Row::new();
+    read_in(&page, 0, 1, Stamp(snapshot), stamps, &mut out).ok()
+}
+
+#[test]
+fn snapshots(rt: HostRuntime) -> Result<(), Fail> {
+    let mut stamps = Stamps::new(rt.alloc())?;
+    for _turn in 0..4u8 {
+        let _ = stamps.draw();
+    }
+    // 1 and 3 are committed, 2 and 4 are not
+    commit(&mut stamps, Stamp(1));
+    commit(&mut stamps, Stamp(3));
+    let yes = Some(true);
+    let no = Some(false);
+    for (born, died, snapshot, want) in [
+        (1, 0, 1, yes),
+        (1, 0, 0, no),
+        (2, 0, 4, no),
+        (3, 0, 2, no),
+        (3, 0, 3, yes),
+        (1, 3, 2, yes),
+        (1, 3, 3, no),
+        (1, 2, 4, yes),
+        (0, 0, 4, no),
+    ] {
+        assert_eq!(rt;
+            sees(born, died, snapshot, &stamps),
+            want,
+            "{born} {died} {snapshot}"
+        );
+    }
+    Ok(())
+}
