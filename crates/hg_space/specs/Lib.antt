@@ -1,0 +1,3 @@
+pub mod PageMap
+pub mod Bits
+pub mod Shown

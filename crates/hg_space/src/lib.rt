@@ -1,0 +1,8 @@
+//! The map of the pages of one file: which of them are used, and a successor for each that is. It
+//! stands on the base crate alone. The layer above sees it as a `PageMap` and uses the contracts of
+//! [`Space`], above all that of [`Space::take`].
+#![tactic(auto)]
+
+mod space;
+
+pub use space::Space;

@@ -1,0 +1,90 @@
+//! The map, as callers see it.
+ghost use Rattle.std.specs.Prelude.{◌≡◌, ◌↔◌, true, IsNone, IfOk, IfSome, IfNone};
+ghost use Rattle.hg_space.specs.PageMap.{unused_pages, used_count, IsFull, IsLowestFree, IsSound, with_page, without_page, with_next};
+ghost use Rattle.hg_space.specs.Shown.{pages_of};
+
+use hg_base::NoMemory;
+use std::alloc::Global;
+use std::marker::Model;
+
+/// Which pages of a file are used, and their successors. Contracts see `pages_of` it, a `PageMap`.
+/// It has some 4.3 bytes for each page.
+#[derive(Drop)]
+pub struct Space {
+    limit: u32,
+    used: u32,
+    depth: u32,
+    first: usize,
+    free: Vec<u64>,
+    linked: Vec<u64>,
+    links: Vec<u32>,
+}
+
+impl Model for Space {
+    ghost use Rattle.hg_space.specs.Shown.{Kept};
+
+    ghost Value = { Kept };
+
+    ghost view = { λ s. record { limit = s.limit; free = s.free.items; first = s.first; linked = s.linked.items; links = s.links.items } };
+}
+
+impl Space {
+    /// The map of pages 0 to `pages` - 1, none of them used. Memory is taken here alone, and the only
+    /// error is want of it.
+    pub fn new(alloc: Global, pages: u32) -> Result<Space, NoMemory>
+        ensures made { IfOk result (λ space. pages_of space ≡ unused_pages pages) }
+        ensures sound { IfOk result (λ space. IsSound (pages_of space)) }
+    {
+        Err(NoMemory)
+    }
+
+    /// Takes the lowest page that is not used. It is used from then on and has no successor. None
+    /// where all are used. Its time does not grow with the number of used pages.
+    pub fn take(&mut self) -> Option<u32>
+        ensures lowest { IfSome result (λ no. IsLowestFree (pages_of self.old) no) }
+        ensures taken { IfSome result (λ no. pages_of self.new ≡ with_page (pages_of self.old) no) }
+        ensures full { IsNone result ↔ IsFull (pages_of self.old) }
+        ensures unchanged { IfNone result (pages_of self.new ≡ pages_of self.old) }
+        ensures sound { IsSound (pages_of self.new) }
+    {
+        None
+    }
+
+    /// Gives a page back: it is not used any more.
+    pub fn release(&mut self, no: u32)
+        requires used { (pages_of self.old).used no ≡ true }
+        ensures released { pages_of self.new ≡ without_page (pages_of self.old) no }
+        ensures sound { IsSound (pages_of self.new) }
+    {}
+
+    /// How many pages are used.
+    pub fn used(&self) -> u32
+        ensures count { result ≡ used_count (pages_of self.now) }
+        ensures sound { IsSound (pages_of self.now) }
+    {
+        self.used
+    }
+
+    /// Whether the page is used; false for each number that no page has.
+    pub fn is_used(&self, no: u32) -> bool
+        ensures answer { result ≡ (pages_of self.now).used no }
+        ensures sound { IsSound (pages_of self.now) }
+    {
+        false
+    }
+
+    /// The number of a page's successor.
+    pub fn next(&self, no: u32) -> Option<u32>
+        requires used { (pages_of self.now).used no ≡ true }
+        ensures { result ≡ (pages_of self.now).next no }
+    {
+        None
+    }
+
+    /// Sets or takes away a page's successor.
+    pub fn set_next(&mut self, no: u32, to: Option<u32>)
+        requires used { (pages_of self.old).used no ≡ true }
+        ensures changed { pages_of self.new ≡ with_next (pages_of self.old) no to }
+        ensures sound { IsSound (pages_of self.new) }
+    {}
+}
