@@ -1,0 +1,37 @@
+-- What holds of every pool. Our own rule.
+use Rattle.std.specs.Prelude.{◌≡◌, ℕ, ◌≤◌, Bool, true, false, List, length, Option, None, Some, count_by}
+use Rattle.hg_base.specs.Space.{key}
+use Rattle.hg_base.specs.declared.PageId.{PageId}
+use Rattle.hg_space.specs.Shown.{pages_of}
+use Rattle.hg_space.specs.PageMap as map
+use Rattle.hg_pool.specs.Disks.{Disks}
+use Rattle.hg_pool.specs.Picture.{Picture, picture_of, limit_of}
+use Rattle.hg_pool.specs.declared.frames.Frame.{Frame}
+use Rattle.hg_pool.specs.declared.store.Store.{Store}
+
+-- the page that stands in a frame is found there, and it is taken; a whole page of bytes stands there,
+-- and these are the bytes on its device unless they are newer
+pub record IsCoherent (v : Picture) : Type 0 where
+  pub found : (f : ℕ) (p : PageId) → (v.frame f).page ≡ Some p → v.place (key p) ≡ f
+  pub taken : (f : ℕ) (p : PageId) → (v.frame f).page ≡ Some p → v.taken (key p) ≡ true
+  pub whole : (f : ℕ) (p : PageId) → (v.frame f).page ≡ Some p → length (v.frame f).bytes ≡ 4096
+  pub clean : (f : ℕ) (p : PageId) → (v.frame f).page ≡ Some p → (v.frame f).dirty ≡ false → v.told ≡ true
+      → (v.frame f).bytes ≡ v.page (key p)
+
+-- so many frames are pinned
+abbrev pub pinned_in : List Frame → ℕ
+pinned_in frames = count_by (λ (f : Frame). f.pinned) frames
+
+pub record IsSound (d : Disks) (s : Store) : Type 0 where
+  pub coherent : IsCoherent (picture_of d s)
+  pub counted : pinned_in s.frames.items ≡ s.pins
+  pub few : s.pins ≤ 8
+  pub at_least : 16 ≤ length s.frames.items
+  pub at_most : length s.frames.items ≤ 65536
+  pub hand : s.hand ≤ length s.frames.items
+  pub main_map : map.IsSound (pages_of s.maps.main)
+  pub temp_map : map.IsSound (pages_of s.maps.temp)
+  pub main_places : length s.places.main.items ≡ (pages_of s.maps.main).limit
+  pub temp_places : length s.places.temp.items ≡ (pages_of s.maps.temp).limit
+  pub main_fits : (pages_of s.maps.main).limit ≤ d.main.pages
+  pub temp_fits : (pages_of s.maps.temp).limit ≤ d.temp.pages
