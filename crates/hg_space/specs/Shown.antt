@@ -1,7 +1,8 @@
 -- What callers see of a space: the map of its pages. Our own rule.
-use Rattle.std.specs.Prelude.{ℕ, ◌+◌, ◌&&◌, nat_lt, not, Bool, List, Option, None, Some, if◌then◌else◌, slice_index}
+use Rattle.std.specs.Prelude.{◌≡◌, ℕ, ◌+◌, ◌/◌, ◌<◌, ◌≤◌, ◌^◌, ◌&&◌, nat_lt, not, false, Bool, List, length, Option, None, Some, if◌then◌else◌, slice_index}
 use Rattle.hg_space.specs.Bits.{is_set}
-use Rattle.hg_space.specs.PageMap.{PageMap}
+use Rattle.hg_space.specs.Summary.{level_start, IsSummary}
+use Rattle.hg_space.specs.PageMap.{PageMap, used_count}
 
 -- What a space keeps: how many pages there are; bits, of which those from `first` on say of each page that it is free;
 -- of which pages the successor counts; and the successors.
@@ -16,10 +17,22 @@ pub record Kept : Type 0 where
 abbrev pub is_used : Kept → ℕ → Bool
 is_used s n = nat_lt n s.limit && not (is_set s.free (s.first + n))
 
+abbrev pub next_of : Kept → ℕ → Option ℕ
+next_of s n = if is_used s n && is_set s.linked n then Some (slice_index s.links n) else None
+
 -- the map of a space's pages
 unfoldable pub pages_of : Kept → PageMap
-pages_of s = record {
-  limit = s.limit;
-  used = is_used s;
-  next = λ n. if is_used s n && is_set s.linked n then Some (slice_index s.links n) else None;
-}
+pages_of s = record { limit = s.limit; used = is_used s; next = next_of s }
+
+-- What holds of what a space keeps: there is room for each page, the bits above those of the pages are a summary of
+-- them, no page is free from the limit on, and the count is right.
+pub record IsKept (s : Kept) (above used : ℕ) : Type 0 where
+  pub start : s.first ≡ level_start above
+  pub few : s.first < 2 ^ 34
+  pub room : length s.free ≡ (s.first + s.limit) / 64 + 1
+  pub enough : length s.free ≤ s.first + 1
+  pub summary : IsSummary s.free s.first
+  pub behind : (n : ℕ) → s.limit ≤ n → is_set s.free (s.first + n) ≡ false
+  pub linked_room : length s.linked ≡ s.limit / 64 + 1
+  pub links_room : length s.links ≡ s.limit
+  pub count : used ≡ used_count (pages_of s)

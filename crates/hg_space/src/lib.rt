@@ -3,6 +3,9 @@
 //! [`Space`], above all that of [`Space::take`].
 #![tactic(auto)]
 
+mod bits;
+mod levels;
 mod space;
+mod summary;
 
 pub use space::Space;

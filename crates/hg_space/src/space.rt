@@ -3,6 +3,9 @@ ghost use Rattle.std.specs.Prelude.{◌≡◌, ◌↔◌, true, IsNone, IfOk, If
 ghost use Rattle.hg_space.specs.PageMap.{unused_pages, used_count, IsFull, IsLowestFree, IsSound, with_page, without_page, with_next};
 ghost use Rattle.hg_space.specs.Shown.{pages_of};
 
+use crate::bits::{clear, is_set, set};
+use crate::levels::{Levels, free_all, levels_for};
+use crate::summary::{clear_up, first_below, set_up};
 use hg_base::NoMemory;
 use std::alloc::Global;
 use std::marker::Model;
@@ -13,19 +16,22 @@ use std::marker::Model;
 pub struct Space {
     limit: u32,
     used: u32,
-    depth: u32,
-    first: usize,
+    levels: Levels,
+    /// The bits of the free pages, below bits that say which words have some.
     free: Vec<u64>,
+    /// The bits of the pages that have a successor, if they are used.
     linked: Vec<u64>,
     links: Vec<u32>,
 }
 
 impl Model for Space {
-    ghost use Rattle.hg_space.specs.Shown.{Kept};
+    ghost use Rattle.hg_space.specs.Shown.{Kept, IsKept};
 
     ghost Value = { Kept };
 
-    ghost view = { λ s. record { limit = s.limit; free = s.free.items; first = s.first; linked = s.linked.items; links = s.links.items } };
+    ghost view = { λ s. record { limit = s.limit; free = s.free.items; first = s.levels.first; linked = s.linked.items; links = s.links.items } };
+
+    ghost invariant = { λ s. IsKept (record { limit = s.limit; free = s.free.items; first = s.levels.first; linked = s.linked.items; links = s.links.items }) s.levels.above s.used };
 }
 
 impl Space {
@@ -35,7 +41,26 @@ impl Space {
         ensures made { IfOk result (λ space. pages_of space ≡ unused_pages pages) }
         ensures sound { IfOk result (λ space. IsSound (pages_of space)) }
     {
-        Err(NoMemory)
+        let count = pages as usize;
+        let levels = levels_for(count);
+        let Ok(mut free) = Vec::from_elem(alloc, 0u64, (levels.first + count) / 64 + 1) else {
+            return Err(NoMemory);
+        };
+        let Ok(linked) = Vec::from_elem(alloc, 0u64, count / 64 + 1) else {
+            return Err(NoMemory);
+        };
+        let Ok(links) = Vec::from_elem(alloc, 0u32, count) else {
+            return Err(NoMemory);
+        };
+        free_all(&mut free, levels.first, count);
+        Ok(Space {
+            limit: pages,
+            used: 0,
+            levels,
+            free,
+            linked,
+            links,
+        })
     }
 
     /// Takes the lowest page that is not used. It is used from then on and has no successor. None
@@ -47,7 +72,15 @@ impl Space {
         ensures unchanged { IfNone result (pages_of self.new ≡ pages_of self.old) }
         ensures sound { IsSound (pages_of self.new) }
     {
-        None
+        if self.free[0] == 0 {
+            return None;
+        }
+        let bit = first_below(&self.free, self.levels.above);
+        let page = bit - self.levels.first;
+        clear_up(&mut self.free, bit);
+        let _ = clear(&mut self.linked, page);
+        self.used += 1;
+        Some(page as u32)
     }
 
     /// Gives a page back: it is not used any more.
@@ -55,7 +88,10 @@ impl Space {
         requires used { (pages_of self.old).used no ≡ true }
         ensures released { pages_of self.new ≡ without_page (pages_of self.old) no }
         ensures sound { IsSound (pages_of self.new) }
-    {}
+    {
+        set_up(&mut self.free, self.levels.first + no as usize);
+        self.used -= 1;
+    }
 
     /// How many pages are used.
     pub fn used(&self) -> u32
@@ -70,7 +106,7 @@ impl Space {
         ensures answer { result ≡ (pages_of self.now).used no }
         ensures sound { IsSound (pages_of self.now) }
     {
-        false
+        no < self.limit && !is_set(&self.free, self.levels.first + no as usize)
     }
 
     /// The number of a page's successor.
@@ -78,7 +114,12 @@ impl Space {
         requires used { (pages_of self.now).used no ≡ true }
         ensures { result ≡ (pages_of self.now).next no }
     {
-        None
+        let page = no as usize;
+        if is_set(&self.linked, page) {
+            Some(self.links[page])
+        } else {
+            None
+        }
     }
 
     /// Sets or takes away a page's successor.
@@ -86,5 +127,13 @@ impl Space {
         requires used { (pages_of self.old).used no ≡ true }
         ensures changed { pages_of self.new ≡ with_next (pages_of self.old) no to }
         ensures sound { IsSound (pages_of self.new) }
-    {}
+    {
+        let page = no as usize;
+        let Some(successor) = to else {
+            let _ = clear(&mut self.linked, page);
+            return;
+        };
+        let _ = set(&mut self.linked, page);
+        self.links[page] = successor;
+    }
 }

@@ -1,0 +1,169 @@
+-- What each call makes of the map that a space shows.
+use Rattle.std.proofs.Common.{◌≡◌, ◌≢◌, ℕ, zero, suc, ◌+◌, ◌-◌, ◌*◌, ◌/◌, ◌%◌, ◌<◌, ◌≤◌, ◌==◌, Bool, true, false, List, length, Some, None, refl, sym, ◌∙◌, ap, subst, inl, inr, arith, get_or-set_same, get_or-set_other}
+use Rattle.std.specs.Prelude.{◌&&◌, not, nat_lt, Option, if◌then◌else◌, slice_index, slice_set}
+use Rattle.std.proofs.lemmas.Bool.{false≢true}
+use Rattle.std.proofs.lemmas.Bool.Decides.{eqb_tells, leb_tells, nat_tests}
+use Rattle.std.proofs.Math.ListN.{get_or-eq_default}
+use Rattle.hg_base.specs.Space.{at}
+use Rattle.hg_space.specs.Bits.{is_set, has_bits, Puts, IsFirstSet}
+use Rattle.hg_space.specs.Summary.{level_start, IsSummary, PutsUp}
+use Rattle.hg_space.specs.PageMap.{PageMap, IsFull, IsLowestFree, used_count, count_below, unused_pages, with_page, without_page, with_next}
+use Rattle.hg_space.specs.PageLaws.{maps_agree, at-here, at-other, count_below-le, count_below-with, count_below-without, count_below-same, count_below-unused}
+use Rattle.hg_space.specs.Shown.{Kept, IsKept, is_used, next_of, pages_of}
+use Rattle.hg_space.specs.ShownLaws.{nat_lt-true, nat_lt-false, used-within}
+use Rattle.hg_space.proofs.BitLemmas.{has_bits-set}
+use Rattle.hg_space.proofs.SummaryLemmas.{inside-of}
+use Rattle.hg_space.proofs.FreeLemmas.{not-set}
+
+not-not : (b : Bool) → not (not b) ≡ b
+not-not true = refl
+not-not false = refl
+
+and-false : (b : Bool) → (b && false) ≡ false
+and-false true = refl
+and-false false = refl
+
+abbrev next_as : Bool → Bool → ℕ → Option ℕ
+next_as u l x = if u && l then Some x else None
+
+next-not_linked : (u : Bool) (x : ℕ) → next_as u false x ≡ None
+next-not_linked true x = refl
+next-not_linked false x = refl
+
+-- s with another list of free bits
+abbrev pub refreed : Kept → List ℕ → Kept
+refreed s free = record { limit = s.limit; free = free; first = s.first; linked = s.linked; links = s.links }
+
+-- one page's bit among the free ones is written
+used-put : (s : Kept) (free : List ℕ) (page : ℕ) (b : Bool) → page < s.limit → (s.first + page) / 64 ≤ s.first
+    → PutsUp s.free (s.first + page) (not b) free → (n : ℕ) → is_used (refreed s free) n ≡ at (is_used s) page b n
+used-put s free page b l low up n = elim (eqb_tells n page) [
+  | inl w ↦
+      ap (is_used (refreed s free)) w.1
+      ∙ ap (λ t. t && not (is_set free (s.first + page))) (nat_lt-true page s.limit l)
+      ∙ ap not up.here ∙ not-not b
+      ∙ sym (at-here (is_used s) page b) ∙ ap (at (is_used s) page b) (sym w.1)
+  | inr w ↦
+      ap (λ t. nat_lt n s.limit && not t) (up.others (s.first + n) (omega arith) (let ne : n ≢ page = w.1 in omega arith))
+      ∙ sym (at-other (is_used s) page b n w.1)
+]
+
+-- a page is given back
+pub released : (s : Kept) (free : List ℕ) (page : ℕ) → page < s.limit → (s.first + page) / 64 ≤ s.first
+    → PutsUp s.free (s.first + page) true free → pages_of (refreed s free) ≡ without_page (pages_of s) page
+unfolding pages_of
+released s free page l low up =
+    let used = used-put s free page false l low up in
+    maps_agree (pages_of (refreed s free)) (without_page (pages_of s) page) refl used
+    (λ n. elim (eqb_tells n page) [
+      | inl w ↦
+          ap (λ u. next_as u (is_set s.linked n) (slice_index s.links n)) (used n ∙ ap (at (is_used s) page false) w.1 ∙ at-here (is_used s) page false)
+          ∙ sym (at-here (next_of s) page None) ∙ ap (at (next_of s) page None) (sym w.1)
+      | inr w ↦
+          ap (λ u. next_as u (is_set s.linked n) (slice_index s.links n)) (used n ∙ at-other (is_used s) page false n w.1)
+          ∙ sym (at-other (next_of s) page None n w.1)
+    ])
+
+abbrev pub relinked : Kept → List ℕ → List ℕ → Kept
+relinked s linked links = record { limit = s.limit; free = s.free; first = s.first; linked = linked; links = links }
+
+-- a page has no successor any more
+pub unlinked : (s : Kept) (linked : List ℕ) (page : ℕ) → Puts s.linked page false linked
+    → pages_of (relinked s linked s.links) ≡ with_next (pages_of s) page None
+unfolding pages_of
+unlinked s linked page put =
+    maps_agree (pages_of (relinked s linked s.links)) (with_next (pages_of s) page None) refl (λ n. refl)
+    (λ n. elim (eqb_tells n page) [
+      | inl w ↦
+          ap (λ t. next_as (is_used s n) t (slice_index s.links n)) (ap (is_set linked) w.1 ∙ put.here)
+          ∙ next-not_linked (is_used s n) (slice_index s.links n)
+          ∙ sym (at-here (next_of s) page None) ∙ ap (at (next_of s) page None) (sym w.1)
+      | inr w ↦
+          ap (λ t. next_as (is_used s n) t (slice_index s.links n)) (put.others n w.1)
+          ∙ sym (at-other (next_of s) page None n w.1)
+    ])
+
+-- a used page has a successor
+pub linked-to : (s : Kept) (linked : List ℕ) (page to : ℕ) → is_used s page ≡ true → page < length s.links → Puts s.linked page true linked
+    → pages_of (relinked s linked (slice_set s.links page to)) ≡ with_next (pages_of s) page (Some to)
+unfolding pages_of
+linked-to s linked page to used room put =
+    let links : List ℕ = slice_set s.links page to in
+    maps_agree (pages_of (relinked s linked links)) (with_next (pages_of s) page (Some to)) refl (λ n. refl)
+    (λ n. elim (eqb_tells n page) [
+      | inl w ↦
+          ap (λ k. next_as (is_used s k) (is_set linked k) (slice_index links k)) w.1
+          ∙ ap (λ u. next_as u (is_set linked page) (slice_index links page)) used
+          ∙ ap (λ t. next_as true t (slice_index links page)) put.here
+          ∙ ap Some (get_or-set_same s.links page to 0 room)
+          ∙ sym (at-here (next_of s) page (Some to)) ∙ ap (at (next_of s) page (Some to)) (sym w.1)
+      | inr w ↦
+          ap (λ t. next_as (is_used s n) t (slice_index links n)) (put.others n w.1)
+          ∙ ap (λ x. next_as (is_used s n) (is_set s.linked n) x) (get_or-set_other s.links page n to 0 w.1)
+          ∙ sym (at-other (next_of s) page (Some to) n w.1)
+    ])
+
+abbrev pub retaken : Kept → List ℕ → List ℕ → Kept
+retaken s free linked = record { limit = s.limit; free = free; first = s.first; linked = linked; links = s.links }
+
+-- a page is used, with no successor
+pub taken : (s : Kept) (free linked : List ℕ) (page : ℕ) → page < s.limit → (s.first + page) / 64 ≤ s.first
+    → PutsUp s.free (s.first + page) false free → Puts s.linked page false linked
+    → pages_of (retaken s free linked) ≡ with_page (pages_of s) page
+unfolding pages_of
+taken s free linked page l low up put =
+    let used = used-put s free page true l low up in
+    maps_agree (pages_of (retaken s free linked)) (with_page (pages_of s) page) refl used
+    (λ n. elim (eqb_tells n page) [
+      | inl w ↦
+          ap (λ t. next_as (is_used (refreed s free) n) t (slice_index s.links n)) (ap (is_set linked) w.1 ∙ put.here)
+          ∙ next-not_linked (is_used (refreed s free) n) (slice_index s.links n)
+          ∙ sym (at-here (next_of s) page None) ∙ ap (at (next_of s) page None) (sym w.1)
+      | inr w ↦
+          ap (λ t. next_as (is_used (refreed s free) n) t (slice_index s.links n)) (put.others n w.1)
+          ∙ ap (λ u. next_as u (is_set s.linked n) (slice_index s.links n)) (used n ∙ at-other (is_used s) page true n w.1)
+          ∙ sym (at-other (next_of s) page None n w.1)
+    ])
+
+-- the first page that is free
+pub page-below : (s : Kept) (page : ℕ) → ((n : ℕ) → s.limit ≤ n → is_set s.free (s.first + n) ≡ false) → is_set s.free (s.first + page) ≡ true → page < s.limit
+page-below s page behind set = elim (leb_tells s.limit page) [
+  | inl r ↦ absurd (false≢true (sym (behind page r.1) ∙ set))
+  | inr r ↦ r.1
+]
+
+pub lowest-free : (s : Kept) (page : ℕ) → page < s.limit → IsFirstSet s.free s.first (s.first + page) → IsLowestFree (pages_of s) page
+unfolding pages_of
+lowest-free s page l first = record {
+  below = l;
+  free = ap (λ t. nat_lt page s.limit && not t) first.here ∙ and-false (nat_lt page s.limit);
+  lower = λ k less.
+      ap (λ t. t && not (is_set s.free (s.first + k))) (nat_lt-true k s.limit (omega arith))
+      ∙ ap not (first.lower (s.first + k) (omega arith) (omega arith));
+}
+
+zero-of : (x : ℕ) → not (x == 0) ≡ false → x ≡ 0
+zero-of x h = elim (eqb_tells x 0) [ inl w ↦ w.1 | inr w ↦ absurd (false≢true (sym h ∙ ap not w.0)) ]
+
+-- where the first word has no bit, no word of the summary and none that it speaks of has one
+zero-words : (ws : List ℕ) (end : ℕ) → IsSummary ws end → slice_index ws 0 ≡ 0 → (fuel w : ℕ) → w ≤ fuel → w ≤ end → slice_index ws w ≡ 0
+zero-words ws end summary root zero w le within = let e : w ≡ 0 = omega arith in ap (slice_index ws) e ∙ root
+zero-words ws end summary root (suc fuel) w le within = elim (eqb_tells w 0) [
+  | inl r ↦ ap (slice_index ws) r.1 ∙ root
+  | inr r ↦
+      let ne : w ≢ 0 = r.1 in
+      let i : ℕ = w - 1 in
+      let back : i + 1 ≡ w = omega arith in
+      let above : slice_index ws (i / 64) ≡ 0 = zero-words ws end summary root fuel (i / 64) (omega arith) (omega arith) in
+      ap (slice_index ws) (sym back) ∙ zero-of (slice_index ws (i + 1)) (sym (summary i (omega arith)) ∙ not-set ws i above)
+]
+
+pub all-full : (s : Kept) → IsSummary s.free s.first → length s.free ≤ s.first + 1 → slice_index s.free 0 ≡ 0 → IsFull (pages_of s)
+unfolding pages_of
+all-full s summary enough root n l =
+    let w : ℕ = (s.first + n) / 64 in
+    let zero_word : slice_index s.free w ≡ 0 = elim (leb_tells w s.first) [
+      | inl r ↦ zero-words s.free s.first summary root w w (omega arith) r.1
+      | inr r ↦ get_or-eq_default s.free 0 (let above : s.first < w = r.1 in omega arith)
+    ] in
+    ap (λ t. t && not (is_set s.free (s.first + n))) (nat_lt-true n s.limit l) ∙ ap not (not-set s.free (s.first + n) zero_word)

@@ -1,0 +1,45 @@
+//! Bits of a slice of words, numbered through all words: bit i is in word i / 64.
+ghost use Rattle.std.specs.Prelude.{◌≡◌, ◌+◌, ◌*◌, ◌/◌, ◌^◌, ◌<◌, true, false, not, length};
+ghost use Rattle.hg_space.specs.Bits.{is_set, has_bits, Puts, IsFirstSet};
+
+/// Whether a bit is set.
+pub fn is_set(words: &[u64], bit: usize) -> bool
+    requires { bit / 64 < length words.now }
+    ensures { result ≡ is_set words.now bit }
+{
+    (words[bit / 64] >> (bit % 64)) & 1 == 1
+}
+
+/// Sets a bit. The answer is whether its word had one before.
+pub fn set(words: &mut [u64], bit: usize) -> bool
+    requires { bit / 64 < length words.old }
+    ensures changed { Puts words.old bit true words.new }
+    ensures had { result ≡ has_bits words.old (bit / 64) }
+{
+    let word = words[bit / 64];
+    words[bit / 64] = word | (1 << (bit % 64));
+    word != 0
+}
+
+/// Clears a bit. The answer is whether its word has one still.
+pub fn clear(words: &mut [u64], bit: usize) -> bool
+    requires { bit / 64 < length words.old }
+    ensures changed { Puts words.old bit false words.new }
+    ensures has { result ≡ has_bits words.new (bit / 64) }
+    ensures had { result ≡ true → has_bits words.old (bit / 64) ≡ true }
+{
+    let word = words[bit / 64] & !(1 << (bit % 64));
+    words[bit / 64] = word;
+    word != 0
+}
+
+/// The first bit of a word that is set.
+pub fn first_in(words: &[u64], word: usize) -> usize
+    requires inside { word < length words.now }
+    requires few { length words.now < 2 ^ 40 }
+    requires not_zero { has_bits words.now word ≡ true }
+    ensures first { IsFirstSet words.now (64 * word) result }
+    ensures in_word { result < 64 * word + 64 }
+{
+    64 * word + words[word].trailing_zeros() as usize
+}
