@@ -2,6 +2,8 @@ pub mod Files
 pub mod Disks
 pub mod Picture
 pub mod Sound
+pub mod Keys
+pub mod Views
 pub mod Opening
 pub mod Shown
 pub mod Work

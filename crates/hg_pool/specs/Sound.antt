@@ -1,5 +1,5 @@
 -- What holds of every pool. Our own rule.
-use Rattle.std.specs.Prelude.{◌≡◌, ℕ, ◌≤◌, Bool, true, false, List, length, Option, None, Some, count_by}
+use Rattle.std.specs.Prelude.{◌≡◌, ℕ, ◌≤◌, Bool, true, false, List, length, Option, None, Some, sum_by, if◌then◌else◌}
 use Rattle.hg_base.specs.Space.{key}
 use Rattle.hg_base.specs.declared.PageId.{PageId}
 use Rattle.hg_space.specs.Shown.{pages_of}
@@ -9,18 +9,23 @@ use Rattle.hg_pool.specs.Picture.{Picture, picture_of, limit_of}
 use Rattle.hg_pool.specs.declared.frames.Frame.{Frame}
 use Rattle.hg_pool.specs.declared.store.Store.{Store}
 
--- the page that stands in a frame is found there, and it is taken; a whole page of bytes stands there,
--- and these are the bytes on its device unless they are newer
-pub record IsCoherent (v : Picture) : Type 0 where
-  pub found : (f : ℕ) (p : PageId) → (v.frame f).page ≡ Some p → v.place (key p) ≡ f
-  pub taken : (f : ℕ) (p : PageId) → (v.frame f).page ≡ Some p → v.taken (key p) ≡ true
-  pub whole : (f : ℕ) (p : PageId) → (v.frame f).page ≡ Some p → length (v.frame f).bytes ≡ 4096
-  pub clean : (f : ℕ) (p : PageId) → (v.frame f).page ≡ Some p → (v.frame f).dirty ≡ false → v.told ≡ true
-      → (v.frame f).bytes ≡ v.page (key p)
+-- The page that stands in the frame f, which is x, is found there, and it is taken; a whole page of
+-- bytes stands there, and these are the bytes on its device unless they are newer.
+pub record Fits (v : Picture) (f : ℕ) (x : Frame) : Type 0 where
+  pub found : (p : PageId) → x.page ≡ Some p → v.place (key p) ≡ f
+  pub taken : (p : PageId) → x.page ≡ Some p → v.taken (key p) ≡ true
+  pub whole : (p : PageId) → x.page ≡ Some p → length x.bytes ≡ 4096
+  pub clean : (p : PageId) → x.page ≡ Some p → x.dirty ≡ false → v.told ≡ true → x.bytes ≡ v.page (key p)
+
+abbrev pub IsCoherent : Picture → Type 0
+IsCoherent v = (f : ℕ) → Fits v f (v.frame f)
 
 -- so many frames are pinned
+abbrev pub pins_of : Frame → ℕ
+pins_of x = if x.pinned then 1 else 0
+
 abbrev pub pinned_in : List Frame → ℕ
-pinned_in frames = count_by (λ (f : Frame). f.pinned) frames
+pinned_in frames = sum_by pins_of frames
 
 pub record IsSound (d : Disks) (s : Store) : Type 0 where
   pub coherent : IsCoherent (picture_of d s)
