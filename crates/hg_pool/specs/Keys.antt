@@ -66,3 +66,10 @@ is_key_of-here p = grind (arith, nat_tests)
 
 pub is_key_of-other : (q : ℕ) (p : PageId) → q ≢ key p → is_key_of q (Some p) ≡ false
 is_key_of-other q p h = grind (arith, nat_tests)
+
+-- the same at the key of a page
+pub by_key-of-main : {X : Type 0} (main temp : ℕ → X) (page : PageId) → page.file ≡ Main → by_key main temp (key page) ≡ main page.no
+by_key-of-main main temp page e = ap (λ f. by_key main temp (key_in f page.no)) e ∙ by_key-main main temp page.no
+
+pub by_key-of-temp : {X : Type 0} (main temp : ℕ → X) (page : PageId) → page.file ≡ Temp → by_key main temp (key page) ≡ temp page.no
+by_key-of-temp main temp page e = ap (λ f. by_key main temp (key_in f page.no)) e ∙ by_key-temp main temp page.no

@@ -2,6 +2,7 @@ pub mod Files
 pub mod Disks
 pub mod Picture
 pub mod Sound
+pub mod Keeping
 pub mod Keys
 pub mod Views
 pub mod Opening

@@ -3,7 +3,6 @@ use Rattle.std.specs.Prelude.{◌≡◌, ◌≢◌, ℕ, ◌<◌, ◌&&◌, ◌|
 use Rattle.std.proofs.Common.{sym, ◌∙◌, ap, refl, arith, length-set}
 use Rattle.std.proofs.lemmas.Bool.Decides.{nat_tests}
 use Rattle.std.proofs.lemmas.Grind.{common_steps}
-use Rattle.std.specs.Vec.{with_item}
 use Rattle.hg_io.specs.declared.device.PageDevice.{Ghosts}
 use Rattle.hg_base.specs.Lending.{refit}
 use Rattle.hg_base.specs.Space.{Space, at, key, with_bytes}
@@ -11,6 +10,7 @@ use Rattle.hg_base.specs.Changes.{items-set}
 use Rattle.hg_base.specs.declared.PageId.{PageId}
 use Rattle.hg_pool.specs.Disks.{Disks}
 use Rattle.hg_pool.specs.Picture.{Picture, frame_at, place_at, picture_of, shown, is_in, is_pinned, bytes_told, is_key_of, no_frame}
+use Rattle.hg_pool.specs.Keeping.{with_frame}
 use Rattle.hg_pool.specs.Shown.{state_of, disks_of}
 use Rattle.hg_pool.specs.Keys.{at-here, is_key_of-true, is_key_of-other}
 use Rattle.hg_pool.specs.Views.{SameAt, same-pins, pinned_by, held_by, bytes-at, pinned-at, away}
@@ -21,10 +21,6 @@ use Rattle.hg_pool.specs.declared.parts.Parts.{Parts}
 -- a frame with these bytes, which are newer than those on its device
 abbrev pub written : Frame → List ℕ → Frame
 written x w = record x { bytes = refit x.bytes w; dirty = true }
-
--- s with x in the frame f
-abbrev pub with_frame : Store → ℕ → Frame → Store
-with_frame s f x = record s { frames = with_item s.frames f x }
 
 -- the page with that key has these bytes in its frame
 abbrev pub with_written : Store → ℕ → List ℕ → Store
@@ -45,7 +41,7 @@ picture-frame d s f x h = λ i. record (picture_of d (with_frame s f x)) {
 pub frame-in : (frames : List Frame) (f q : ℕ) → is_key_of q (frame_at frames f).page ≡ true → f < length frames
 frame-in frames f q h = grind (arith, nat_tests, common_steps)
 
-refit-whole : (xs ws : List ℕ) → length ws ≡ length xs → refit xs ws ≡ ws
+pub refit-whole : (xs ws : List ℕ) → length ws ≡ length xs → refit xs ws ≡ ws
 refit-whole xs ws e = grind (arith, common_steps)
 
 and-left : (s t : Bool) → (s && t) ≡ true → s ≡ true

@@ -3,7 +3,7 @@ use Rattle.std.specs.Prelude.{ℕ, Bool, length}
 use Rattle.hg_io.specs.declared.device.PageDevice.{Ghosts}
 use Rattle.hg_base.specs.Space.{Space, key}
 use Rattle.hg_base.specs.declared.PageId.{PageId}
-use Rattle.hg_pool.specs.Disks.{Disks, disk_of}
+use Rattle.hg_pool.specs.Disks.{Disks, disks_in}
 use Rattle.hg_pool.specs.Picture.{shown, picture_of, is_in, frame_at, place_at}
 use Rattle.hg_pool.specs.Sound.{IsSound}
 use Rattle.hg_pool.specs.declared.PoolCounts.{PoolCounts}
@@ -17,7 +17,7 @@ module _ {M T : Type 0} where
   temp_device s = s.devices.temp
 
   abbrev pub disks_of : Ghosts M → Ghosts T → Parts M T → Disks
-  disks_of m t s = record { main = disk_of m s.devices.main; temp = disk_of t s.devices.temp }
+  disks_of m t s = disks_in m t s.devices
 
   -- the space that a pool is
   abbrev pub state_of : Ghosts M → Ghosts T → Parts M T → Space

@@ -7,6 +7,7 @@ use Rattle.hg_space.specs.PageMap as map
 use Rattle.hg_pool.specs.Disks.{Disks}
 use Rattle.hg_pool.specs.Picture.{Picture, picture_of, limit_of}
 use Rattle.hg_pool.specs.declared.frames.Frame.{Frame}
+use Rattle.hg_pool.specs.declared.maps.Maps.{Maps}
 use Rattle.hg_pool.specs.declared.store.Store.{Store}
 
 -- The page that stands in the frame f, which is x, is found there, and it is taken; a whole page of
@@ -27,16 +28,24 @@ pins_of x = if x.pinned then 1 else 0
 abbrev pub pinned_in : List Frame → ℕ
 pinned_in frames = sum_by pins_of frames
 
-pub record IsSound (d : Disks) (s : Store) : Type 0 where
-  pub coherent : IsCoherent (picture_of d s)
+-- what holds of the maps of both files
+pub record AreSound (m : Maps) : Type 0 where
+  pub main : map.IsSound (pages_of m.main)
+  pub temp : map.IsSound (pages_of m.temp)
+
+-- what holds of what a pool keeps, apart from its devices
+pub record IsShaped (s : Store) : Type 0 where
   pub counted : pinned_in s.frames.items ≡ s.pins
   pub few : s.pins ≤ 8
   pub at_least : 16 ≤ length s.frames.items
   pub at_most : length s.frames.items ≤ 65536
   pub hand : s.hand ≤ length s.frames.items
-  pub main_map : map.IsSound (pages_of s.maps.main)
-  pub temp_map : map.IsSound (pages_of s.maps.temp)
+  pub maps : AreSound s.maps
   pub main_places : length s.places.main.items ≡ (pages_of s.maps.main).limit
   pub temp_places : length s.places.temp.items ≡ (pages_of s.maps.temp).limit
+
+pub record IsSound (d : Disks) (s : Store) : Type 0 where
+  pub coherent : IsCoherent (picture_of d s)
+  pub shape : IsShaped s
   pub main_fits : (pages_of s.maps.main).limit ≤ d.main.pages
   pub temp_fits : (pages_of s.maps.temp).limit ≤ d.temp.pages

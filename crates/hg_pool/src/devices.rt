@@ -10,8 +10,19 @@ pub(crate) struct Devices<M, T> {
 }
 
 impl<M: PageDevice, T: PageDevice> Devices<M, T> {
+    ghost use Rattle.std.specs.Prelude.{◌≡◌, ◌<◌, true, length, OnOk};
+    ghost use Rattle.hg_base.specs.Space.{key};
+    ghost use Rattle.hg_pool.specs.Disks.{disks_in, pages_in, page_on, all_told, SamePages, SameButOne, DeviceCause};
+
     /// Puts the page's bytes into `bytes`.
-    pub(crate) fn read(&mut self, page: PageId, bytes: &mut [u8]) -> Result<(), PageFault> {
+    pub(crate) fn read(&mut self, page: PageId, bytes: &mut [u8]) -> Result<(), PageFault>
+        requires in_range { page.no < pages_in (disks_in M.PageDevice T.PageDevice self.old) page.file }
+        requires whole { length bytes.old ≡ 4096 }
+        ensures gives { OnOk result (all_told (disks_in M.PageDevice T.PageDevice self.old) ≡ true
+            → bytes.new ≡ page_on (disks_in M.PageDevice T.PageDevice self.old) (key page)) }
+        ensures keeps { SamePages (disks_in M.PageDevice T.PageDevice self.old) (disks_in M.PageDevice T.PageDevice self.new) }
+        ensures cause { DeviceCause (disks_in M.PageDevice T.PageDevice self.old) (disks_in M.PageDevice T.PageDevice self.new) result }
+    {
         match page.file {
             File::Main => match self.main.read(page.no, bytes) {
                 Ok(()) => Ok(()),
@@ -25,7 +36,14 @@ impl<M: PageDevice, T: PageDevice> Devices<M, T> {
     }
 
     /// Puts `bytes` into the page. A write that failed leaves any bytes in that page.
-    pub(crate) fn write(&mut self, page: PageId, bytes: &[u8]) -> Result<(), PageFault> {
+    pub(crate) fn write(&mut self, page: PageId, bytes: &[u8]) -> Result<(), PageFault>
+        requires in_range { page.no < pages_in (disks_in M.PageDevice T.PageDevice self.old) page.file }
+        requires whole { length bytes.now ≡ 4096 }
+        ensures puts { OnOk result (all_told (disks_in M.PageDevice T.PageDevice self.old) ≡ true
+            → page_on (disks_in M.PageDevice T.PageDevice self.new) (key page) ≡ bytes.now) }
+        ensures keeps { SameButOne (disks_in M.PageDevice T.PageDevice self.old) (disks_in M.PageDevice T.PageDevice self.new) (key page) }
+        ensures cause { DeviceCause (disks_in M.PageDevice T.PageDevice self.old) (disks_in M.PageDevice T.PageDevice self.new) result }
+    {
         match page.file {
             File::Main => match self.main.write(page.no, bytes) {
                 Ok(()) => Ok(()),

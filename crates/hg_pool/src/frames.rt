@@ -30,6 +30,7 @@ impl Page {
     ghost use Rattle.hg_base.specs.Lending.{LendsBytes, refit};
     ghost use Rattle.hg_pool.specs.contracts.frames.Page.{the_row};
 
+    #[tactic(auto, unfolding(hg_base::specs::Space::zero_page))]
     fn zeros(alloc: Global) -> Result<Page, AllocError>
         ensures { IfOk result (λ p. p ≡ zero_page) }
     {

@@ -1,4 +1,8 @@
 //! The frame in which a page may be, by the page's number.
+ghost use Rattle.std.specs.Prelude.{◌≡◌, ◌<◌};
+ghost use Rattle.hg_base.specs.Space.{key};
+ghost use Rattle.hg_pool.specs.Picture.{place_at};
+ghost use Rattle.hg_pool.specs.Keeping.{places_in, with_place};
 
 use hg_base::{File, PageId};
 
@@ -12,21 +16,32 @@ pub(crate) struct Places {
 
 impl Places {
     /// How many pages the file may have.
-    pub(crate) fn limit(&self, file: File) -> usize {
+    pub(crate) fn limit(&self, file: File) -> usize
+        ensures { result ≡ places_in self.now file }
+    {
         match file {
             File::Main => self.main.len(),
             File::Temp => self.temp.len(),
         }
     }
 
-    pub(crate) fn at(&self, page: PageId) -> usize {
+    /// The frame that the page was brought into last.
+    pub(crate) fn at(&self, page: PageId) -> usize
+        requires { page.no < places_in self.now page.file }
+        ensures { result ≡ place_at self.now (key page) }
+    {
         match page.file {
             File::Main => self.main[page.no as usize] as usize,
             File::Temp => self.temp[page.no as usize] as usize,
         }
     }
 
-    pub(crate) fn set(&mut self, page: PageId, frame: usize) {
+    /// Notes that the page is brought into the frame.
+    pub(crate) fn set(&mut self, page: PageId, frame: usize)
+        requires there { page.no < places_in self.old page.file }
+        requires frame { frame < 65536 }
+        ensures { self.new ≡ with_place self.old page frame }
+    {
         match page.file {
             File::Main => self.main[page.no as usize] = frame as u16,
             File::Temp => self.temp[page.no as usize] = frame as u16,
