@@ -83,7 +83,7 @@ clean-held true x w e = sym (e refl)
 clean-held false x w e = refl
 
 -- a frame whose page is on its device as it is became empty
-pub emptied : (a : Picture) (f : ℕ) → IsCoherent a → (a.frame f).dirty ≡ false → (a.frame f).pinned ≡ false
+pub emptied : (a : Picture) (f : ℕ) → IsCoherent a → ((p : PageId) → (a.frame f).page ≡ Some p → (a.frame f).dirty ≡ false) → (a.frame f).pinned ≡ false
     → Keeps a (record a { frame = at a.frame f (record (a.frame f) { page = None }) })
 emptied a f h clean out =
     let y : Frame = a.frame f in
@@ -104,7 +104,7 @@ emptied a f h clean out =
             held = λ t. clean-held (is_key_of q y.page) y.bytes (a.page q) (λ k.
                 let r = is_key_of-true q y.page k in
                 let told : a.told ≡ true = sym (or-false a.told) ∙ sym (ap (λ s. a.told || s) (ap (λ s. is_key_of q y.page && s) out ∙ and-false (is_key_of q y.page))) ∙ t in
-                (h f).clean r.0 r.1 clean told ∙ ap a.page r.2);
+                (h f).clean r.0 r.1 (clean r.0 r.1) told ∙ ap a.page r.2);
           })
           (λ there. same-here a.told q (a.frame (a.place q)) (a.frame (a.place q)) a.page a.page refl refl refl (λ t out. refl)));
     }

@@ -7,5 +7,6 @@ pub mod Keys
 pub mod Views
 pub mod Opening
 pub mod Shown
+pub mod Passing
 pub mod Work
 pub mod Loans

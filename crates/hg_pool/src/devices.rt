@@ -1,5 +1,6 @@
 //! The two devices.
 
+use crate::frames::Frame;
 use hg_base::{File, PageFault, PageId};
 use hg_io::PageDevice;
 
@@ -33,6 +34,19 @@ impl<M: PageDevice, T: PageDevice> Devices<M, T> {
                 Err(_) => Err(PageFault::TempFault),
             },
         }
+    }
+
+    /// Reads the page into the frame's bytes.
+    pub(crate) fn fill(&mut self, page: PageId, frame: &mut Frame) -> Result<(), PageFault>
+        requires in_range { page.no < pages_in (disks_in M.PageDevice T.PageDevice self.old) page.file }
+        ensures rest { frame.new ≡ record frame.old { bytes = frame.new.bytes } }
+        ensures whole { length frame.new.bytes ≡ 4096 }
+        ensures gives { OnOk result (all_told (disks_in M.PageDevice T.PageDevice self.old) ≡ true
+            → frame.new.bytes ≡ page_on (disks_in M.PageDevice T.PageDevice self.old) (key page)) }
+        ensures keeps { SamePages (disks_in M.PageDevice T.PageDevice self.old) (disks_in M.PageDevice T.PageDevice self.new) }
+        ensures cause { DeviceCause (disks_in M.PageDevice T.PageDevice self.old) (disks_in M.PageDevice T.PageDevice self.new) result }
+    {
+        self.read(page, frame.bytes.bytes_mut())
     }
 
     /// Puts `bytes` into the page. A write that failed leaves any bytes in that page.

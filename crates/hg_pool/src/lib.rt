@@ -4,6 +4,7 @@
 //! what `Pool::new` says of a new pool.
 #![tactic(auto)]
 
+mod calls;
 mod devices;
 mod frames;
 mod maps;

@@ -1,4 +1,4 @@
-//! A pool's devices and its store, and what pages do between them.
+//! A pool's devices and its store, and how pages come into frames and leave them.
 
 use crate::devices::Devices;
 use crate::store::Store;
@@ -12,42 +12,87 @@ pub(crate) struct Parts<M, T> {
 }
 
 impl<M: PageDevice, T: PageDevice> Parts<M, T> {
-    /// Counts a fault of a device, and answers it.
-    fn fail(&mut self, fault: PageFault) -> PageFault {
-        self.store.answers.count(fault);
-        fault
-    }
+    ghost use Rattle.std.specs.Prelude.{◌≡◌, ◌<◌, true, false, Ok, Some, OnOk, IfOk, length};
+    ghost use Rattle.hg_io.specs.Count.{raised};
+    ghost use Rattle.hg_base.specs.Space.{key};
+    ghost use Rattle.hg_pool.specs.Picture.{frame_at, taken_at};
+    ghost use Rattle.hg_pool.specs.Keeping.{is_inside, IsFoundAt};
+    ghost use Rattle.hg_pool.specs.Shown.{IsWhole};
+    ghost use Rattle.hg_pool.specs.Passing.{PassesParts, Clears, IsClean, IsRoom};
+    ghost use Rattle.hg_pool.specs.Work.{RoseOnce, PinWork};
 
-    /// Writes the frame's page to its device, if its bytes are newer.
-    fn clean(&mut self, at: usize) -> Result<(), PageFault> {
-        let frame = &mut self.store.frames[at];
-        let Some(page) = frame.page else {
-            return Ok(());
-        };
-        if !frame.dirty {
-            return Ok(());
-        }
-        self.store.counts.writes = self.store.counts.writes.saturating_add(1);
-        match self.devices.write(page, frame.bytes.bytes()) {
-            Err(fault) => Err(self.fail(fault)),
+    /// Writes the frame's page to its device.
+    fn write_back(&mut self, at: usize, page: PageId) -> Result<(), PageFault>
+        requires whole { IsWhole M.PageDevice T.PageDevice self.old }
+        requires there { at < length self.old.store.frames.items }
+        requires page { (frame_at self.old.store.frames.items at).page ≡ Some page }
+        requires dirty { (frame_at self.old.store.frames.items at).dirty ≡ true }
+        ensures passes { PassesParts M.PageDevice T.PageDevice self.old self.new result }
+        ensures clears { Clears self.old.store self.new.store }
+        ensures clean { OnOk result ((frame_at self.new.store.frames.items at).dirty ≡ false) }
+        ensures pinned { (frame_at self.new.store.frames.items at).pinned ≡ (frame_at self.old.store.frames.items at).pinned }
+        ensures writes { RoseOnce self.old.store.counts.writes self.new.store.counts.writes }
+        ensures evictions { self.new.store.counts.evictions ≡ self.old.store.counts.evictions }
+    {
+        self.store.count_write();
+        match self.devices.write(page, self.store.frames[at].bytes.bytes()) {
+            Err(fault) => {
+                self.store.answers.count(fault);
+                Err(fault)
+            }
             Ok(()) => {
-                frame.dirty = false;
+                self.store.set_clean(at);
                 Ok(())
             }
         }
     }
 
-    /// Makes a frame empty, whose page is on its device as it is.
-    fn empty(&mut self, at: usize) {
-        let frame = &mut self.store.frames[at];
-        if frame.page.is_some() {
-            frame.page = None;
-            self.store.counts.evictions = self.store.counts.evictions.saturating_add(1);
+    /// Writes the frame's page to its device, if its bytes are newer.
+    fn clean(&mut self, at: usize) -> Result<(), PageFault>
+        requires whole { IsWhole M.PageDevice T.PageDevice self.old }
+        requires there { at < length self.old.store.frames.items }
+        ensures passes { PassesParts M.PageDevice T.PageDevice self.old self.new result }
+        ensures clears { Clears self.old.store self.new.store }
+        ensures clean { OnOk result (IsClean (frame_at self.new.store.frames.items at)) }
+        ensures pinned { (frame_at self.new.store.frames.items at).pinned ≡ (frame_at self.old.store.frames.items at).pinned }
+        ensures writes { RoseOnce self.old.store.counts.writes self.new.store.counts.writes }
+        ensures evictions { self.new.store.counts.evictions ≡ self.old.store.counts.evictions }
+    {
+        match self.store.unwritten(at) {
+            Some(page) => self.write_back(at, page),
+            None => Ok(()),
         }
     }
 
-    /// An empty frame that no pin holds.
-    fn room(&mut self) -> Result<usize, PageFault> {
+    /// Makes a frame empty whose page is on its device as it is.
+    fn empty(&mut self, at: usize)
+        requires whole { IsWhole M.PageDevice T.PageDevice self.old }
+        requires there { at < length self.old.store.frames.items }
+        requires clean { IsClean (frame_at self.old.store.frames.items at) }
+        requires free { (frame_at self.old.store.frames.items at).pinned ≡ false }
+        ensures passes { PassesParts M.PageDevice T.PageDevice self.old self.new (Ok (tt {0})) }
+        ensures clears { Clears self.old.store self.new.store }
+        ensures room { IsRoom self.new.store at }
+        ensures writes { self.new.store.counts.writes ≡ self.old.store.counts.writes }
+        ensures evictions { RoseOnce self.old.store.counts.evictions self.new.store.counts.evictions }
+    {
+        if self.store.frames[at].page.is_none() {
+            return;
+        }
+        self.store.set_empty(at);
+        self.store.count_eviction();
+    }
+
+    /// An empty frame, which no pin holds: the next one in the round.
+    pub(crate) fn room(&mut self) -> Result<usize, PageFault>
+        requires whole { IsWhole M.PageDevice T.PageDevice self.old }
+        requires few { self.old.store.pins < 8 }
+        ensures passes { PassesParts M.PageDevice T.PageDevice self.old self.new result }
+        ensures clears { Clears self.old.store self.new.store }
+        ensures room { IfOk result (λ f. IsRoom self.new.store f) }
+        ensures writes { RoseOnce self.old.store.counts.writes self.new.store.counts.writes }
+        ensures evictions { RoseOnce self.old.store.counts.evictions self.new.store.counts.evictions }
+    {
         let at = self.store.victim();
         self.clean(at)?;
         self.empty(at);
@@ -55,11 +100,25 @@ impl<M: PageDevice, T: PageDevice> Parts<M, T> {
     }
 
     /// Reads the page into an empty frame.
-    fn load(&mut self, at: usize, page: PageId) -> Result<(), PageFault> {
-        self.store.counts.reads = self.store.counts.reads.saturating_add(1);
+    fn load(&mut self, at: usize, page: PageId) -> Result<(), PageFault>
+        requires whole { IsWhole M.PageDevice T.PageDevice self.old }
+        requires room { IsRoom self.old.store at }
+        requires taken { taken_at self.old.store.maps (key page) ≡ true }
+        requires out { is_inside self.old.store (key page) ≡ false }
+        ensures passes { PassesParts M.PageDevice T.PageDevice self.old self.new result }
+        ensures found { OnOk result (IsFoundAt self.new.store page at) }
+        ensures free { (frame_at self.new.store.frames.items at).pinned ≡ false }
+        ensures pins { self.new.store.pins ≡ self.old.store.pins }
+        ensures read { self.new.store.counts ≡ record self.old.store.counts { reads = raised self.old.store.counts.reads 1 } }
+        ensures once { RoseOnce self.old.store.counts.reads self.new.store.counts.reads }
+    {
+        self.store.count_read();
         let frame = &mut self.store.frames[at];
-        match self.devices.read(page, frame.bytes.bytes_mut()) {
-            Err(fault) => Err(self.fail(fault)),
+        match self.devices.fill(page, frame) {
+            Err(fault) => {
+                self.store.answers.count(fault);
+                Err(fault)
+            }
             Ok(()) => {
                 frame.page = Some(page);
                 frame.dirty = false;
@@ -70,84 +129,20 @@ impl<M: PageDevice, T: PageDevice> Parts<M, T> {
     }
 
     /// The frame of the page, which is brought into one if it is in none.
-    fn bring(&mut self, page: PageId) -> Result<usize, PageFault> {
+    pub(crate) fn bring(&mut self, page: PageId) -> Result<usize, PageFault>
+        requires whole { IsWhole M.PageDevice T.PageDevice self.old }
+        requires few { self.old.store.pins < 8 }
+        requires taken { taken_at self.old.store.maps (key page) ≡ true }
+        ensures passes { PassesParts M.PageDevice T.PageDevice self.old self.new result }
+        ensures found { IfOk result (λ f. IsFoundAt self.new.store page f) }
+        ensures pins { self.new.store.pins ≡ self.old.store.pins }
+        ensures work { PinWork (is_inside self.old.store (key page)) self.old.store.counts self.new.store.counts result }
+    {
         if let Some(at) = self.store.find(page) {
             return Ok(at);
         }
         let at = self.room()?;
         self.load(at, page)?;
         Ok(at)
-    }
-
-    pub(crate) fn pin(&mut self, page: PageId) -> Result<(), PageFault> {
-        let at = self.bring(page)?;
-        self.hold(at);
-        Ok(())
-    }
-
-    /// Pins the frame.
-    fn hold(&mut self, at: usize) {
-        let frame = &mut self.store.frames[at];
-        frame.pinned = true;
-        self.store.pins += 1;
-    }
-
-    pub(crate) fn fresh(&mut self, file: File) -> Result<PageId, PageFault> {
-        if self.store.is_full(file) {
-            return Err(self.full(file));
-        }
-        let at = self.room()?;
-        match self.store.maps.take(file) {
-            None => unreachable!(),
-            Some(no) => {
-                let page = PageId { file, no };
-                self.settle(at, page);
-                Ok(page)
-            }
-        }
-    }
-
-    /// Counts that the file was full, and says so.
-    fn full(&mut self, file: File) -> PageFault {
-        match file {
-            File::Main => self.fail(PageFault::MainFull),
-            File::Temp => self.fail(PageFault::TempFull),
-        }
-    }
-
-    /// Puts a new page into an empty frame, pinned.
-    fn settle(&mut self, at: usize, page: PageId) {
-        let frame = &mut self.store.frames[at];
-        frame.bytes.clear();
-        frame.page = Some(page);
-        frame.dirty = true;
-        self.store.places.set(page, at);
-        self.hold(at);
-    }
-
-    pub(crate) fn bytes_mut(&mut self, page: PageId) -> &mut [u8] {
-        let at = self.store.places.at(page);
-        let frame = &mut self.store.frames[at];
-        frame.dirty = true;
-        frame.bytes.bytes_mut()
-    }
-
-    pub(crate) fn unpin(&mut self, page: PageId) {
-        let at = self.store.places.at(page);
-        let frame = &mut self.store.frames[at];
-        frame.pinned = false;
-        self.store.pins = self.store.pins.saturating_sub(1);
-    }
-
-    pub(crate) fn release(&mut self, page: PageId) {
-        if let Some(at) = self.store.find(page) {
-            let frame = &mut self.store.frames[at];
-            frame.page = None;
-        }
-        self.store.maps.release(page);
-    }
-
-    pub(crate) fn set_next(&mut self, page: PageId, next: Option<u32>) {
-        self.store.maps.set_next(page, next);
     }
 }

@@ -3,7 +3,10 @@ ghost use Rattle.std.specs.Prelude.{◌≡◌, ℕ, ◌+◌, ◌-◌, ◌<◌, �
 ghost use Rattle.hg_base.specs.Space.{key};
 ghost use Rattle.hg_pool.specs.Picture.{frame_at, place_at, taken_at, is_pinned};
 ghost use Rattle.hg_pool.specs.Sound.{IsShaped};
-ghost use Rattle.hg_pool.specs.Keeping.{places_in, with_place, with_frame, IsFoundAt, IsFullIn, is_inside, counted, new_frame};
+ghost use Rattle.hg_pool.specs.Keeping.{places_in, with_place, with_frame, IsFoundAt, IsFullIn, is_inside, new_frame};
+ghost use Rattle.hg_pool.specs.Passing.{IsClean};
+ghost use Rattle.hg_pool.specs.Work.{RoseOnce};
+ghost use Rattle.hg_io.specs.Count.{raised};
 
 use crate::PoolCounts;
 use crate::frames::Frame;
@@ -23,10 +26,12 @@ pub(crate) struct Answers {
 impl Answers {
     ghost use Rattle.std.specs.Prelude.{◌≡◌};
     ghost use Rattle.hg_pool.specs.Keeping.{counted};
+    ghost use Rattle.hg_pool.specs.Passing.{LaterAnswers};
 
     /// Counts an answer.
     pub(crate) fn count(&mut self, fault: PageFault)
-        ensures { self.new ≡ counted self.old fault }
+        ensures counted { self.new ≡ counted self.old fault }
+        ensures later { LaterAnswers self.old self.new }
     {
         match fault {
             PageFault::MainFault => self.main = self.main.saturating_add(1),
@@ -152,6 +157,41 @@ impl Store {
         at
     }
 
+    /// The frame's page, if its bytes are newer than those on its device.
+    pub(crate) fn unwritten(&self, at: usize) -> Option<PageId>
+        requires { at < length self.now.frames.items }
+        ensures page { IfSome result (λ p. (frame_at self.now.frames.items at).page ≡ Some p) }
+        ensures dirty { IfSome result (λ _. (frame_at self.now.frames.items at).dirty ≡ true) }
+        ensures clean { IfNone result (IsClean (frame_at self.now.frames.items at)) }
+    {
+        let frame = &self.frames[at];
+        if frame.dirty { frame.page } else { None }
+    }
+
+    /// Counts a read of a device.
+    pub(crate) fn count_read(&mut self)
+        ensures counted { self.new ≡ record self.old { counts = record self.old.counts { reads = raised self.old.counts.reads 1 } } }
+        ensures once { RoseOnce self.old.counts.reads self.new.counts.reads }
+    {
+        self.counts.reads = self.counts.reads.saturating_add(1);
+    }
+
+    /// Counts a write to a device.
+    pub(crate) fn count_write(&mut self)
+        ensures counted { self.new ≡ record self.old { counts = record self.old.counts { writes = raised self.old.counts.writes 1 } } }
+        ensures once { RoseOnce self.old.counts.writes self.new.counts.writes }
+    {
+        self.counts.writes = self.counts.writes.saturating_add(1);
+    }
+
+    /// Counts a page that left its frame.
+    pub(crate) fn count_eviction(&mut self)
+        ensures counted { self.new ≡ record self.old { counts = record self.old.counts { evictions = raised self.old.counts.evictions 1 } } }
+        ensures once { RoseOnce self.old.counts.evictions self.new.counts.evictions }
+    {
+        self.counts.evictions = self.counts.evictions.saturating_add(1);
+    }
+
     /// Notes that the frame's bytes are those on its device.
     pub(crate) fn set_clean(&mut self, at: usize)
         requires { at < length self.old.frames.items }
@@ -168,20 +208,6 @@ impl Store {
     {
         let frame = &mut self.frames[at];
         frame.page = None;
-    }
-
-    /// Notes that the frame has the bytes of the page on its device.
-    pub(crate) fn set_loaded(&mut self, at: usize, page: PageId)
-        requires there { at < length self.old.frames.items }
-        requires most { length self.old.frames.items ≤ 65536 }
-        requires in_range { page.no < places_in self.old.places page.file }
-        ensures { self.new ≡ record (with_frame self.old at (record (frame_at self.old.frames.items at) { page = Some page; dirty = false }))
-            { places = with_place self.old.places page at } }
-    {
-        let frame = &mut self.frames[at];
-        frame.page = Some(page);
-        frame.dirty = false;
-        self.places.set(page, at);
     }
 
     /// Makes the frame a new page, with zeros, and pins it.
