@@ -160,7 +160,7 @@ loaded a f p bytes now n h none taken out whole same kept =
     }
 
 -- a page that a frame holds is told where a pin holds it or the devices tell
-bytes-found : (a : Picture) (f : ℕ) (p : PageId) (k : Bool) → IsCoherent a → (a.frame f).page ≡ Some p → (a.told || (a.frame f).pinned) ≡ k
+pub bytes-found : (a : Picture) (f : ℕ) (p : PageId) (k : Bool) → IsCoherent a → (a.frame f).page ≡ Some p → (a.told || (a.frame f).pinned) ≡ k
     → bytes_told a (key p) ≡ (if k then Some (a.frame f).bytes else None)
 bytes-found a f p k h e t =
     let at_f : a.place (key p) ≡ f = (h f).found p e in
@@ -171,7 +171,7 @@ bytes-found a f p k h e t =
     ∙ ap (λ g. if a.told || (a.frame g).pinned then Some (a.frame g).bytes else None) at_f
     ∙ ap (λ s. if s then Some (a.frame f).bytes else None) t
 
-pinned-found : (a : Picture) (f : ℕ) (p : PageId) → IsCoherent a → (a.frame f).page ≡ Some p → is_pinned a.frame a.place (key p) ≡ (a.frame f).pinned
+pub pinned-found : (a : Picture) (f : ℕ) (p : PageId) → IsCoherent a → (a.frame f).page ≡ Some p → is_pinned a.frame a.place (key p) ≡ (a.frame f).pinned
 pinned-found a f p h e =
     ap (λ s. s && (a.frame (a.place (key p))).pinned) (in-found a f p h e) ∙ ap (λ g. (a.frame g).pinned) ((h f).found p e)
 

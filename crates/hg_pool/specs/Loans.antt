@@ -44,7 +44,7 @@ frame-in frames f q h = grind (arith, nat_tests, common_steps)
 pub refit-whole : (xs ws : List ℕ) → length ws ≡ length xs → refit xs ws ≡ ws
 refit-whole xs ws e = grind (arith, common_steps)
 
-and-left : (s t : Bool) → (s && t) ≡ true → s ≡ true
+pub and-left : (s t : Bool) → (s && t) ≡ true → s ≡ true
 and-left true t e = refl
 and-left false t e = e
 

@@ -9,7 +9,7 @@ impl<M: PageDevice, T: PageDevice> Parts<M, T> {
     ghost use Rattle.std.specs.Borrow.{sem};
     ghost use Rattle.hg_base.specs.Lending.{LendsBytes};
     ghost use Rattle.hg_base.specs.Space.{key, IsPinned, IsMade, IsSame, IsFull, without_pin, without_page, with_next};
-    ghost use Rattle.hg_base.specs.Causes.{HasCause, NoneFull, PinFault, FreshFault, full_fault};
+    ghost use Rattle.hg_base.specs.Causes.{HasCause, Later, Licensed, NoneFull, PinFault, FreshFault, full_fault};
     ghost use Rattle.hg_pool.specs.Picture.{frame_at, place_at, taken_at, is_pinned};
     ghost use Rattle.hg_pool.specs.Shown.{state_of, IsWhole, in_frame};
     ghost use Rattle.hg_pool.specs.Work.{PinWork, FreshWork, IsLowest};
@@ -66,13 +66,27 @@ impl<M: PageDevice, T: PageDevice> Parts<M, T> {
     }
 
     /// Counts that the file was full, and says so.
-    fn full(&mut self, file: File) -> PageFault {
-        let fault = match file {
-            File::Main => PageFault::MainFull,
-            File::Temp => PageFault::TempFull,
-        };
-        self.store.answers.count(fault);
-        fault
+    fn full(&mut self, file: File) -> PageFault
+        requires whole { IsWhole M.PageDevice T.PageDevice self.old }
+        requires full { IsFull (state_of M.PageDevice T.PageDevice self.old) file }
+        ensures whole { IsWhole M.PageDevice T.PageDevice self.new }
+        ensures answer { result ≡ full_fault file }
+        ensures same { IsSame (state_of M.PageDevice T.PageDevice self.old) (state_of M.PageDevice T.PageDevice self.new) }
+        ensures later { Later (state_of M.PageDevice T.PageDevice self.old).counts (state_of M.PageDevice T.PageDevice self.new).counts }
+        ensures licensed { Licensed (state_of M.PageDevice T.PageDevice self.old) (state_of M.PageDevice T.PageDevice self.new) result }
+        ensures fault { FreshFault file (state_of M.PageDevice T.PageDevice self.old) (state_of M.PageDevice T.PageDevice self.new) result }
+        ensures counts { self.new.store.counts ≡ self.old.store.counts }
+    {
+        match file {
+            File::Main => {
+                self.store.answers.count(PageFault::MainFull);
+                PageFault::MainFull
+            }
+            File::Temp => {
+                self.store.answers.count(PageFault::TempFull);
+                PageFault::TempFull
+            }
+        }
     }
 
     pub(crate) fn bytes_mut(&mut self, page: PageId) -> &mut [u8] {

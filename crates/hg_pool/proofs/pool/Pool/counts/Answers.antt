@@ -1,5 +1,5 @@
 use Rattle.std.proofs.Common.{rules}
-use Rattle.hg_pool.proofs.Passing
+use Rattle.hg_pool.proofs.Calling
 use Rattle.hg_pool.proofs.pool.Pool.counts.Goals as goal
 
 pub returns : goal.returns
