@@ -1,7 +1,9 @@
 -- The calls of a pool as its code makes them: each on its devices and what it keeps.
-use Rattle.std.specs.Prelude.{◌≡◌, ◌≢◌, ℕ, ◌+◌, ◌-◌, ◌<◌, ◌≤◌, ◌&&◌, Bool, true, false, List, length, Option, None, Some, Result, Ok, Err, IfErr, OnOk, slice_set}
+use Rattle.std.specs.Prelude.{◌≡◌, ◌≢◌, ℕ, ◌+◌, ◌-◌, ◌<◌, ◌≤◌, ◌&&◌, ◌||◌, Bool, true, false, List, length, Option, None, Some, Result, Ok, Err, IfErr, OnOk, slice_set}
 use Rattle.std.proofs.Common.{sym, ◌∙◌, ap, subst, refl, arith, length-set}
 use Rattle.hg_base.specs.Space.{Space, Counts, at, key, key_in, with_counts, with_pin, with_new, without_pin, without_page, with_next, unpinned_bytes, IsSame, IsPinned, IsMade, IsUnused}
+use Rattle.std.proofs.lemmas.Grind.{common_steps}
+use Rattle.hg_base.specs.Lending.{refit}
 use Rattle.hg_base.specs.Causes.{Later, NoneFull, PinFault, FreshFault, Licensed, HasCause}
 use Rattle.hg_base.specs.declared.File.{File}
 use Rattle.hg_base.specs.declared.File.TheVariants.{Main, Temp}
@@ -16,13 +18,13 @@ use Rattle.hg_pool.specs.Keeping.{places_in, with_place, with_frame, is_inside, 
 use Rattle.hg_pool.specs.Passing.{Passes, IsRoom}
 use Rattle.hg_pool.specs.Work.{PinWork}
 use Rattle.hg_pool.specs.Keys.{at-here, by_key-main, by_key-temp, is_key_of-here}
-use Rattle.hg_pool.specs.Views.{page-of-in}
-use Rattle.hg_pool.specs.Loans.{frames-set, frame-in, and-left}
+use Rattle.hg_pool.specs.Views.{page-of-in, coherent-at, fits-kept}
+use Rattle.hg_pool.specs.Loans.{frames-set, frame-in, and-left, picture-frame, written, with_written}
 use Rattle.hg_pool.specs.declared.frames.Frame.{Frame}
 use Rattle.hg_pool.specs.declared.maps.Maps.{Maps}
 use Rattle.hg_pool.specs.declared.store.Store.{Store}
 use Rattle.hg_pool.specs.declared.PoolCounts.{PoolCounts}
-use Rattle.hg_pool.proofs.Steps.{Pinned, Made, Becomes, held, settled, unpinned, released, dropped, linked, pinned-found}
+use Rattle.hg_pool.proofs.Steps.{Pinned, Made, Becomes, held, settled, unpinned, released, dropped, linked, pinned-found, bytes-found, or-true}
 use Rattle.hg_pool.proofs.Counting.{pins-same, pins-more, pins-less, places-limit}
 use Rattle.hg_pool.proofs.Passing.{shape-kept, place-set, main-places, temp-places}
 
@@ -276,3 +278,38 @@ links-on d s m p to h after =
       whole = sound-of d s z b same step.coherent after.limit h (shape-kept s z h.shape h.shape.counted h.shape.few refl h.shape.hand after.sound after.limit refl refl);
       after = ap shown same ∙ step.after;
     }
+
+-- A loan of the bytes of a page that a pin holds.
+
+length-refit : (xs ws : List ℕ) → length (refit xs ws) ≡ length xs
+length-refit xs ws = grind (arith, common_steps)
+
+pub loan-sound : (d : Disks) (s : Store) (p : PageId) (w : List ℕ) → IsSound d s → (shown (picture_of d s)).pinned (key p) ≡ true → IsSound d (with_written s (key p) w)
+loan-sound d s p w h out =
+    let a : Picture = picture_of d s in
+    let f : ℕ = place_at s.places (key p) in
+    let found : IsFoundAt s p f = found-of d s p (and-left (is_inside s (key p)) (a.frame f).pinned out) in
+    let y : Frame = frame_at s.frames.items f in
+    let x : Frame = written y w in
+    let b : Picture = record a { frame = at (frame_at s.frames.items) f x } in
+    sound-of d s (with_frame s f x) b (picture-frame d s f x found.there)
+    (coherent-at a b f x refl
+    (λ g apart. fits-kept a b g (a.frame g) (h.coherent g) refl (λ r e. refl) (λ r e. refl) (λ r e _ t. refl))
+    (record {
+      found = (h.coherent f).found;
+      taken = (h.coherent f).taken;
+      whole = λ r e. length-refit y.bytes w ∙ (h.coherent f).whole r e;
+      clean = λ r e new t. absurd (cc);
+    }))
+    refl h
+    (shape-kept s (with_frame s f x) h.shape (pins-same s.frames.items f x found.there refl ∙ h.shape.counted) h.shape.few (length-set s.frames.items f x)
+    (let l = h.shape.hand in let k = length-set s.frames.items f x in omega arith) (λ m. m) refl refl refl)
+
+-- the bytes of a page that a pin holds are told
+pub pinned-bytes : (d : Disks) (s : Store) (p : PageId) → IsSound d s → (shown (picture_of d s)).pinned (key p) ≡ true
+    → (shown (picture_of d s)).bytes (key p) ≡ Some (frame_at s.frames.items (place_at s.places (key p))).bytes
+pinned-bytes d s p h out =
+    let a : Picture = picture_of d s in
+    let f : ℕ = place_at s.places (key p) in
+    let found : IsFoundAt s p f = found-of d s p (and-left (is_inside s (key p)) (a.frame f).pinned out) in
+    bytes-found a f p true h.coherent found.holds (ap (λ k. a.told || k) (pinned-of d s f p h found ∙ out) ∙ or-true a.told)

@@ -5,16 +5,12 @@ use hg_base::{File, PageFault, PageId};
 use hg_io::PageDevice;
 
 impl<M: PageDevice, T: PageDevice> Parts<M, T> {
-    ghost use Rattle.std.specs.Prelude.{◌≡◌, ◌<◌, true, false, None, OnOk, OnErr, IfOk, IfErr, IsErrOf, length};
-    ghost use Rattle.std.specs.Borrow.{sem};
-    ghost use Rattle.hg_base.specs.Lending.{LendsBytes};
+    ghost use Rattle.std.specs.Prelude.{◌≡◌, ◌<◌, true, false, None, Some, OnOk, OnErr, IfOk, IfErr, IsErrOf, length};
     ghost use Rattle.hg_base.specs.Space.{key, IsPinned, IsMade, IsSame, IsFull, without_pin, without_page, with_next};
     ghost use Rattle.hg_base.specs.Causes.{HasCause, Later, Licensed, NoneFull, PinFault, FreshFault, full_fault};
     ghost use Rattle.hg_pool.specs.Picture.{frame_at, place_at, taken_at, is_pinned};
     ghost use Rattle.hg_pool.specs.Shown.{state_of, IsWhole, in_frame};
     ghost use Rattle.hg_pool.specs.Work.{PinWork, FreshWork, IsLowest};
-    ghost use Rattle.hg_pool.specs.Loans.{after_write_of};
-    ghost use Rattle.hg_pool.specs.contracts.parts.Parts.{the_row};
 
     pub(crate) fn pin(&mut self, page: PageId) -> Result<(), PageFault>
         requires whole { IsWhole M.PageDevice T.PageDevice self.old }
@@ -89,11 +85,14 @@ impl<M: PageDevice, T: PageDevice> Parts<M, T> {
         }
     }
 
-    pub(crate) fn bytes_mut(&mut self, page: PageId) -> &mut [u8] {
-        let at = self.store.places.at(page);
-        let frame = &mut self.store.frames[at];
-        frame.dirty = true;
-        frame.bytes.bytes_mut()
+    /// The bytes of a page that a pin holds.
+    pub(crate) fn bytes(&self, page: PageId) -> &[u8]
+        requires whole { IsWhole M.PageDevice T.PageDevice self.now }
+        requires pinned { (state_of M.PageDevice T.PageDevice self.now).pinned (key page) ≡ true }
+        ensures value { (state_of M.PageDevice T.PageDevice self.now).bytes (key page) ≡ Some result.now }
+        ensures len { length result.now ≡ 4096 }
+    {
+        self.store.bytes(page)
     }
 
     pub(crate) fn unpin(&mut self, page: PageId)

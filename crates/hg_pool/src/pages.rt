@@ -81,11 +81,15 @@ impl<M: PageDevice, T: PageDevice> Pages for Pool<M, T> {
     }
 
     fn bytes(&self, pin: &PoolPin) -> &[u8] {
-        self.parts.store.bytes(pin.page)
+        self.parts.bytes(pin.page)
     }
 
     fn bytes_mut(&mut self, pin: &PoolPin) -> &mut [u8] {
-        self.parts.bytes_mut(pin.page)
+        let store = &mut self.parts.store;
+        let at = store.places.at(pin.page);
+        let frame = &mut store.frames[at];
+        frame.dirty = true;
+        frame.bytes.bytes_mut()
     }
 
     fn unpin(&mut self, pin: PoolPin) {
