@@ -68,7 +68,7 @@ bool-not : (t : Bool) → (t ≡ true → ⊥) → t ≡ false
 bool-not true h = absurd (h refl)
 bool-not false h = refl
 
-none-apart : (o : Option PageId) (p : PageId) (P : Type 0) → o ≡ None → o ≡ Some p → P
+pub none-apart : (o : Option PageId) (p : PageId) (P : Type 0) → o ≡ None → o ≡ Some p → P
 none-apart o p P n s = let e : ◌≡◌ {A = Option PageId} None (Some p) = sym n ∙ s in absurd (cc)
 
 key-of-none : (q : ℕ) (o : Option PageId) → o ≡ None → is_key_of q o ≡ false

@@ -1,10 +1,13 @@
 -- A pool that is opened. Our own rule.
-use Rattle.std.specs.Prelude.{ℕ, ◌≤◌, Bool, false, None}
+use Rattle.std.specs.Prelude.{◌≡◌, ℕ, ◌≤◌, Bool, false, None, length, replicate}
 use Rattle.hg_base.specs.Space.{Space, zero_page}
 use Rattle.hg_base.specs.declared.File.{File}
 use Rattle.hg_base.specs.declared.File.TheVariants.{Main, Temp}
 use Rattle.hg_pool.specs.Disks.{Disk, Disks, all_told}
 use Rattle.hg_pool.specs.Picture.{no_heaps}
+use Rattle.hg_space.specs.Shown.{pages_of}
+use Rattle.hg_space.specs.PageMap as map
+use Rattle.hg_pool.specs.declared.store.Store.{Store}
 use Rattle.hg_pool.specs.declared.frames.Frame.{Frame}
 use Rattle.hg_pool.specs.declared.Config.{Config}
 use Rattle.hg_pool.specs.declared.PoolCounts.{PoolCounts}
@@ -49,3 +52,17 @@ new_space c d = record {
 -- nothing was done yet
 abbrev pub no_counts : PoolCounts
 no_counts = record { reads = 0; writes = 0; evictions = 0 }
+
+-- what a new pool keeps
+pub record IsNewStore (c : Config) (s : Store) : Type 0 where
+  pub frames : s.frames.items ≡ replicate c.pool empty_frame
+  pub main_places : length s.places.main.items ≡ c.main_pages
+  pub temp_places : length s.places.temp.items ≡ c.temp_pages
+  pub main_map : pages_of s.maps.main ≡ map.unused_pages c.main_pages
+  pub temp_map : pages_of s.maps.temp ≡ map.unused_pages c.temp_pages
+  pub main_sound : map.IsSound (pages_of s.maps.main)
+  pub temp_sound : map.IsSound (pages_of s.maps.temp)
+  pub hand : s.hand ≡ 0
+  pub pins : s.pins ≡ 0
+  pub answers : s.answers ≡ record { main = 0; temp = 0; main_full = 0; temp_full = 0 }
+  pub counts : s.counts ≡ no_counts

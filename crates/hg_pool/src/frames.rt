@@ -77,7 +77,7 @@ impl Frame {
     ghost use Rattle.hg_pool.specs.Opening.{empty_frame};
 
     /// A frame of no page.
-    fn empty(alloc: Global) -> Result<Frame, AllocError>
+    pub(crate) fn empty(alloc: Global) -> Result<Frame, AllocError>
         ensures { IfOk result (λ frame. frame ≡ empty_frame) }
     {
         Ok(Frame {

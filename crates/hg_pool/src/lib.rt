@@ -8,6 +8,7 @@ mod calls;
 mod devices;
 mod frames;
 mod maps;
+mod opening;
 mod pages;
 mod parts;
 mod places;

@@ -3,6 +3,7 @@ ghost use Rattle.std.specs.Prelude.{◌≡◌, IfOk, IfErr};
 ghost use Rattle.hg_pool.specs.Opening.{IsPossible, new_space, no_counts};
 
 use crate::devices::Devices;
+use crate::opening::new_store;
 use crate::parts::Parts;
 use crate::{Config, PoolCounts};
 use hg_base::Pages;
@@ -47,7 +48,15 @@ impl<M: PageDevice, T: PageDevice> Pool<M, T> {
         ensures temp { IfOk result (λ pool. temp_device pool ≡ temp) }
         ensures handed_back { IfErr result (λ devices. devices ≡ record { 0 = main; 1 = temp }) }
     {
-        Err((main, temp))
+        match new_store(alloc, config) {
+            Err(_) => Err((main, temp)),
+            Ok(store) => Ok(Pool {
+                parts: Parts {
+                    devices: Devices { main, temp },
+                    store,
+                },
+            }),
+        }
     }
 
     /// How many frames are in use.
