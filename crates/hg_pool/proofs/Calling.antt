@@ -54,8 +54,8 @@ holds-pin d s f p h found free few =
     let step : Pinned (picture_of d s) b p (frame_at s.frames.items f).bytes = held (picture_of d s) f p h.coherent found.holds free in
     let same : picture_of d z ≡ b = λ i. record (picture_of d z) { frame = frames-set s.frames.items f y found.there i; current = length-set s.frames.items f y i } in
     let whole : IsSound d z = sound-of d s z b same step.coherent refl h
-        (shape-kept s z h.shape (pins-more s.frames.items f y found.there free refl ∙ ap (λ n. n + 1) h.shape.counted) (omega arith) (length-set s.frames.items f y)
-        (let l = h.shape.hand in let k = length-set s.frames.items f y in omega arith) (λ m. m) refl refl refl) in record {
+    (shape-kept s z h.shape (pins-more s.frames.items f y found.there free refl ∙ ap (λ n. n + 1) h.shape.counted) (omega arith) (length-set s.frames.items f y)
+    (let l = h.shape.hand in let k = length-set s.frames.items f y in omega arith) (λ m. m) refl refl refl) in record {
       whole = whole;
       ok = record {
         held = (frame_at s.frames.items f).bytes;

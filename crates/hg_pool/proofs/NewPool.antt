@@ -75,9 +75,9 @@ pub new-shown : (c : Config) (d : Disks) (s : Store) → IsNewStore c s → show
 new-shown c d s h =
     let v : Picture = picture_of d s in
     let free : (q : ℕ) → v.taken q ≡ false = λ q. by_key-same (pages_of s.maps.main).used (pages_of s.maps.temp).used false q
-        (λ n. ap (λ (m : map.PageMap). m.used n) h.main_map) (λ n. ap (λ (m : map.PageMap). m.used n) h.temp_map) in
+    (λ n. ap (λ (m : map.PageMap). m.used n) h.main_map) (λ n. ap (λ (m : map.PageMap). m.used n) h.temp_map) in
     let next : (q : ℕ) → ◌≡◌ {A = Option ℕ} (v.next q) None = λ q. by_key-same (pages_of s.maps.main).next (pages_of s.maps.temp).next None q
-        (λ n. ap (λ (m : map.PageMap). m.next n) h.main_map) (λ n. ap (λ (m : map.PageMap). m.next n) h.temp_map) in
+    (λ n. ap (λ (m : map.PageMap). m.next n) h.main_map) (λ n. ap (λ (m : map.PageMap). m.next n) h.temp_map) in
     let out : (q : ℕ) → is_in v.frame v.place q ≡ false = λ q. ap (is_key_of q) (no-page-in s.frames.items c.pool (v.place q) h.frames) in
     spaces_agree (shown v) (new_space c d) refl
     (λ i. λ file. limits c s file h i)

@@ -300,7 +300,7 @@ read-in d e s n f bytes p x h room kept cause whole gives taken out in_range =
     let b : Picture = record (picture_of d s) { frame = at (frame_at s.frames.items) f y'; place = at (place_at s.places) (key p) f; page = page_on e; counts = counts_of e z } in
     let keeps : Keeps (picture_of d s) b = loaded (picture_of d s) f p bytes (page_on e) (counts_of e z) h.coherent room.none taken out whole gives kept.pages in
     let frames : frame_at (slice_set s.frames.items f y) ≡ at (frame_at s.frames.items) f y' =
-        frames-set s.frames.items f y room.there ∙ ap (λ k. at (frame_at s.frames.items) f (record y { pinned = k })) room.free in
+    frames-set s.frames.items f y room.there ∙ ap (λ k. at (frame_at s.frames.items) f (record y { pinned = k })) room.free in
     let same : picture_of e z ≡ b = λ i. record (picture_of e z) {
       told = kept.shape.told i;
       frame = frames i;

@@ -192,8 +192,8 @@ held a f p h e out =
     let b : Picture = record a { frame = at a.frame f x; pins = a.pins + 1 } in
     let here : b.frame f ≡ x = at-here a.frame f x in
     let frames : IsCoherent b = coherent-at a b f x refl
-        (λ g apart. fits-kept a b g (a.frame g) (h g) refl (λ r d. refl) (λ r d. refl) (λ r d _ t. refl))
-        (record { found = (h f).found; taken = (h f).taken; whole = (h f).whole; clean = (h f).clean }) in
+    (λ g apart. fits-kept a b g (a.frame g) (h g) refl (λ r d. refl) (λ r d. refl) (λ r d _ t. refl))
+    (record { found = (h f).found; taken = (h f).taken; whole = (h f).whole; clean = (h f).clean }) in
     let e' : (b.frame f).page ≡ Some p = ap (λ (z : Frame). z.page) here ∙ e in
     let others : (q : ℕ) → q ≢ key p → SameAt a b q = λ q apart. away a b f x q refl refl (λ t. refl) (key-of-other q (a.frame f).page p e apart) (key-of-other q (a.frame f).page p e apart) in record {
       coherent = frames;
@@ -217,8 +217,13 @@ pub not-in : (a : Picture) (p : PageId) → IsCoherent a → a.taken (key p) ≡
 not-in a p h e = bool-not (is_in a.frame a.place (key p)) (λ t. false≢true (sym e ∙ (h (a.place (key p))).taken p (page-of-in a p t)))
 
 pub settled : (a : Picture) (f : ℕ) (p : PageId) → IsCoherent a → (a.frame f).page ≡ None → a.taken (key p) ≡ false
-    → Made a (record a { frame = at a.frame f (record { bytes = zero_page; page = Some p; dirty = true; pinned = true }); place = at a.place (key p) f;
-        taken = at a.taken (key p) true; next = at a.next (key p) None; pins = a.pins + 1 }) p
+    → Made a (record a {
+      frame = at a.frame f (record { bytes = zero_page; page = Some p; dirty = true; pinned = true });
+      place = at a.place (key p) f;
+      taken = at a.taken (key p) true;
+      next = at a.next (key p) None;
+      pins = a.pins + 1;
+    }) p
 settled a f p h none free =
     let x : Frame = record { bytes = zero_page; page = Some p; dirty = true; pinned = true } in
     let b : Picture = record a { frame = at a.frame f x; place = at a.place (key p) f; taken = at a.taken (key p) true; next = at a.next (key p) None; pins = a.pins + 1 } in
@@ -228,16 +233,16 @@ settled a f p h none free =
     let out : is_in a.frame a.place (key p) ≡ false = not-in a p h free in
     let other : (g : ℕ) (r : PageId) → (a.frame g).page ≡ Some r → key r ≢ key p = λ g r d s. not-found a g r (key p) h d out (sym s) in
     let frames : IsCoherent b = coherent-at a b f x refl
-        (λ g apart. fits-kept a b g (a.frame g) (h g) refl (λ r d. at-other a.place (key p) f (key r) (other g r d))
-        (λ r d. at-other a.taken (key p) true (key r) (other g r d)) (λ r d _ t. refl))
-        (record {
-          found = λ r d. ap (λ k. at a.place (key p) f (key k)) (sym (one r d)) ∙ at-here a.place (key p) f;
-          taken = λ r d. ap (λ k. at a.taken (key p) true (key k)) (sym (one r d)) ∙ at-here a.taken (key p) true;
-          whole = λ r d. length-zero_page;
-          clean = λ r d new t. absurd (cc);
-        }) in
+    (λ g apart. fits-kept a b g (a.frame g) (h g) refl (λ r d. at-other a.place (key p) f (key r) (other g r d))
+    (λ r d. at-other a.taken (key p) true (key r) (other g r d)) (λ r d _ t. refl))
+    (record {
+      found = λ r d. ap (λ k. at a.place (key p) f (key k)) (sym (one r d)) ∙ at-here a.place (key p) f;
+      taken = λ r d. ap (λ k. at a.taken (key p) true (key k)) (sym (one r d)) ∙ at-here a.taken (key p) true;
+      whole = λ r d. length-zero_page;
+      clean = λ r d new t. absurd (cc);
+    }) in
     let others : (q : ℕ) → q ≢ key p → SameAt a b q = λ q apart. away a b f x q refl (at-other a.place (key p) f q apart) (λ t. refl)
-        (key-of-none q (a.frame f).page none) (is_key_of-other q p apart) in record {
+    (key-of-none q (a.frame f).page none) (is_key_of-other q p apart) in record {
       coherent = frames;
       no_bytes = ap (λ s. if s && (a.told || is_pinned a.frame a.place (key p)) then Some (held_in a.frame a.place a.page (key p)) else None) free;
       not_pinned = ap (λ s. s && (a.frame (a.place (key p))).pinned) out;
@@ -265,8 +270,8 @@ unpinned a f p h e held =
     let b : Picture = record a { frame = at a.frame f x; pins = a.pins - 1 } in
     let here : b.frame f ≡ x = at-here a.frame f x in
     let frames : IsCoherent b = coherent-at a b f x refl
-        (λ g apart. fits-kept a b g (a.frame g) (h g) refl (λ r d. refl) (λ r d. refl) (λ r d _ t. refl))
-        (record { found = (h f).found; taken = (h f).taken; whole = (h f).whole; clean = (h f).clean }) in
+    (λ g apart. fits-kept a b g (a.frame g) (h g) refl (λ r d. refl) (λ r d. refl) (λ r d _ t. refl))
+    (record { found = (h f).found; taken = (h f).taken; whole = (h f).whole; clean = (h f).clean }) in
     let e' : (b.frame f).page ≡ Some p = ap (λ (z : Frame). z.page) here ∙ e in
     let others : (q : ℕ) → q ≢ key p → SameAt a b q = λ q apart. away a b f x q refl refl (λ t. refl) (key-of-other q (a.frame f).page p e apart) (key-of-other q (a.frame f).page p e apart) in
     let was : bytes_told a (key p) ≡ Some (a.frame f).bytes = bytes-found a f p true h e (ap (λ s. a.told || s) held ∙ or-true a.told) in record {
@@ -311,7 +316,7 @@ pub dropped : (a : Picture) (p : PageId) → IsCoherent a → is_in a.frame a.pl
 dropped a p h out =
     let b : Picture = record a { taken = at a.taken (key p) false; next = at a.next (key p) None } in
     let others : (q : ℕ) → q ≢ key p → SameAt a b q = λ q apart. same-at a b q (a.frame (a.place q)) (a.frame (a.place q)) refl refl
-        (same-here a.told q (a.frame (a.place q)) (a.frame (a.place q)) a.page a.page refl refl refl (λ t o. refl)) in record {
+    (same-here a.told q (a.frame (a.place q)) (a.frame (a.place q)) a.page a.page refl refl refl (λ t o. refl)) in record {
       coherent = λ g. fits-kept a b g (a.frame g) (h g) refl (λ r d. refl) (λ r d. at-other a.taken (key p) false (key r) (λ s. not-found a g r (key p) h d out (sym s))) (λ r d _ t. refl);
       after = λ i. record (shown b) {
         bytes = λ q. bytes-at a b (key p) None refl (λ r apart. at-other a.taken (key p) false r apart) others

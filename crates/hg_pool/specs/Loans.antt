@@ -75,8 +75,8 @@ shown-written a p b w told out long =
     let bytes : y.bytes ≡ b = sym (ap (λ k. if k then y.bytes else a.page p) inside) ∙ both.1 in
     let fits : refit y.bytes w ≡ w = refit-whole y.bytes w (long ∙ ap length (sym bytes)) in
     let others : (q : ℕ) → q ≢ p → SameAt a c q = λ q apart.
-        let other : is_key_of q y.page ≡ false = ap (is_key_of q) r.1 ∙ is_key_of-other q r.0 (λ e. apart (e ∙ r.2)) in
-        away a c (a.place p) x q refl refl (λ t. refl) other other in λ i. record (shown c) {
+    let other : is_key_of q y.page ≡ false = ap (is_key_of q) r.1 ∙ is_key_of-other q r.0 (λ e. apart (e ∙ r.2)) in
+    away a c (a.place p) x q refl refl (λ t. refl) other other in λ i. record (shown c) {
       bytes = λ q. bytes-at a c p (Some w) refl (λ k _. refl) others
           (ap (shown_by a.told (a.taken p) p a.page) here
           ∙ ap (λ s. if s && (a.told || pinned_by p x) then Some (held_by p a.page x) else None) both.0

@@ -1,8 +1,19 @@
 //! The two devices.
+ghost use Rattle.std.specs.Prelude.{◌≡◌, MatchResult};
 
 use crate::frames::Frame;
 use hg_base::{File, PageFault, PageId};
-use hg_io::PageDevice;
+use hg_io::{Failed, PageDevice};
+
+/// The answer of a device, with the fault that it stands for.
+fn answer(outcome: Result<(), Failed>, fault: PageFault) -> Result<(), PageFault>
+    ensures { MatchResult outcome (λ _. result ≡ Ok (tt {0})) (λ _. result ≡ Err fault) }
+{
+    match outcome {
+        Ok(()) => Ok(()),
+        Err(_) => Err(fault),
+    }
+}
 
 /// The device of the main file and that of the temporary file.
 pub(crate) struct Devices<M, T> {
@@ -25,14 +36,8 @@ impl<M: PageDevice, T: PageDevice> Devices<M, T> {
         ensures cause { DeviceCause (disks_in M.PageDevice T.PageDevice self.old) (disks_in M.PageDevice T.PageDevice self.new) result }
     {
         match page.file {
-            File::Main => match self.main.read(page.no, bytes) {
-                Ok(()) => Ok(()),
-                Err(_) => Err(PageFault::MainFault),
-            },
-            File::Temp => match self.temp.read(page.no, bytes) {
-                Ok(()) => Ok(()),
-                Err(_) => Err(PageFault::TempFault),
-            },
+            File::Main => answer(self.main.read(page.no, bytes), PageFault::MainFault),
+            File::Temp => answer(self.temp.read(page.no, bytes), PageFault::TempFault),
         }
     }
 
@@ -59,14 +64,8 @@ impl<M: PageDevice, T: PageDevice> Devices<M, T> {
         ensures cause { DeviceCause (disks_in M.PageDevice T.PageDevice self.old) (disks_in M.PageDevice T.PageDevice self.new) result }
     {
         match page.file {
-            File::Main => match self.main.write(page.no, bytes) {
-                Ok(()) => Ok(()),
-                Err(_) => Err(PageFault::MainFault),
-            },
-            File::Temp => match self.temp.write(page.no, bytes) {
-                Ok(()) => Ok(()),
-                Err(_) => Err(PageFault::TempFault),
-            },
+            File::Main => answer(self.main.write(page.no, bytes), PageFault::MainFault),
+            File::Temp => answer(self.temp.write(page.no, bytes), PageFault::TempFault),
         }
     }
 }

@@ -14,6 +14,8 @@ mod parts;
 mod places;
 mod pool;
 mod store;
+#[cfg(test)]
+mod tests;
 
 pub use pages::PoolPin;
 pub use pool::Pool;

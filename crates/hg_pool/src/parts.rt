@@ -35,10 +35,13 @@ impl<M: PageDevice, T: PageDevice> Parts<M, T> {
         ensures evictions { self.new.store.counts.evictions ≡ self.old.store.counts.evictions }
     {
         self.store.count_write();
-        match self.devices.write(page, self.store.frames[at].bytes.bytes()) {
-            Err(fault) => {
-                self.store.answers.count(fault);
-                Err(fault)
+        match self
+            .devices
+            .write(page, self.store.frames[at].bytes.bytes())
+        {
+            Err(failed) => {
+                self.store.answers.count(failed);
+                Err(failed)
             }
             Ok(()) => {
                 self.store.set_clean(at);

@@ -26,7 +26,7 @@ invariant_of-self-lent g c w =
     let there : c.at-at.result < length s.frames.items = (let P : ℕ → Type 0 = λ k. k < length s.frames.items in subst P (sym c.at-at.ensures) found.there) in
     let here : c.index_mut-frame.result.now ≡ frame_at s.frames.items c.at-at.result = frame-here s.frames.items c.at-at.result c.index_mut-frame.result.now there c.index_mut-frame.ensures.value in
     let after : with_frame s c.at-at.result (written c.index_mut-frame.result.now w) ≡ with_written s (key p) w =
-        ap (λ (y : Frame). with_frame s c.at-at.result (written y w)) here ∙ ap (λ (k : ℕ). with_frame s k (written (frame_at s.frames.items k) w)) c.at-at.ensures in
+    ap (λ (y : Frame). with_frame s c.at-at.result (written y w)) here ∙ ap (λ (k : ℕ). with_frame s k (written (frame_at s.frames.items k) w)) c.at-at.ensures in
     let Q : Store → Type 0 = λ z. IsSound d z in
     subst Q (sym after) (loan-sound d s p w c.self.invariant out)
 
@@ -42,7 +42,7 @@ returns g c =
     let there : c.at-at.result < length s.frames.items = (let P : ℕ → Type 0 = λ k. k < length s.frames.items in subst P (sym c.at-at.ensures) found.there) in
     let here : c.index_mut-frame.result.now ≡ frame_at s.frames.items c.at-at.result = frame-here s.frames.items c.at-at.result c.index_mut-frame.result.now there c.index_mut-frame.ensures.value in
     let bytes : c.bytes_mut.result.now ≡ (frame_at s.frames.items f).bytes =
-        c.bytes_mut.ensures.value ∙ ap (λ (y : Frame). y.bytes) here ∙ ap (λ (k : ℕ). (frame_at s.frames.items k).bytes) c.at-at.ensures in (
+    c.bytes_mut.ensures.value ∙ ap (λ (y : Frame). y.bytes) here ∙ ap (λ (k : ℕ). (frame_at s.frames.items k).bytes) c.at-at.ensures in (
       (
         refl,
         λ w.

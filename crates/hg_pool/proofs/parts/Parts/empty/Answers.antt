@@ -21,6 +21,6 @@ returns-clause-passes g c =
     let i : ℕ = c.args.at in
     let z : Store = c.count_eviction.new.self in
     let after : z ≡ record (with_frame s i (record (frame_at s.frames.items i) { page = None })) { counts = z.counts } =
-        recounted z c.set_empty.new.self _ c.count_eviction.ensures.counted ∙ ap (λ (y : Store). record y { counts = z.counts }) c.set_empty.ensures in
+    recounted z c.set_empty.new.self _ c.count_eviction.ensures.counted ∙ ap (λ (y : Store). record y { counts = z.counts }) c.set_empty.ensures in
     let P : Store → Type 0 = λ y. Passes {X = Unit {0}} d s d y (Ok tt) in
     subst P (sym after) (cleared d s z.counts i tt c.requires.whole c.requires.there c.requires.clean c.requires.free)

@@ -25,10 +25,10 @@ returns-in-Err-clause-passes g c =
     let a : Answers = c.count.new.self in
     let moved : w ≡ record s { counts = w.counts } = recounted w s _ c.count_read.ensures.counted in
     let here : c.index_mut-frame.result.now ≡ frame_at s.frames.items i =
-        frame-here s.frames.items i c.index_mut-frame.result.now c.requires.room.there
-        (c.index_mut-frame.ensures.value ∙ ap (λ (z : Store). slice_index_or z.frames.items i c.index_mut-frame.result.now) moved) in
+    frame-here s.frames.items i c.index_mut-frame.result.now c.requires.room.there
+    (c.index_mut-frame.ensures.value ∙ ap (λ (z : Store). slice_index_or z.frames.items i c.index_mut-frame.result.now) moved) in
     let frame : c.fill.new.frame ≡ record (frame_at s.frames.items i) { bytes = c.fill.new.frame.bytes } =
-        c.fill.ensures.rest ∙ ap (λ (y : Frame). record y { bytes = c.fill.new.frame.bytes }) here in
+    c.fill.ensures.rest ∙ ap (λ (y : Frame). record y { bytes = c.fill.new.frame.bytes }) here in
     let P : Store → Frame → Type 0 = λ z y. Passes {X = Unit {0}} d s e (record (with_frame z i y) { answers = a }) (Err c.in-Err.fault) in
     let same : w.answers ≡ s.answers = ap (λ (z : Store). z.answers) c.count_read.ensures.counted in
     subst (λ z. P z c.fill.new.frame) (sym moved) (subst (P (record s { counts = w.counts })) (sym frame)
@@ -47,14 +47,14 @@ returns-in-Ok-clause-passes g c =
     let y : Frame = c.fill.new.frame in
     let moved : w ≡ record s { counts = w.counts } = recounted w s _ c.count_read.ensures.counted in
     let here : c.index_mut-frame.result.now ≡ frame_at s.frames.items i =
-        frame-here s.frames.items i c.index_mut-frame.result.now c.requires.room.there
-        (c.index_mut-frame.ensures.value ∙ ap (λ (z : Store). slice_index_or z.frames.items i c.index_mut-frame.result.now) moved) in
+    frame-here s.frames.items i c.index_mut-frame.result.now c.requires.room.there
+    (c.index_mut-frame.ensures.value ∙ ap (λ (z : Store). slice_index_or z.frames.items i c.index_mut-frame.result.now) moved) in
     let frame : y ≡ record (frame_at s.frames.items i) { bytes = y.bytes } = c.fill.ensures.rest ∙ ap (λ (x : Frame). record x { bytes = y.bytes }) here in
     let x : Frame → Frame = λ (k : Frame). record k { page = Some p; dirty = false } in
     let after : record (with_frame w i (x y)) { places = c.set.new.self } ≡ record (with_frame s i (record { bytes = y.bytes; page = Some p; dirty = false; pinned = (frame_at s.frames.items i).pinned })) { places = with_place s.places p i; counts = w.counts } =
-        ap (λ n. record (with_frame w i (x y)) { places = n }) c.set.ensures
-        ∙ ap (λ (z : Store). record (with_frame z i (x y)) { places = with_place z.places p i }) moved
-        ∙ ap (λ (k : Frame). record (with_frame s i (x k)) { places = with_place s.places p i; counts = w.counts }) frame in
+    ap (λ n. record (with_frame w i (x y)) { places = n }) c.set.ensures
+    ∙ ap (λ (z : Store). record (with_frame z i (x y)) { places = with_place z.places p i }) moved
+    ∙ ap (λ (k : Frame). record (with_frame s i (x k)) { places = with_place s.places p i; counts = w.counts }) frame in
     let P : Store → Type 0 = λ z. Passes {X = Unit {0}} d s e z (Ok tt) in
     subst P (sym after) (read-in d e s w.counts i y.bytes p tt c.requires.whole c.requires.room
     c.fill.ensures.keeps c.in-Ok.ensures.cause c.fill.ensures.whole c.in-Ok.ensures.gives c.requires.taken c.requires.out (has-place s p c.requires.whole.shape c.requires.taken))

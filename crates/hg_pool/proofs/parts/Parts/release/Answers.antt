@@ -21,8 +21,8 @@ returns-in-Some-clause-whole g c =
     let after : c.set_empty.new.self ≡ with_frame s c.in-Some.at (record (frame_at s.frames.items c.in-Some.at) { page = None }) = c.set_empty.ensures in
     let kept = λ (z : Store). record z { maps = m } in
     let ends = gives-back d s m c.in-Some.at c.args.page c.requires.whole c.in-Some.ensures.found c.requires.not_pinned
-        (let P : Maps → Type 0 = λ n. MapsAfter n m (at (taken_at n) (key c.args.page) false) (at (next_at n) (key c.args.page) None) in
-        subst P (ap (λ (z : Store). z.maps) after) c.release.ensures) in
+    (let P : Maps → Type 0 = λ n. MapsAfter n m (at (taken_at n) (key c.args.page) false) (at (next_at n) (key c.args.page) None) in
+    subst P (ap (λ (z : Store). z.maps) after) c.release.ensures) in
     let P : Store → Type 0 = λ z. IsSound d (kept z) in subst P (sym after) ends.whole
 
 pub returns-in-Some-clause-after : goal.returns-in-Some-clause-after
@@ -33,8 +33,8 @@ returns-in-Some-clause-after g c =
     let after : c.set_empty.new.self ≡ with_frame s c.in-Some.at (record (frame_at s.frames.items c.in-Some.at) { page = None }) = c.set_empty.ensures in
     let kept = λ (z : Store). record z { maps = m } in
     let ends = gives-back d s m c.in-Some.at c.args.page c.requires.whole c.in-Some.ensures.found c.requires.not_pinned
-        (let P : Maps → Type 0 = λ n. MapsAfter n m (at (taken_at n) (key c.args.page) false) (at (next_at n) (key c.args.page) None) in
-        subst P (ap (λ (z : Store). z.maps) after) c.release.ensures) in
+    (let P : Maps → Type 0 = λ n. MapsAfter n m (at (taken_at n) (key c.args.page) false) (at (next_at n) (key c.args.page) None) in
+    subst P (ap (λ (z : Store). z.maps) after) c.release.ensures) in
     ap (λ (z : Store). shown (picture_of d (kept z))) after ∙ ends.after
 
 pub returns-in-None-clause-whole : goal.returns-in-None-clause-whole

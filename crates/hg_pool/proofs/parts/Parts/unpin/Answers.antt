@@ -19,7 +19,7 @@ returns-clause-whole g c =
     let d : Disks = disks_in g.M.PageDevice g.T.PageDevice c.args.self.now.devices in
     let at_is : c.at-at.result ≡ place_at s.places (key c.args.page) = c.at-at.ensures in
     let after : c.let_go.new.self ≡ record (with_frame s (place_at s.places (key c.args.page)) (record (frame_at s.frames.items (place_at s.places (key c.args.page))) { pinned = false })) { pins = s.pins - 1 } =
-        c.let_go.ensures ∙ ap (λ (i : ℕ). record (with_frame s i (record (frame_at s.frames.items i) { pinned = false })) { pins = s.pins - 1 }) at_is in
+    c.let_go.ensures ∙ ap (λ (i : ℕ). record (with_frame s i (record (frame_at s.frames.items i) { pinned = false })) { pins = s.pins - 1 }) at_is in
     let P : Store → Type 0 = λ z. IsSound d z in
     subst P (sym after) (lets-go d s c.args.page c.requires.whole c.requires.pinned).whole
 
@@ -29,5 +29,5 @@ returns-clause-after g c =
     let d : Disks = disks_in g.M.PageDevice g.T.PageDevice c.args.self.now.devices in
     let at_is : c.at-at.result ≡ place_at s.places (key c.args.page) = c.at-at.ensures in
     let after : c.let_go.new.self ≡ record (with_frame s (place_at s.places (key c.args.page)) (record (frame_at s.frames.items (place_at s.places (key c.args.page))) { pinned = false })) { pins = s.pins - 1 } =
-        c.let_go.ensures ∙ ap (λ (i : ℕ). record (with_frame s i (record (frame_at s.frames.items i) { pinned = false })) { pins = s.pins - 1 }) at_is in
+    c.let_go.ensures ∙ ap (λ (i : ℕ). record (with_frame s i (record (frame_at s.frames.items i) { pinned = false })) { pins = s.pins - 1 }) at_is in
     ap (λ (z : Store). shown (picture_of d z)) after ∙ (lets-go d s c.args.page c.requires.whole c.requires.pinned).after

@@ -25,11 +25,11 @@ returns-in-Err-clause-passes g c =
     let w : Store = c.count_write.new.self in
     let a : Answers = c.count.new.self in
     let moved : w ≡ record s { counts = w.counts } = c.count_write.ensures.counted ∙ ap (λ (n : PoolCounts). record s { counts = n }) (sym (ap (λ (z : Store). z.counts) c.count_write.ensures.counted)) in
-    let P : Store → Type 0 = λ z. Passes {X = Unit {0}} d s e (record z { answers = a }) (Err c.in-Err.fault) in
+    let P : Store → Type 0 = λ z. Passes {X = Unit {0}} d s e (record z { answers = a }) (Err c.in-Err.failed) in
     let same : w.answers ≡ s.answers = ap (λ (z : Store). z.answers) c.count_write.ensures.counted in
-    subst P (sym moved) (wrote-not {X = Unit {0}} d e s w.counts a c.args.at c.args.page c.in-Err.fault c.requires.whole c.requires.page c.requires.dirty
+    subst P (sym moved) (wrote-not {X = Unit {0}} d e s w.counts a c.args.at c.args.page c.in-Err.failed c.requires.whole c.requires.page c.requires.dirty
     c.write.ensures.keeps c.in-Err.ensures.cause (counted-later w.answers s.answers a same c.count.ensures.later)
-    (c.count.ensures.counted ∙ ap (λ b. counted b c.in-Err.fault) same))
+    (c.count.ensures.counted ∙ ap (λ b. counted b c.in-Err.failed) same))
 
 pub returns-in-Ok-clause-passes : goal.returns-in-Ok-clause-passes
 returns-in-Ok-clause-passes g c =
@@ -41,9 +41,9 @@ returns-in-Ok-clause-passes g c =
     let moved : w ≡ record s { counts = w.counts } = c.count_write.ensures.counted ∙ ap (λ (n : PoolCounts). record s { counts = n }) (sym (ap (λ (z : Store). z.counts) c.count_write.ensures.counted)) in
     let P : Store → Type 0 = λ z. Passes {X = Unit {0}} d s e z (Ok tt) in
     let after : c.set_clean.new.self ≡ record (with_frame s i (record (frame_at s.frames.items i) { dirty = false })) { counts = w.counts } =
-        c.set_clean.ensures ∙ ap (λ (z : Store). with_frame z i (record (frame_at z.frames.items i) { dirty = false })) moved in
+    c.set_clean.ensures ∙ ap (λ (z : Store). with_frame z i (record (frame_at z.frames.items i) { dirty = false })) moved in
     let bytes : c.bytes.result.now ≡ (frame_at s.frames.items i).bytes =
-        c.bytes.ensures.value ∙ ap (λ (y : Frame). y.bytes) (frame-here s.frames.items i c.index.result.now c.requires.there
-        (c.index.ensures ∙ ap (λ (z : Store). slice_index_or z.frames.items i c.index.result.now) moved)) in
+    c.bytes.ensures.value ∙ ap (λ (y : Frame). y.bytes) (frame-here s.frames.items i c.index.result.now c.requires.there
+    (c.index.ensures ∙ ap (λ (z : Store). slice_index_or z.frames.items i c.index.result.now) moved)) in
     subst P (sym after) (wrote d e s w.counts i c.args.page tt c.requires.whole c.requires.there c.requires.page c.write.ensures.keeps c.in-Ok.ensures.cause
     (λ t. c.in-Ok.ensures.puts t ∙ bytes))
