@@ -1,0 +1,340 @@
+-- The steps of a pool as its code makes them: on its devices and what it keeps.
+use Rattle.std.specs.Prelude.{◌≡◌, ◌≢◌, ℕ, ◌+◌, ◌-◌, ◌*◌, ◌^◌, ◌<◌, ◌≤◌, min, Bool, true, false, List, length, Option, None, Some, Result, Ok, Err, IfErr, slice_set, slice_index_or}
+use Rattle.std.proofs.Common.{sym, ◌∙◌, ap, subst, refl, arith, length-set, inl, inr}
+use Rattle.std.proofs.lemmas.Bool.Decides.{eqb_tells}
+use Rattle.hg_base.specs.Space.{Space, Counts, at, key, key_in, with_counts, IsSame}
+use Rattle.hg_base.specs.Changes.{items-set}
+use Rattle.hg_base.specs.Causes.{Later, NoneFull, PinFault, Rose}
+use Rattle.hg_base.specs.SteadyLaws.{Later_same, Later_then}
+use Rattle.hg_base.specs.declared.File.{File}
+use Rattle.hg_base.specs.declared.File.TheVariants.{Main, Temp}
+use Rattle.hg_base.specs.declared.PageId.{PageId}
+use Rattle.hg_base.specs.declared.pages.PageFault.{PageFault}
+use Rattle.hg_base.specs.declared.pages.PageFault.TheVariants as fault
+use Rattle.hg_pool.specs.Files.{by_key}
+use Rattle.hg_pool.specs.Disks.{Disks, all_told, page_on, SameShape, SamePages, SameButOne, DeviceFailed, DeviceCause}
+use Rattle.hg_pool.specs.Picture.{Picture, picture_of, counts_of, shown, frame_at, place_at, taken_at, limit_of, is_in, is_key_of}
+use Rattle.hg_pool.specs.Sound.{IsSound, IsShaped, IsCoherent, AreSound, pinned_in}
+use Rattle.hg_pool.specs.Keeping.{places_in, with_place, with_place_in, with_frame, counted, is_inside, IsFoundAt, new_frame}
+use Rattle.hg_pool.specs.Passing.{Passes, LaterAnswers, Clears, IsClean, IsRoom}
+use Rattle.hg_pool.specs.Keys.{at-main, at-temp, at-here, at-other}
+use Rattle.hg_pool.specs.Loans.{picture-frame, frames-set}
+use Rattle.hg_pool.specs.declared.frames.Frame.{Frame}
+use Rattle.hg_pool.specs.declared.places.Places.{Places}
+use Rattle.hg_pool.specs.declared.maps.Maps.{Maps}
+use Rattle.hg_pool.specs.declared.store.Answers.{Answers}
+use Rattle.hg_pool.specs.declared.store.Store.{Store}
+use Rattle.hg_pool.specs.declared.PoolCounts.{PoolCounts}
+use Rattle.hg_pool.proofs.Steps.{Keeps, cleaned, write-failed, emptied, blurred, loaded}
+use Rattle.hg_pool.proofs.Counting.{pins-same}
+
+place-set-in : (s : Places) (file : File) (n f : ℕ) → n < places_in s file → place_at (with_place_in s file n f) ≡ at (place_at s) (key_in file n) f
+place-set-in s Main n f h =
+    let temp : ℕ → ℕ = λ k. slice_index_or s.temp.items k 0 in
+    ap (λ g. by_key g temp) (items-set s.main.items n f 0 h) ∙ at-main (λ k. slice_index_or s.main.items k 0) temp n f
+place-set-in s Temp n f h =
+    let main : ℕ → ℕ = λ k. slice_index_or s.main.items k 0 in
+    ap (λ g. by_key main g) (items-set s.temp.items n f 0 h) ∙ at-temp main (λ k. slice_index_or s.temp.items k 0) n f
+
+-- a place that is noted is a change at the page's key
+pub place-set : (s : Places) (page : PageId) (f : ℕ) → page.no < places_in s page.file → place_at (with_place s page f) ≡ at (place_at s) (key page) f
+place-set s page f h = place-set-in s page.file page.no f h
+
+main-places-in : (s : Places) (file : File) (n f : ℕ) → length (with_place_in s file n f).main.items ≡ length s.main.items
+main-places-in s Main n f = length-set s.main.items n f
+main-places-in s Temp n f = refl
+
+temp-places-in : (s : Places) (file : File) (n f : ℕ) → length (with_place_in s file n f).temp.items ≡ length s.temp.items
+temp-places-in s Main n f = refl
+temp-places-in s Temp n f = length-set s.temp.items n f
+
+pub main-places : (s : Places) (page : PageId) (f : ℕ) → length (with_place s page f).main.items ≡ length s.main.items
+main-places s page f = main-places-in s page.file page.no f
+
+pub temp-places : (s : Places) (page : PageId) (f : ℕ) → length (with_place s page f).temp.items ≡ length s.temp.items
+temp-places s page f = temp-places-in s page.file page.no f
+
+-- the shape of a store whose maps, places and frames are as many as before
+pub shape-kept : (s z : Store) → IsShaped s → pinned_in z.frames.items ≡ z.pins → z.pins ≤ 8 → length z.frames.items ≡ length s.frames.items
+    → z.hand ≤ length z.frames.items → (AreSound s.maps → AreSound z.maps) → limit_of z.maps ≡ limit_of s.maps
+    → length z.places.main.items ≡ length s.places.main.items → length z.places.temp.items ≡ length s.places.temp.items → IsShaped z
+shape-kept s z h counted few frames hand maps limit main temp = record {
+  counted = counted;
+  few = few;
+  at_least = (let l = h.at_least in omega arith);
+  at_most = (let l = h.at_most in omega arith);
+  hand = hand;
+  maps = maps h.maps;
+  main_places = main ∙ h.main_places ∙ sym (ap (λ l. l Main) limit);
+  temp_places = temp ∙ h.temp_places ∙ sym (ap (λ l. l Temp) limit);
+}
+
+-- a fault of a device that was counted
+pub device-fault : (d e : Disks) (s z : Store) (f : PageFault) → DeviceFailed d e f → z.answers ≡ counted s.answers f → PinFault (shown (picture_of d s)) (shown (picture_of e z)) f
+device-fault d e s z fault.MainFault h a = (let l = ap (λ (x : Answers). x.main) a in omega arith, h)
+device-fault d e s z fault.TempFault h a = (let l = ap (λ (x : Answers). x.temp) a in omega arith, h)
+device-fault d e s z fault.MainFull h a = h
+device-fault d e s z fault.TempFull h a = h
+device-fault d e s z (fault.Damaged page check) h a = h
+
+device-none_full : (d e : Disks) (s z : Store) (f : PageFault) → DeviceFailed d e f → z.answers ≡ counted s.answers f → NoneFull (counts_of d s) (counts_of e z)
+device-none_full d e s z fault.MainFault h a = record { main_full = ap (λ (x : Answers). x.main_full) a; temp_full = ap (λ (x : Answers). x.temp_full) a }
+device-none_full d e s z fault.TempFault h a = record { main_full = ap (λ (x : Answers). x.main_full) a; temp_full = ap (λ (x : Answers). x.temp_full) a }
+device-none_full d e s z fault.MainFull h a = absurd h
+device-none_full d e s z fault.TempFull h a = absurd h
+device-none_full d e s z (fault.Damaged page check) h a = absurd h
+
+same-none_full : (d e : Disks) (s z : Store) → z.answers ≡ s.answers → NoneFull (counts_of d s) (counts_of e z)
+same-none_full d e s z a = record { main_full = ap (λ (x : Answers). x.main_full) a; temp_full = ap (λ (x : Answers). x.temp_full) a }
+
+later-of : {X : Type 0} (d e : Disks) (s z : Store) (r : Result X PageFault) → DeviceCause d e r → LaterAnswers s.answers z.answers → Later (counts_of d s) (counts_of e z)
+later-of d e s z r h a = record {
+  main_device = h.main;
+  temp_device = h.temp;
+  main = a.main;
+  temp = a.temp;
+  main_full = a.main_full;
+  temp_full = a.temp_full;
+}
+
+later-same : {X : Type 0} (d e : Disks) (s z : Store) (r : Result X PageFault) → DeviceCause d e r → z.answers ≡ s.answers → Later (counts_of d s) (counts_of e z)
+later-same d e s z r h a = record {
+  main_device = h.main;
+  temp_device = h.temp;
+  main = (let l = ap (λ (x : Answers). x.main) a in omega arith);
+  temp = (let l = ap (λ (x : Answers). x.temp) a in omega arith);
+  main_full = (let l = ap (λ (x : Answers). x.main_full) a in omega arith);
+  temp_full = (let l = ap (λ (x : Answers). x.temp_full) a in omega arith);
+}
+
+-- what Keeps says, along another name of the picture
+keeps-sound : (d e : Disks) (s z : Store) (b : Picture) → picture_of e z ≡ b → Keeps (picture_of d s) b → SameShape d e → limit_of z.maps ≡ limit_of s.maps
+    → IsSound d s → IsShaped z → IsSound e z
+keeps-sound d e s z b p k shape limit h made =
+    let P : Picture → Type 0 = λ v. IsCoherent v in record {
+      coherent = subst P (sym p) k.coherent;
+      shape = made;
+      main_fits = (let l = h.main_fits in let m = shape.main in let n = ap (λ g. g Main) limit in omega arith);
+      temp_fits = (let l = h.temp_fits in let m = shape.temp in let n = ap (λ g. g Temp) limit in omega arith);
+    }
+
+keeps-same : (d e : Disks) (s z : Store) (b : Picture) → picture_of e z ≡ b → Keeps (picture_of d s) b → IsSame (shown (picture_of d s)) (shown (picture_of e z))
+keeps-same d e s z b p k = record { counts = b.counts; after = ap shown p ∙ k.same }
+
+-- The frames that a step leaves.
+
+out-at : (frame : ℕ → Frame) (place : ℕ → ℕ) (f : ℕ) (x : Frame) (q : ℕ) → (is_key_of q (frame f).page ≡ false → is_key_of q x.page ≡ false)
+    → is_in frame place q ≡ false → is_in (at frame f x) place q ≡ false
+out-at frame place f x q h out =
+    elim (eqb_tells (place q) f) [
+      | inl e ↦ ap (λ (y : Frame). is_key_of q y.page) (ap (at frame f x) e.1 ∙ at-here frame f x) ∙ h (sym (ap (λ k. is_key_of q (frame k).page) e.1) ∙ out)
+      | inr n ↦ ap (λ (y : Frame). is_key_of q y.page) (at-other frame f x (place q) n.1) ∙ out
+    ]
+
+-- a frame that changed, but not to another page
+pub clears-frame : (s : Store) (f : ℕ) (x : Frame) (n : PoolCounts) → f < length s.frames.items → n.reads ≡ s.counts.reads
+    → ((q : ℕ) → is_key_of q (frame_at s.frames.items f).page ≡ false → is_key_of q x.page ≡ false)
+    → Clears s (record (with_frame s f x) { counts = n })
+clears-frame s f x n there reads h = record {
+  maps = refl;
+  places = refl;
+  pins = refl;
+  frames = length-set s.frames.items f x;
+  out = λ q out. ap (λ g. is_in g (place_at s.places) q) (frames-set s.frames.items f x there) ∙ out-at (frame_at s.frames.items) (place_at s.places) f x q (h q) out;
+  reads = reads;
+}
+
+pub clears-then : (a b c : Store) → Clears a b → Clears b c → Clears a c
+clears-then a b c p r = record {
+  maps = r.maps ∙ p.maps;
+  places = r.places ∙ p.places;
+  pins = r.pins ∙ p.pins;
+  frames = r.frames ∙ p.frames;
+  out = λ q o. r.out q (p.out q o);
+  reads = r.reads ∙ p.reads;
+}
+
+-- One step behind another.
+
+fault-behind : (a b c : Space) (f : PageFault) → Later a.counts b.counts → PinFault b c f → PinFault a c f
+fault-behind a b c fault.MainFault l h = (let seen = h.0 in omega arith, let own = h.1 in omega arith)
+fault-behind a b c fault.TempFault l h = (let seen = h.0 in omega arith, let own = h.1 in omega arith)
+fault-behind a b c fault.MainFull l h = h
+fault-behind a b c fault.TempFull l h = h
+fault-behind a b c (fault.Damaged page check) l h = h
+
+if-fault-behind : {X : Type 0} (a b c : Space) (r : Result X PageFault) → Later a.counts b.counts → IfErr r (λ f. PinFault b c f) → IfErr r (λ f. PinFault a c f)
+if-fault-behind a b c (Ok x) l h = h
+if-fault-behind a b c (Err f) l h = fault-behind a b c f l h
+
+pub passes-then : {X Y : Type 0} (d e g : Disks) (s z w : Store) (r : Result X PageFault) (u : Result Y PageFault) → Passes d s e z r → Passes e z g w u → Passes d s g w u
+passes-then d e g s z w r u p k = record {
+  whole = k.whole;
+  same = record { counts = k.same.counts; after = k.same.after ∙ ap (λ v. with_counts v k.same.counts) p.same.after };
+  later = Later_then (counts_of d s) (counts_of e z) (counts_of g w) p.later k.later;
+  none_full = record { main_full = k.none_full.main_full ∙ p.none_full.main_full; temp_full = k.none_full.temp_full ∙ p.none_full.temp_full };
+  fault = if-fault-behind (shown (picture_of d s)) (shown (picture_of e z)) (shown (picture_of g w)) u p.later k.fault;
+}
+
+-- the answer may be put otherwise where it is no fault
+pub passes-ok : {X Y : Type 0} (d e : Disks) (s z : Store) (x : X) (y : Y) → Passes d s e z (Ok x) → Passes d s e z (Ok y)
+passes-ok d e s z x y p = record { whole = p.whole; same = p.same; later = p.later; none_full = p.none_full; fault = p.fault }
+
+pub passes-err : {X Y : Type 0} (d e : Disks) (s z : Store) (f : PageFault) → Passes {X = X} d s e z (Err f) → Passes {X = Y} d s e z (Err f)
+passes-err d e s z f p = record { whole = p.whole; same = p.same; later = p.later; none_full = p.none_full; fault = p.fault }
+
+-- The steps.
+
+same-disks : (d : Disks) → SameShape d d
+same-disks d = record { told = refl; main = refl; temp = refl }
+
+-- nothing happened but that the hand moved and counts of work rose
+pub moved : {X : Type 0} (d : Disks) (s : Store) (hand : ℕ) (n : PoolCounts) (x : X) → IsSound d s → hand ≤ length s.frames.items
+    → Passes d s d (record s { hand = hand; counts = n }) (Ok x)
+moved d s hand n x h l =
+    let z : Store = record s { hand = hand; counts = n } in record {
+      whole = record {
+        coherent = h.coherent;
+        shape = shape-kept s z h.shape h.shape.counted h.shape.few refl l (λ m. m) refl refl refl;
+        main_fits = h.main_fits;
+        temp_fits = h.temp_fits;
+      };
+      same = record { counts = counts_of d s; after = refl };
+      later = Later_same (counts_of d s);
+      none_full = record { main_full = refl; temp_full = refl };
+      fault = tt;
+    }
+
+-- a write of a frame's page failed
+pub wrote-not : {X : Type 0} (d e : Disks) (s : Store) (n : PoolCounts) (a : Answers) (f : ℕ) (p : PageId) (x : PageFault) → IsSound d s
+    → (frame_at s.frames.items f).page ≡ Some p → (frame_at s.frames.items f).dirty ≡ true → SameButOne d e (key p) → DeviceCause {X = X} d e (Err x)
+    → LaterAnswers s.answers a → a ≡ counted s.answers x → Passes {X = X} d s e (record s { counts = n; answers = a }) (Err x)
+wrote-not {X} d e s n a f p x h page dirty kept cause later counts =
+    let z : Store = record s { counts = n; answers = a } in
+    let b : Picture = record (picture_of d s) { page = page_on e; counts = counts_of e z } in
+    let keeps : Keeps (picture_of d s) b = write-failed (picture_of d s) f p (page_on e) (counts_of e z) h.coherent page dirty kept.others in
+    let same : picture_of e z ≡ b = λ i. record (picture_of e z) { told = kept.shape.told i } in record {
+      whole = keeps-sound d e s z b same keeps kept.shape refl h (shape-kept s z h.shape h.shape.counted h.shape.few refl h.shape.hand (λ m. m) refl refl refl);
+      same = keeps-same d e s z b same keeps;
+      later = later-of {X = X} d e s z (Err x) cause later;
+      none_full = device-none_full d e s z x cause.failed counts;
+      fault = device-fault d e s z x cause.failed counts;
+    }
+
+-- a frame's page was written
+pub wrote : {X : Type 0} (d e : Disks) (s : Store) (n : PoolCounts) (f : ℕ) (p : PageId) (x : X) → IsSound d s → f < length s.frames.items
+    → (frame_at s.frames.items f).page ≡ Some p → SameButOne d e (key p) → DeviceCause d e (Ok x)
+    → (all_told d ≡ true → page_on e (key p) ≡ (frame_at s.frames.items f).bytes)
+    → Passes d s e (record (with_frame s f (record (frame_at s.frames.items f) { dirty = false })) { counts = n }) (Ok x)
+wrote d e s n f p x h there page kept cause put =
+    let y : Frame = record (frame_at s.frames.items f) { dirty = false } in
+    let z : Store = record (with_frame s f y) { counts = n } in
+    let b : Picture = record (picture_of d s) { frame = at (frame_at s.frames.items) f y; page = page_on e; counts = counts_of e z } in
+    let keeps : Keeps (picture_of d s) b = cleaned (picture_of d s) f p (page_on e) (counts_of e z) h.coherent page put kept.others in
+    let same : picture_of e z ≡ b = λ i. record (picture_of e z) {
+      told = kept.shape.told i;
+      frame = frames-set s.frames.items f y there i;
+      current = length-set s.frames.items f y i;
+    } in record {
+      whole = keeps-sound d e s z b same keeps kept.shape refl h
+          (shape-kept s z h.shape (pins-same s.frames.items f y there refl ∙ h.shape.counted) h.shape.few (length-set s.frames.items f y)
+          (let l = h.shape.hand in let k = length-set s.frames.items f y in omega arith) (λ m. m) refl refl refl);
+      same = keeps-same d e s z b same keeps;
+      later = later-same d e s z (Ok x) cause refl;
+      none_full = same-none_full d e s z refl;
+      fault = tt;
+    }
+
+-- a frame became empty
+pub cleared : {X : Type 0} (d : Disks) (s : Store) (n : PoolCounts) (f : ℕ) (x : X) → IsSound d s → f < length s.frames.items
+    → IsClean (frame_at s.frames.items f) → (frame_at s.frames.items f).pinned ≡ false
+    → Passes d s d (record (with_frame s f (record (frame_at s.frames.items f) { page = None })) { counts = n }) (Ok x)
+cleared d s n f x h there clean free =
+    let y : Frame = record (frame_at s.frames.items f) { page = None } in
+    let z : Store = record (with_frame s f y) { counts = n } in
+    let b : Picture = record (picture_of d s) { frame = at (frame_at s.frames.items) f y } in
+    let keeps : Keeps (picture_of d s) b = emptied (picture_of d s) f h.coherent clean free in
+    let same : picture_of d z ≡ b = λ i. record (picture_of d z) { frame = frames-set s.frames.items f y there i; current = length-set s.frames.items f y i } in record {
+      whole = keeps-sound d d s z b same keeps (same-disks d) refl h
+          (shape-kept s z h.shape (pins-same s.frames.items f y there refl ∙ h.shape.counted) h.shape.few (length-set s.frames.items f y)
+          (let l = h.shape.hand in let k = length-set s.frames.items f y in omega arith) (λ m. m) refl refl refl);
+      same = keeps-same d d s z b same keeps;
+      later = Later_same (counts_of d s);
+      none_full = record { main_full = refl; temp_full = refl };
+      fault = tt;
+    }
+
+-- a read into an empty frame failed
+pub read-not : {X : Type 0} (d e : Disks) (s : Store) (n : PoolCounts) (a : Answers) (f : ℕ) (bytes : List ℕ) (x : PageFault) → IsSound d s → f < length s.frames.items
+    → (frame_at s.frames.items f).page ≡ None → SamePages d e → DeviceCause {X = X} d e (Err x)
+    → LaterAnswers s.answers a → a ≡ counted s.answers x
+    → Passes {X = X} d s e (record (with_frame s f (record (frame_at s.frames.items f) { bytes = bytes })) { counts = n; answers = a }) (Err x)
+read-not {X} d e s n a f bytes x h there page kept cause later counts =
+    let y : Frame = record (frame_at s.frames.items f) { bytes = bytes } in
+    let z : Store = record (with_frame s f y) { counts = n; answers = a } in
+    let b : Picture = record (picture_of d s) { frame = at (frame_at s.frames.items) f y; page = page_on e; counts = counts_of e z } in
+    let keeps : Keeps (picture_of d s) b = blurred (picture_of d s) f y (page_on e) (counts_of e z) h.coherent page page kept.pages in
+    let same : picture_of e z ≡ b = λ i. record (picture_of e z) {
+      told = kept.shape.told i;
+      frame = frames-set s.frames.items f y there i;
+      current = length-set s.frames.items f y i;
+    } in record {
+      whole = keeps-sound d e s z b same keeps kept.shape refl h
+          (shape-kept s z h.shape (pins-same s.frames.items f y there refl ∙ h.shape.counted) h.shape.few (length-set s.frames.items f y)
+          (let l = h.shape.hand in let k = length-set s.frames.items f y in omega arith) (λ m. m) refl refl refl);
+      same = keeps-same d e s z b same keeps;
+      later = later-of {X = X} d e s z (Err x) cause later;
+      none_full = device-none_full d e s z x cause.failed counts;
+      fault = device-fault d e s z x cause.failed counts;
+    }
+
+-- a page was read into an empty frame
+pub read-in : {X : Type 0} (d e : Disks) (s : Store) (n : PoolCounts) (f : ℕ) (bytes : List ℕ) (p : PageId) (x : X) → IsSound d s → IsRoom s f
+    → SamePages d e → DeviceCause d e (Ok x) → length bytes ≡ 4096 → (all_told d ≡ true → bytes ≡ page_on d (key p))
+    → taken_at s.maps (key p) ≡ true → is_inside s (key p) ≡ false → p.no < places_in s.places p.file
+    → Passes d s e (record (with_frame s f (record { bytes = bytes; page = Some p; dirty = false; pinned = (frame_at s.frames.items f).pinned })) { places = with_place s.places p f; counts = n }) (Ok x)
+read-in d e s n f bytes p x h room kept cause whole gives taken out in_range =
+    let y : Frame = record { bytes = bytes; page = Some p; dirty = false; pinned = (frame_at s.frames.items f).pinned } in
+    let y' : Frame = record { bytes = bytes; page = Some p; dirty = false; pinned = false } in
+    let z : Store = record (with_frame s f y) { places = with_place s.places p f; counts = n } in
+    let b : Picture = record (picture_of d s) { frame = at (frame_at s.frames.items) f y'; place = at (place_at s.places) (key p) f; page = page_on e; counts = counts_of e z } in
+    let keeps : Keeps (picture_of d s) b = loaded (picture_of d s) f p bytes (page_on e) (counts_of e z) h.coherent room.none taken out whole gives kept.pages in
+    let frames : frame_at (slice_set s.frames.items f y) ≡ at (frame_at s.frames.items) f y' =
+    frames-set s.frames.items f y room.there ∙ ap (λ k. at (frame_at s.frames.items) f (record y { pinned = k })) room.free in
+    let same : picture_of e z ≡ b = λ i. record (picture_of e z) {
+      told = kept.shape.told i;
+      frame = frames i;
+      place = place-set s.places p f in_range i;
+      current = length-set s.frames.items f y i;
+    } in record {
+      whole = keeps-sound d e s z b same keeps kept.shape refl h
+          (shape-kept s z h.shape (pins-same s.frames.items f y room.there refl ∙ h.shape.counted) h.shape.few (length-set s.frames.items f y)
+          (let l = h.shape.hand in let k = length-set s.frames.items f y in omega arith) (λ m. m) refl (main-places s.places p f) (temp-places s.places p f));
+      same = keeps-same d e s z b same keeps;
+      later = later-same d e s z (Ok x) cause refl;
+      none_full = same-none_full d e s z refl;
+      fault = tt;
+    }
+
+pub counted-later : (w s a : Answers) → w ≡ s → LaterAnswers w a → LaterAnswers s a
+counted-later w s a e h = let P : Answers → Type 0 = λ x. LaterAnswers x a in subst P e h
+
+-- a store whose counts alone are other ones
+pub recounted : (z w : Store) (n : PoolCounts) → z ≡ record w { counts = n } → z ≡ record w { counts = z.counts }
+recounted z w n e = e ∙ ap (λ m. record w { counts = m }) (sym (ap (λ (y : Store). y.counts) e))
+
+-- the frame that was set
+pub frame-set : (s : Store) (f : ℕ) (x : Frame) → f < length s.frames.items → frame_at (with_frame s f x).frames.items f ≡ x
+frame-set s f x h = ap (λ g. g f) (frames-set s.frames.items f x h) ∙ at-here (frame_at s.frames.items) f x
+
+pub room-at : (s : Store) (f : ℕ) (x : Frame) (n : PoolCounts) → f < length s.frames.items → x.page ≡ None → x.pinned ≡ false → IsRoom (record (with_frame s f x) { counts = n }) f
+room-at s f x n there page free = record {
+  there = (let l = length-set s.frames.items f x in omega arith);
+  none = ap (λ (y : Frame). y.page) (frame-set s f x there) ∙ page;
+  free = ap (λ (y : Frame). y.pinned) (frame-set s f x there) ∙ free;
+}
+
+-- the same of a store that is named otherwise
+pub moved-hand : {X : Type 0} (d : Disks) (s z : Store) (hand : ℕ) (x : X) → IsSound d s → hand ≤ length s.frames.items → z ≡ record s { hand = hand } → Passes d s d z (Ok x)
+moved-hand d s z hand x h l e =
+    let P : Store → Type 0 = λ y. Passes d s d y (Ok x) in subst P (sym e) (moved d s hand s.counts x h l)

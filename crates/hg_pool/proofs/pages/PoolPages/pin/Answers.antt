@@ -1,0 +1,20 @@
+use Rattle.std.proofs.Common.{◌≡◌, ◌∙◌, ap, sym, subst, Err, OnErr, Result}
+use Rattle.std.proofs.lemmas.Result.{err_from_is_err_and}
+use Rattle.hg_base.specs.Space.{key, IsSame, IsPinned, IsMade}
+use Rattle.hg_base.specs.declared.pages.PageFault.{PageFault}
+use Rattle.hg_pool.specs.Shown.{state_of}
+use Rattle.hg_pool.specs.declared.parts.Parts.{Parts}
+use Rattle.hg_pool.specs.declared.pages.PoolPin.{PoolPin}
+use Rattle.hg_pool.proofs.pages.PoolPages.pin.Goals as goal
+
+pub returns-in_err-pin-clause-err : goal.returns-in_err-pin-clause-err
+returns-in_err-pin-clause-err g c =
+    let p = err_from_is_err_and c.from_residual.result c.from_residual.ensures.1 in
+    let P : Parts g.row.M.Denot g.row.T.Denot → Type 0 = λ s. IsSame (state_of g.M.PageDevice g.T.PageDevice s) (state_of g.M.PageDevice g.T.PageDevice c.pin.new.self) in
+    let Q : Result PoolPin PageFault → Type 0 = λ r. OnErr r (P c.args.self.now) in
+    subst Q (sym p.1) (subst P c.self.view_is c.in_err-pin.ensures.err)
+
+pub returns-clause-ok : goal.returns-clause-ok
+returns-clause-ok g c =
+    let P : Parts g.row.M.Denot g.row.T.Denot → Type 0 = λ s. IsPinned (state_of g.M.PageDevice g.T.PageDevice s) (state_of g.M.PageDevice g.T.PageDevice c.pin.new.self) (key c.args.page) in
+    subst P c.self.view_is c.in_ok-pin.ensures.ok

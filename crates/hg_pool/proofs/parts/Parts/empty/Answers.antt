@@ -1,0 +1,26 @@
+use Rattle.std.proofs.Common.{◌≡◌, ℕ, ◌+◌, ◌≤◌, ◌∙◌, ap, sym, subst, refl, Ok, Err, Some, None, true, false, slice_index_or, length, arith}
+use Rattle.hg_base.specs.declared.PageId.{PageId}
+use Rattle.hg_base.specs.declared.pages.PageFault.{PageFault}
+use Rattle.hg_pool.specs.Disks.{Disks, disks_in}
+use Rattle.hg_pool.specs.Picture.{frame_at}
+use Rattle.hg_pool.specs.Keeping.{with_frame, with_place, counted}
+use Rattle.hg_pool.specs.Passing.{Passes, LaterAnswers}
+use Rattle.hg_pool.specs.declared.frames.Frame.{Frame}
+use Rattle.hg_pool.specs.declared.PoolCounts.{PoolCounts}
+use Rattle.hg_pool.specs.declared.store.Answers.{Answers}
+use Rattle.hg_pool.specs.declared.store.Store.{Store}
+use Rattle.hg_pool.proofs.Counting.{frame-here}
+use Rattle.hg_pool.proofs.Ranges.{held-on-device}
+use Rattle.hg_pool.proofs.Passing.{cleared, recounted}
+use Rattle.hg_pool.proofs.parts.Parts.empty.Goals as goal
+
+pub returns-clause-passes : goal.returns-clause-passes
+returns-clause-passes g c =
+    let s : Store = c.args.self.now.store in
+    let d : Disks = disks_in g.M.PageDevice g.T.PageDevice c.args.self.now.devices in
+    let i : ℕ = c.args.at in
+    let z : Store = c.count_eviction.new.self in
+    let after : z ≡ record (with_frame s i (record (frame_at s.frames.items i) { page = None })) { counts = z.counts } =
+    recounted z c.set_empty.new.self _ c.count_eviction.ensures.counted ∙ ap (λ (y : Store). record y { counts = z.counts }) c.set_empty.ensures in
+    let P : Store → Type 0 = λ y. Passes {X = Unit {0}} d s d y (Ok tt) in
+    subst P (sym after) (cleared d s z.counts i tt c.requires.whole c.requires.there c.requires.clean c.requires.free)

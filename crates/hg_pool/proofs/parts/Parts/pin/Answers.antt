@@ -1,0 +1,55 @@
+use Rattle.std.proofs.Common.{◌≡◌, ℕ, ◌+◌, ◌-◌, ◌<◌, ◌≤◌, ◌∙◌, ap, sym, subst, refl, Ok, Err, Some, None, true, false, arith, Result, Bool}
+use Rattle.hg_base.specs.Space.{Space, key, with_next, without_pin, without_page, IsPinned, IsSame}
+use Rattle.hg_base.specs.declared.PageId.{PageId}
+use Rattle.hg_base.specs.declared.pages.PageFault.{PageFault}
+use Rattle.hg_pool.specs.Disks.{Disks, disks_in}
+use Rattle.hg_pool.specs.Picture.{shown, picture_of, counts_of, frame_at, place_at, is_in}
+use Rattle.hg_pool.specs.Sound.{IsSound}
+use Rattle.hg_pool.specs.Keeping.{with_frame}
+use Rattle.hg_pool.specs.Passing.{Passes}
+use Rattle.hg_pool.specs.declared.frames.Frame.{Frame}
+use Rattle.hg_pool.specs.declared.maps.Maps.{Maps}
+use Rattle.hg_pool.specs.declared.store.Store.{Store}
+use Rattle.hg_pool.specs.Keeping.{is_inside}
+use Rattle.hg_pool.proofs.Calling.{holds-pin, still-free, pinned-behind}
+use Rattle.hg_pool.proofs.parts.Parts.pin.Goals as goal
+
+pub returns-clause-whole : goal.returns-clause-whole
+returns-clause-whole g c =
+    let s : Store = c.args.self.now.store in
+    let d : Disks = disks_in g.M.PageDevice g.T.PageDevice c.args.self.now.devices in
+    let e : Disks = disks_in g.M.PageDevice g.T.PageDevice c.bring.new.self.devices in
+    let z : Store = c.bring.new.self.store in
+    let i : ℕ = c.in_ok-at.at in
+    let free : (frame_at z.frames.items i).pinned ≡ false = still-free d e s z (Ok i) i c.args.page c.in_ok-at.ensures.passes c.in_ok-at.ensures.found c.requires.not_pinned in
+    let few : z.pins < 8 = (let l = c.in_ok-at.ensures.pins in let k = c.requires.few in omega arith) in
+    let holds = holds-pin e z i c.args.page c.in_ok-at.ensures.passes.whole c.in_ok-at.ensures.found free few in
+    let after : c.hold.new.self ≡ record (with_frame z i (record (frame_at z.frames.items i) { pinned = true })) { pins = z.pins + 1 } = c.hold.ensures in
+    let P : Store → Type 0 = λ y. IsSound e y in subst P (sym after) holds.whole
+
+pub returns-clause-ok : goal.returns-clause-ok
+returns-clause-ok g c =
+    let s : Store = c.args.self.now.store in
+    let d : Disks = disks_in g.M.PageDevice g.T.PageDevice c.args.self.now.devices in
+    let e : Disks = disks_in g.M.PageDevice g.T.PageDevice c.bring.new.self.devices in
+    let z : Store = c.bring.new.self.store in
+    let i : ℕ = c.in_ok-at.at in
+    let free : (frame_at z.frames.items i).pinned ≡ false = still-free d e s z (Ok i) i c.args.page c.in_ok-at.ensures.passes c.in_ok-at.ensures.found c.requires.not_pinned in
+    let few : z.pins < 8 = (let l = c.in_ok-at.ensures.pins in let k = c.requires.few in omega arith) in
+    let holds = holds-pin e z i c.args.page c.in_ok-at.ensures.passes.whole c.in_ok-at.ensures.found free few in
+    let after : c.hold.new.self ≡ record (with_frame z i (record (frame_at z.frames.items i) { pinned = true })) { pins = z.pins + 1 } = c.hold.ensures in
+    let P : Store → Type 0 = λ y. IsPinned (shown (picture_of d s)) (shown (picture_of e y)) (key c.args.page) in
+    subst P (sym after) (pinned-behind (shown (picture_of d s)) (shown (picture_of e z)) _ (key c.args.page) c.in_ok-at.ensures.passes.same holds.ok)
+
+pub returns-clause-in_frame : goal.returns-clause-in_frame
+returns-clause-in_frame g c =
+    let s : Store = c.args.self.now.store in
+    let d : Disks = disks_in g.M.PageDevice g.T.PageDevice c.args.self.now.devices in
+    let e : Disks = disks_in g.M.PageDevice g.T.PageDevice c.bring.new.self.devices in
+    let z : Store = c.bring.new.self.store in
+    let i : ℕ = c.in_ok-at.at in
+    let free : (frame_at z.frames.items i).pinned ≡ false = still-free d e s z (Ok i) i c.args.page c.in_ok-at.ensures.passes c.in_ok-at.ensures.found c.requires.not_pinned in
+    let few : z.pins < 8 = (let l = c.in_ok-at.ensures.pins in let k = c.requires.few in omega arith) in
+    let holds = holds-pin e z i c.args.page c.in_ok-at.ensures.passes.whole c.in_ok-at.ensures.found free few in
+    let after : c.hold.new.self ≡ record (with_frame z i (record (frame_at z.frames.items i) { pinned = true })) { pins = z.pins + 1 } = c.hold.ensures in
+    ap (λ (y : Store). is_inside y (key c.args.page)) after ∙ holds.inside

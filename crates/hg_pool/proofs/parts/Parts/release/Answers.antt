@@ -1,0 +1,52 @@
+use Rattle.std.proofs.Common.{◌≡◌, ℕ, ◌+◌, ◌-◌, ◌≤◌, ◌∙◌, ap, sym, subst, refl, Ok, Err, Some, None, true, false, arith, Result, Bool}
+use Rattle.hg_base.specs.Space.{Space, key, at, with_next, without_pin, without_page, IsPinned, IsSame}
+use Rattle.hg_base.specs.declared.PageId.{PageId}
+use Rattle.hg_base.specs.declared.pages.PageFault.{PageFault}
+use Rattle.hg_pool.specs.Disks.{Disks, disks_in}
+use Rattle.hg_pool.specs.Picture.{shown, picture_of, counts_of, frame_at, place_at, taken_at, next_at}
+use Rattle.hg_pool.specs.Sound.{IsSound}
+use Rattle.hg_pool.specs.Keeping.{with_frame, MapsAfter}
+use Rattle.hg_pool.specs.Passing.{Passes}
+use Rattle.hg_pool.specs.declared.frames.Frame.{Frame}
+use Rattle.hg_pool.specs.declared.maps.Maps.{Maps}
+use Rattle.hg_pool.specs.declared.store.Store.{Store}
+use Rattle.hg_pool.proofs.Calling.{gives-back, gives-back-out}
+use Rattle.hg_pool.proofs.parts.Parts.release.Goals as goal
+
+pub returns-in-Some-clause-whole : goal.returns-in-Some-clause-whole
+returns-in-Some-clause-whole g c =
+    let s : Store = c.args.self.now.store in
+    let d : Disks = disks_in g.M.PageDevice g.T.PageDevice c.args.self.now.devices in
+    let m : Maps = c.release.new.self in
+    let after : c.set_empty.new.self ≡ with_frame s c.in-Some.at (record (frame_at s.frames.items c.in-Some.at) { page = None }) = c.set_empty.ensures in
+    let kept = λ (z : Store). record z { maps = m } in
+    let ends = gives-back d s m c.in-Some.at c.args.page c.requires.whole c.in-Some.ensures.found c.requires.not_pinned
+    (let P : Maps → Type 0 = λ n. MapsAfter n m (at (taken_at n) (key c.args.page) false) (at (next_at n) (key c.args.page) None) in
+    subst P (ap (λ (z : Store). z.maps) after) c.release.ensures) in
+    let P : Store → Type 0 = λ z. IsSound d (kept z) in subst P (sym after) ends.whole
+
+pub returns-in-Some-clause-after : goal.returns-in-Some-clause-after
+returns-in-Some-clause-after g c =
+    let s : Store = c.args.self.now.store in
+    let d : Disks = disks_in g.M.PageDevice g.T.PageDevice c.args.self.now.devices in
+    let m : Maps = c.release.new.self in
+    let after : c.set_empty.new.self ≡ with_frame s c.in-Some.at (record (frame_at s.frames.items c.in-Some.at) { page = None }) = c.set_empty.ensures in
+    let kept = λ (z : Store). record z { maps = m } in
+    let ends = gives-back d s m c.in-Some.at c.args.page c.requires.whole c.in-Some.ensures.found c.requires.not_pinned
+    (let P : Maps → Type 0 = λ n. MapsAfter n m (at (taken_at n) (key c.args.page) false) (at (next_at n) (key c.args.page) None) in
+    subst P (ap (λ (z : Store). z.maps) after) c.release.ensures) in
+    ap (λ (z : Store). shown (picture_of d (kept z))) after ∙ ends.after
+
+pub returns-in-None-clause-whole : goal.returns-in-None-clause-whole
+returns-in-None-clause-whole g c =
+    let s : Store = c.args.self.now.store in
+    let d : Disks = disks_in g.M.PageDevice g.T.PageDevice c.args.self.now.devices in
+    let ends = gives-back-out d s c.release-in-None.new.self c.args.page c.requires.whole c.in-None.ensures.none c.release-in-None.ensures in
+    ends.whole
+
+pub returns-in-None-clause-after : goal.returns-in-None-clause-after
+returns-in-None-clause-after g c =
+    let s : Store = c.args.self.now.store in
+    let d : Disks = disks_in g.M.PageDevice g.T.PageDevice c.args.self.now.devices in
+    let ends = gives-back-out d s c.release-in-None.new.self c.args.page c.requires.whole c.in-None.ensures.none c.release-in-None.ensures in
+    ends.after

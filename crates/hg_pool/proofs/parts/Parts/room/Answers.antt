@@ -1,0 +1,42 @@
+use Rattle.std.proofs.Common.{◌≡◌, ℕ, ◌+◌, ◌≤◌, ◌∙◌, ap, sym, subst, refl, Ok, Err, Some, None, true, false, slice_index_or, length, arith, Result}
+use Rattle.hg_base.specs.declared.PageId.{PageId}
+use Rattle.hg_base.specs.declared.pages.PageFault.{PageFault}
+use Rattle.hg_pool.specs.Disks.{Disks, disks_in}
+use Rattle.hg_pool.specs.Picture.{frame_at}
+use Rattle.hg_pool.specs.Keeping.{with_frame, with_place, counted}
+use Rattle.hg_pool.specs.Passing.{Passes, LaterAnswers}
+use Rattle.hg_pool.specs.declared.frames.Frame.{Frame}
+use Rattle.hg_pool.specs.declared.PoolCounts.{PoolCounts}
+use Rattle.hg_pool.specs.declared.store.Answers.{Answers}
+use Rattle.hg_pool.specs.declared.store.Store.{Store}
+use Rattle.hg_pool.proofs.Counting.{frame-here}
+use Rattle.hg_pool.proofs.Ranges.{held-on-device}
+use Rattle.std.proofs.lemmas.Result.{err_from_is_err_and}
+use Rattle.hg_pool.proofs.Passing.{moved-hand, passes-then, passes-err, passes-ok}
+use Rattle.hg_pool.proofs.parts.Parts.room.Goals as goal
+
+pub returns-in_err-clean-clause-passes : goal.returns-in_err-clean-clause-passes
+returns-in_err-clean-clause-passes g c =
+    let u : Unit {0} = tt in
+    let s : Store = c.args.self.now.store in
+    let d : Disks = disks_in g.M.PageDevice g.T.PageDevice c.args.self.now.devices in
+    let e : Disks = disks_in g.M.PageDevice g.T.PageDevice c.clean.new.self.devices in
+    let p = err_from_is_err_and c.from_residual.result c.from_residual.ensures.1 in
+    let f : PageFault = c.in_err-clean.field-0.0 in
+    let is : c.from_residual.result ≡ Err f = p.1 ∙ ap Err p.2 in
+    let P : Result (ℕ) PageFault → Type 0 = λ r. Passes {X = ℕ} d s e c.clean.new.self.store r in
+    subst P (sym is) (passes-then d d e s c.victim-at.new.self c.clean.new.self.store (Ok u) (Err f)
+    (moved-hand d s c.victim-at.new.self (c.victim-at.result + 1) u c.requires.whole (omega arith) c.victim-at.ensures.hand)
+    (passes-err d e c.victim-at.new.self c.clean.new.self.store f c.in_err-clean.ensures.passes))
+
+pub returns-clause-passes : goal.returns-clause-passes
+returns-clause-passes g c =
+    let u : Unit {0} = tt in
+    let s : Store = c.args.self.now.store in
+    let d : Disks = disks_in g.M.PageDevice g.T.PageDevice c.args.self.now.devices in
+    let e : Disks = disks_in g.M.PageDevice g.T.PageDevice c.clean.new.self.devices in
+    let k : Disks = disks_in g.M.PageDevice g.T.PageDevice c.empty.new.self.devices in
+    let first = moved-hand d s c.victim-at.new.self (c.victim-at.result + 1) u c.requires.whole (omega arith) c.victim-at.ensures.hand in
+    let second = passes-then d d e s c.victim-at.new.self c.clean.new.self.store (Ok u) (Ok u) first c.in_ok-clean.ensures.passes in
+    passes-ok d k s c.empty.new.self.store u c.victim-at.result
+    (passes-then d e k s c.clean.new.self.store c.empty.new.self.store (Ok u) (Ok u) second c.empty.ensures.passes)

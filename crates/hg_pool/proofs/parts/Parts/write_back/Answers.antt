@@ -1,0 +1,49 @@
+use Rattle.std.proofs.Common.{◌≡◌, ℕ, ◌∙◌, ap, sym, subst, Ok, Err, true, false, slice_index_or}
+use Rattle.hg_base.specs.declared.PageId.{PageId}
+use Rattle.hg_pool.specs.Disks.{Disks, disks_in}
+use Rattle.hg_pool.specs.Picture.{frame_at}
+use Rattle.hg_pool.specs.Keeping.{with_frame}
+use Rattle.hg_pool.specs.Passing.{Passes, LaterAnswers}
+use Rattle.hg_pool.specs.Keeping.{counted}
+use Rattle.hg_pool.specs.declared.frames.Frame.{Frame}
+use Rattle.hg_pool.specs.declared.PoolCounts.{PoolCounts}
+use Rattle.hg_pool.specs.declared.store.Answers.{Answers}
+use Rattle.hg_pool.specs.declared.store.Store.{Store}
+use Rattle.hg_pool.proofs.Counting.{frame-here}
+use Rattle.hg_pool.proofs.Ranges.{held-on-device}
+use Rattle.hg_pool.proofs.Passing.{wrote, wrote-not, counted-later}
+use Rattle.hg_pool.proofs.parts.Parts.write_back.Goals as goal
+
+pub write-requires-clause-in_range : goal.write-requires-clause-in_range
+write-requires-clause-in_range g c = held-on-device _ c.args.self.now.store c.args.at c.args.page c.requires.whole c.requires.page
+
+pub returns-in-Err-clause-passes : goal.returns-in-Err-clause-passes
+returns-in-Err-clause-passes g c =
+    let s : Store = c.args.self.now.store in
+    let d : Disks = disks_in g.M.PageDevice g.T.PageDevice c.args.self.now.devices in
+    let e : Disks = disks_in g.M.PageDevice g.T.PageDevice c.write.new.self in
+    let w : Store = c.count_write.new.self in
+    let a : Answers = c.count.new.self in
+    let moved : w ≡ record s { counts = w.counts } = c.count_write.ensures.counted ∙ ap (λ (n : PoolCounts). record s { counts = n }) (sym (ap (λ (z : Store). z.counts) c.count_write.ensures.counted)) in
+    let P : Store → Type 0 = λ z. Passes {X = Unit {0}} d s e (record z { answers = a }) (Err c.in-Err.failed) in
+    let same : w.answers ≡ s.answers = ap (λ (z : Store). z.answers) c.count_write.ensures.counted in
+    subst P (sym moved) (wrote-not {X = Unit {0}} d e s w.counts a c.args.at c.args.page c.in-Err.failed c.requires.whole c.requires.page c.requires.dirty
+    c.write.ensures.keeps c.in-Err.ensures.cause (counted-later w.answers s.answers a same c.count.ensures.later)
+    (c.count.ensures.counted ∙ ap (λ b. counted b c.in-Err.failed) same))
+
+pub returns-in-Ok-clause-passes : goal.returns-in-Ok-clause-passes
+returns-in-Ok-clause-passes g c =
+    let s : Store = c.args.self.now.store in
+    let d : Disks = disks_in g.M.PageDevice g.T.PageDevice c.args.self.now.devices in
+    let e : Disks = disks_in g.M.PageDevice g.T.PageDevice c.write.new.self in
+    let w : Store = c.count_write.new.self in
+    let i : ℕ = c.args.at in
+    let moved : w ≡ record s { counts = w.counts } = c.count_write.ensures.counted ∙ ap (λ (n : PoolCounts). record s { counts = n }) (sym (ap (λ (z : Store). z.counts) c.count_write.ensures.counted)) in
+    let P : Store → Type 0 = λ z. Passes {X = Unit {0}} d s e z (Ok tt) in
+    let after : c.set_clean.new.self ≡ record (with_frame s i (record (frame_at s.frames.items i) { dirty = false })) { counts = w.counts } =
+    c.set_clean.ensures ∙ ap (λ (z : Store). with_frame z i (record (frame_at z.frames.items i) { dirty = false })) moved in
+    let bytes : c.bytes.result.now ≡ (frame_at s.frames.items i).bytes =
+    c.bytes.ensures.value ∙ ap (λ (y : Frame). y.bytes) (frame-here s.frames.items i c.index.result.now c.requires.there
+    (c.index.ensures ∙ ap (λ (z : Store). slice_index_or z.frames.items i c.index.result.now) moved)) in
+    subst P (sym after) (wrote d e s w.counts i c.args.page tt c.requires.whole c.requires.there c.requires.page c.write.ensures.keeps c.in-Ok.ensures.cause
+    (λ t. c.in-Ok.ensures.puts t ∙ bytes))

@@ -1,0 +1,14 @@
+use Rattle.std.proofs.Common.{ℕ, ◌≡◌, ◌+◌, ◌-◌, ap, true, false, Some, None, ◌∙◌}
+use Rattle.hg_pool.specs.Picture.{frame_at}
+use Rattle.hg_pool.specs.Keeping.{with_frame, with_place, new_frame}
+use Rattle.hg_pool.specs.declared.frames.Frame.{Frame}
+use Rattle.hg_pool.specs.declared.store.Store.{Store}
+use Rattle.hg_pool.proofs.Counting.{frame-here}
+use Rattle.hg_pool.proofs.store.Store.hold.Goals as goal
+
+pub returns : goal.returns
+returns c =
+    let s : Store = c.args.self.now in
+    let i : ℕ = c.args.at in
+    let here : c.index_mut-frame.result.now ≡ frame_at s.frames.items i = frame-here s.frames.items i c.index_mut-frame.result.now c.requires.there c.index_mut-frame.ensures.value in
+    ap (λ (z : Frame). record (with_frame s i (record z { pinned = true })) { pins = s.pins + 1 }) here

@@ -1,0 +1,74 @@
+-- What the calls on the parts of a pool leave of them. Our own rule.
+use Rattle.std.specs.Prelude.{◌≡◌, ℕ, ◌+◌, ◌<◌, Bool, true, false, List, length, Option, None, Some}
+use Rattle.std.specs.Vec.{with_item}
+use Rattle.hg_base.specs.Space.{at, key, key_in, zero_page}
+use Rattle.hg_base.specs.declared.File.{File}
+use Rattle.hg_base.specs.declared.File.TheVariants.{Main, Temp}
+use Rattle.hg_base.specs.declared.PageId.{PageId}
+use Rattle.hg_pool.specs.Picture.{frame_at, place_at, taken_at, next_at, limit_of, is_in}
+use Rattle.hg_pool.specs.Sound.{AreSound}
+use Rattle.hg_pool.specs.declared.frames.Frame.{Frame}
+use Rattle.hg_pool.specs.declared.places.Places.{Places}
+use Rattle.hg_pool.specs.declared.maps.Maps.{Maps}
+use Rattle.hg_pool.specs.declared.store.Answers.{Answers}
+use Rattle.hg_pool.specs.declared.store.Store.{Store}
+use Rattle.hg_io.specs.Count.{raised}
+use Rattle.hg_base.specs.declared.pages.PageFault.{PageFault}
+use Rattle.hg_base.specs.declared.pages.PageFault.TheVariants as fault
+
+-- how many pages of a file have a place
+abbrev pub places_in : Places → File → ℕ
+places_in s Main = length s.main.items
+places_in s Temp = length s.temp.items
+
+abbrev pub with_place_in : Places → File → ℕ → ℕ → Places
+with_place_in s Main n f = record s { main = with_item s.main n f }
+with_place_in s Temp n f = record s { temp = with_item s.temp n f }
+
+-- the page was brought into the frame f last
+abbrev pub with_place : Places → PageId → ℕ → Places
+with_place s page f = with_place_in s page.file page.no f
+
+-- maps that have these pages taken and these successors, of as many pages as before
+pub record MapsAfter (a b : Maps) (pages : ℕ → Bool) (links : ℕ → Option ℕ) : Type 0 where
+  pub taken : taken_at b ≡ pages
+  pub next : next_at b ≡ links
+  pub limit : limit_of b ≡ limit_of a
+  pub sound : AreSound a → AreSound b
+
+-- all pages of a file are taken
+abbrev pub IsFullIn : Maps → File → Type 0
+IsFullIn m file = (n : ℕ) → n < limit_of m file → taken_at m (key_in file n) ≡ true
+
+-- the lowest page of a file that was not taken is
+pub record TakesLowest (file : File) (a b : Maps) (n : ℕ) : Type 0 where
+  pub below : n < limit_of a file
+  pub free : taken_at a (key_in file n) ≡ false
+  pub lower : (k : ℕ) → k < n → taken_at a (key_in file k) ≡ true
+  pub after : MapsAfter a b (at (taken_at a) (key_in file n) true) (at (next_at a) (key_in file n) None)
+
+-- the page is in the frame f
+pub record IsFoundAt (s : Store) (page : PageId) (f : ℕ) : Type 0 where
+  pub place : f ≡ place_at s.places (key page)
+  pub there : f < length s.frames.items
+  pub holds : (frame_at s.frames.items f).page ≡ Some page
+
+-- whether a page is in a frame of the store
+abbrev pub is_inside : Store → ℕ → Bool
+is_inside s = is_in (frame_at s.frames.items) (place_at s.places)
+
+-- s with x in the frame f
+abbrev pub with_frame : Store → ℕ → Frame → Store
+with_frame s f x = record s { frames = with_item s.frames f x }
+
+-- a frame with a new page, which a pin holds
+abbrev pub new_frame : PageId → Frame
+new_frame page = record { bytes = zero_page; page = Some page; dirty = true; pinned = true }
+
+-- an answer was counted
+abbrev pub counted : Answers → PageFault → Answers
+counted a fault.MainFault = record a { main = raised a.main 1 }
+counted a fault.TempFault = record a { temp = raised a.temp 1 }
+counted a fault.MainFull = record a { main_full = raised a.main_full 1 }
+counted a fault.TempFull = record a { temp_full = raised a.temp_full 1 }
+counted a (fault.Damaged page check) = a

@@ -1,0 +1,12 @@
+pub mod Files
+pub mod Disks
+pub mod Picture
+pub mod Sound
+pub mod Keeping
+pub mod Keys
+pub mod Views
+pub mod Opening
+pub mod Shown
+pub mod Passing
+pub mod Work
+pub mod Loans

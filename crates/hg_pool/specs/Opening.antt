@@ -1,0 +1,68 @@
+-- A pool that is opened. Our own rule.
+use Rattle.std.specs.Prelude.{◌≡◌, ℕ, ◌≤◌, Bool, false, None, length, replicate}
+use Rattle.hg_base.specs.Space.{Space, zero_page}
+use Rattle.hg_base.specs.declared.File.{File}
+use Rattle.hg_base.specs.declared.File.TheVariants.{Main, Temp}
+use Rattle.hg_pool.specs.Disks.{Disk, Disks, all_told}
+use Rattle.hg_pool.specs.Picture.{no_heaps}
+use Rattle.hg_space.specs.Shown.{pages_of}
+use Rattle.hg_space.specs.PageMap as map
+use Rattle.hg_pool.specs.declared.store.Store.{Store}
+use Rattle.hg_pool.specs.declared.frames.Frame.{Frame}
+use Rattle.hg_pool.specs.declared.Config.{Config}
+use Rattle.hg_pool.specs.declared.PoolCounts.{PoolCounts}
+
+-- a frame that no page ever used
+abbrev pub empty_frame : Frame
+empty_frame = record { bytes = zero_page; page = None; dirty = false; pinned = false }
+
+-- what an engine may be opened with, over devices of so many pages
+pub record IsPossible (c : Config) (main temp : ℕ) : Type 0 where
+  pub at_least : 16 ≤ c.pool
+  pub reserved : c.pool ≤ c.max
+  pub at_most : c.max ≤ 65536
+  pub some_request : 1 ≤ c.mpl
+  pub few_requests : c.mpl ≤ 16
+  pub main_least : 64 ≤ c.main_pages
+  pub main_most : c.main_pages ≤ 65536
+  pub main_fits : c.main_pages ≤ main
+  pub temp_least : 64 ≤ c.temp_pages
+  pub temp_most : c.temp_pages ≤ 1048576
+  pub temp_fits : c.temp_pages ≤ temp
+
+abbrev pub limit_in : Config → File → ℕ
+limit_in c Main = c.main_pages
+limit_in c Temp = c.temp_pages
+
+-- the space of a new pool over these devices: no page is taken, no pin is out, and no call was made
+abbrev pub new_space : Config → Disks → Space
+new_space c d = record {
+  told = all_told d;
+  limit = limit_in c;
+  taken = λ _. false;
+  bytes = λ _. None;
+  pinned = λ _. false;
+  pins = 0;
+  next = λ _. None;
+  of_heap = λ _. false;
+  heaps = no_heaps c.pool;
+  counts = record { main_device = d.main.faults; temp_device = d.temp.faults; main = 0; temp = 0; main_full = 0; temp_full = 0 };
+}
+
+-- nothing was done yet
+abbrev pub no_counts : PoolCounts
+no_counts = record { reads = 0; writes = 0; evictions = 0 }
+
+-- what a new pool keeps
+pub record IsNewStore (c : Config) (s : Store) : Type 0 where
+  pub frames : s.frames.items ≡ replicate c.pool empty_frame
+  pub main_places : length s.places.main.items ≡ c.main_pages
+  pub temp_places : length s.places.temp.items ≡ c.temp_pages
+  pub main_map : pages_of s.maps.main ≡ map.unused_pages c.main_pages
+  pub temp_map : pages_of s.maps.temp ≡ map.unused_pages c.temp_pages
+  pub main_sound : map.IsSound (pages_of s.maps.main)
+  pub temp_sound : map.IsSound (pages_of s.maps.temp)
+  pub hand : s.hand ≡ 0
+  pub pins : s.pins ≡ 0
+  pub answers : s.answers ≡ record { main = 0; temp = 0; main_full = 0; temp_full = 0 }
+  pub counts : s.counts ≡ no_counts

@@ -1,0 +1,39 @@
+-- What contracts see of a pool: its devices and what it keeps of them.
+use Rattle.std.specs.Prelude.{ℕ, Bool, length}
+use Rattle.hg_io.specs.declared.device.PageDevice.{Ghosts}
+use Rattle.hg_base.specs.Space.{Space, key}
+use Rattle.hg_base.specs.declared.PageId.{PageId}
+use Rattle.hg_pool.specs.Disks.{Disks, disks_in}
+use Rattle.hg_pool.specs.Picture.{shown, picture_of, is_in, frame_at, place_at}
+use Rattle.hg_pool.specs.Sound.{IsSound}
+use Rattle.hg_pool.specs.declared.PoolCounts.{PoolCounts}
+use Rattle.hg_pool.specs.declared.parts.Parts.{Parts}
+
+module _ {M T : Type 0} where
+  abbrev pub main_device : Parts M T → M
+  main_device s = s.devices.main
+
+  abbrev pub temp_device : Parts M T → T
+  temp_device s = s.devices.temp
+
+  abbrev pub disks_of : Ghosts M → Ghosts T → Parts M T → Disks
+  disks_of m t s = disks_in m t s.devices
+
+  -- the space that a pool is
+  abbrev pub state_of : Ghosts M → Ghosts T → Parts M T → Space
+  state_of m t s = shown (picture_of (disks_of m t s) s.store)
+
+  -- what holds of every pool
+  abbrev pub IsWhole : Ghosts M → Ghosts T → Parts M T → Type 0
+  IsWhole m t s = IsSound (disks_of m t s) s.store
+
+  -- the page is in a frame
+  abbrev pub in_frame : Parts M T → PageId → Bool
+  in_frame s page = is_in (frame_at s.store.frames.items) (place_at s.store.places) (key page)
+
+  -- how many frames are in use
+  abbrev pub current_of : Parts M T → ℕ
+  current_of s = length s.store.frames.items
+
+  abbrev pub counts_of_pool : Parts M T → PoolCounts
+  counts_of_pool s = s.store.counts

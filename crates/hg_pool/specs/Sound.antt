@@ -1,0 +1,51 @@
+-- What holds of every pool. Our own rule.
+use Rattle.std.specs.Prelude.{◌≡◌, ℕ, ◌≤◌, Bool, true, false, List, length, Option, None, Some, sum_by, if◌then◌else◌}
+use Rattle.hg_base.specs.Space.{key}
+use Rattle.hg_base.specs.declared.PageId.{PageId}
+use Rattle.hg_space.specs.Shown.{pages_of}
+use Rattle.hg_space.specs.PageMap as map
+use Rattle.hg_pool.specs.Disks.{Disks}
+use Rattle.hg_pool.specs.Picture.{Picture, picture_of, limit_of}
+use Rattle.hg_pool.specs.declared.frames.Frame.{Frame}
+use Rattle.hg_pool.specs.declared.maps.Maps.{Maps}
+use Rattle.hg_pool.specs.declared.store.Store.{Store}
+
+-- The page that stands in the frame f, which is x, is found there, and it is taken; a whole page of
+-- bytes stands there, and these are the bytes on its device unless they are newer.
+pub record Fits (v : Picture) (f : ℕ) (x : Frame) : Type 0 where
+  pub found : (p : PageId) → x.page ≡ Some p → v.place (key p) ≡ f
+  pub taken : (p : PageId) → x.page ≡ Some p → v.taken (key p) ≡ true
+  pub whole : (p : PageId) → x.page ≡ Some p → length x.bytes ≡ 4096
+  pub clean : (p : PageId) → x.page ≡ Some p → x.dirty ≡ false → v.told ≡ true → x.bytes ≡ v.page (key p)
+
+abbrev pub IsCoherent : Picture → Type 0
+IsCoherent v = (f : ℕ) → Fits v f (v.frame f)
+
+-- so many frames are pinned
+abbrev pub pins_of : Frame → ℕ
+pins_of x = if x.pinned then 1 else 0
+
+abbrev pub pinned_in : List Frame → ℕ
+pinned_in frames = sum_by pins_of frames
+
+-- what holds of the maps of both files
+pub record AreSound (m : Maps) : Type 0 where
+  pub main : map.IsSound (pages_of m.main)
+  pub temp : map.IsSound (pages_of m.temp)
+
+-- what holds of what a pool keeps, apart from its devices
+pub record IsShaped (s : Store) : Type 0 where
+  pub counted : pinned_in s.frames.items ≡ s.pins
+  pub few : s.pins ≤ 8
+  pub at_least : 16 ≤ length s.frames.items
+  pub at_most : length s.frames.items ≤ 65536
+  pub hand : s.hand ≤ length s.frames.items
+  pub maps : AreSound s.maps
+  pub main_places : length s.places.main.items ≡ (pages_of s.maps.main).limit
+  pub temp_places : length s.places.temp.items ≡ (pages_of s.maps.temp).limit
+
+pub record IsSound (d : Disks) (s : Store) : Type 0 where
+  pub coherent : IsCoherent (picture_of d s)
+  pub shape : IsShaped s
+  pub main_fits : (pages_of s.maps.main).limit ≤ d.main.pages
+  pub temp_fits : (pages_of s.maps.temp).limit ≤ d.temp.pages

@@ -1,0 +1,132 @@
+//! What the calls of a pool do to its parts.
+
+use crate::parts::Parts;
+use hg_base::{File, PageFault, PageId};
+use hg_io::PageDevice;
+
+impl<M: PageDevice, T: PageDevice> Parts<M, T> {
+    ghost use Rattle.std.specs.Prelude.{◌≡◌, ◌<◌, true, false, None, Some, OnOk, OnErr, IfOk, IfErr, IsErrOf, length};
+    ghost use Rattle.hg_base.specs.Space.{key, IsPinned, IsMade, IsSame, IsFull, without_pin, without_page, with_next};
+    ghost use Rattle.hg_base.specs.Causes.{HasCause, Later, Licensed, NoneFull, PinFault, FreshFault, full_fault};
+    ghost use Rattle.hg_pool.specs.Picture.{frame_at, place_at, taken_at, is_pinned};
+    ghost use Rattle.hg_pool.specs.Shown.{state_of, IsWhole, in_frame};
+    ghost use Rattle.hg_pool.specs.Work.{PinWork, FreshWork, IsLowest};
+
+    pub(crate) fn pin(&mut self, page: PageId) -> Result<(), PageFault>
+        requires whole { IsWhole M.PageDevice T.PageDevice self.old }
+        requires taken { (state_of M.PageDevice T.PageDevice self.old).taken (key page) ≡ true }
+        requires not_pinned { (state_of M.PageDevice T.PageDevice self.old).pinned (key page) ≡ false }
+        requires few { self.old.store.pins < 8 }
+        ensures whole { IsWhole M.PageDevice T.PageDevice self.new }
+        ensures ok { OnOk result (IsPinned (state_of M.PageDevice T.PageDevice self.old) (state_of M.PageDevice T.PageDevice self.new) (key page)) }
+        ensures err { OnErr result (IsSame (state_of M.PageDevice T.PageDevice self.old) (state_of M.PageDevice T.PageDevice self.new)) }
+        ensures cause { HasCause (state_of M.PageDevice T.PageDevice self.old) (state_of M.PageDevice T.PageDevice self.new) result }
+        ensures fault { IfErr result (PinFault (state_of M.PageDevice T.PageDevice self.old) (state_of M.PageDevice T.PageDevice self.new)) }
+        ensures none_full { NoneFull (state_of M.PageDevice T.PageDevice self.old).counts (state_of M.PageDevice T.PageDevice self.new).counts }
+        ensures in_frame { OnOk result (in_frame self.new page ≡ true) }
+        ensures work { PinWork (in_frame self.old page) self.old.store.counts self.new.store.counts result }
+    {
+        let at = self.bring(page)?;
+        self.store.hold(at);
+        Ok(())
+    }
+
+    /// The page that is new.
+    pub(crate) fn fresh(&mut self, file: File) -> Result<PageId, PageFault>
+        requires whole { IsWhole M.PageDevice T.PageDevice self.old }
+        requires few { self.old.store.pins < 8 }
+        ensures whole { IsWhole M.PageDevice T.PageDevice self.new }
+        ensures ok { IfOk result (IsMade file (state_of M.PageDevice T.PageDevice self.old) (state_of M.PageDevice T.PageDevice self.new)) }
+        ensures ok_counts { OnOk result (NoneFull (state_of M.PageDevice T.PageDevice self.old).counts (state_of M.PageDevice T.PageDevice self.new).counts) }
+        ensures err { OnErr result (IsSame (state_of M.PageDevice T.PageDevice self.old) (state_of M.PageDevice T.PageDevice self.new)) }
+        ensures cause { HasCause (state_of M.PageDevice T.PageDevice self.old) (state_of M.PageDevice T.PageDevice self.new) result }
+        ensures fault { IfErr result (FreshFault file (state_of M.PageDevice T.PageDevice self.old) (state_of M.PageDevice T.PageDevice self.new)) }
+        ensures full { IsFull (state_of M.PageDevice T.PageDevice self.old) file → IsErrOf result (full_fault file) }
+        ensures lowest { IfOk result (IsLowest (state_of M.PageDevice T.PageDevice self.old)) }
+        ensures in_frame { IfOk result (λ page. in_frame self.new page ≡ true) }
+        ensures work { FreshWork self.old.store.counts self.new.store.counts }
+        ensures full_work { IsFull (state_of M.PageDevice T.PageDevice self.old) file → self.new.store.counts ≡ self.old.store.counts }
+    {
+        if self.store.is_full(file) {
+            return Err(self.full(file));
+        }
+        let at = self.room()?;
+        match self.store.maps.take(file) {
+            None => unreachable!(),
+            Some(no) => {
+                let page = PageId { file, no };
+                self.store.set_new(at, page);
+                Ok(page)
+            }
+        }
+    }
+
+    /// Counts that the file was full, and says so.
+    fn full(&mut self, file: File) -> PageFault
+        requires whole { IsWhole M.PageDevice T.PageDevice self.old }
+        requires full { IsFull (state_of M.PageDevice T.PageDevice self.old) file }
+        ensures whole { IsWhole M.PageDevice T.PageDevice self.new }
+        ensures answer { result ≡ full_fault file }
+        ensures same { IsSame (state_of M.PageDevice T.PageDevice self.old) (state_of M.PageDevice T.PageDevice self.new) }
+        ensures later { Later (state_of M.PageDevice T.PageDevice self.old).counts (state_of M.PageDevice T.PageDevice self.new).counts }
+        ensures licensed { Licensed (state_of M.PageDevice T.PageDevice self.old) (state_of M.PageDevice T.PageDevice self.new) result }
+        ensures fault { FreshFault file (state_of M.PageDevice T.PageDevice self.old) (state_of M.PageDevice T.PageDevice self.new) result }
+        ensures counts { self.new.store.counts ≡ self.old.store.counts }
+    {
+        match file {
+            File::Main => {
+                self.store.answers.count(PageFault::MainFull);
+                PageFault::MainFull
+            }
+            File::Temp => {
+                self.store.answers.count(PageFault::TempFull);
+                PageFault::TempFull
+            }
+        }
+    }
+
+    /// The bytes of a page that a pin holds.
+    pub(crate) fn bytes(&self, page: PageId) -> &[u8]
+        requires whole { IsWhole M.PageDevice T.PageDevice self.now }
+        requires pinned { (state_of M.PageDevice T.PageDevice self.now).pinned (key page) ≡ true }
+        ensures value { (state_of M.PageDevice T.PageDevice self.now).bytes (key page) ≡ Some result.now }
+        ensures len { length result.now ≡ 4096 }
+    {
+        self.store.bytes(page)
+    }
+
+    pub(crate) fn unpin(&mut self, page: PageId)
+        requires whole { IsWhole M.PageDevice T.PageDevice self.old }
+        requires pinned { (state_of M.PageDevice T.PageDevice self.old).pinned (key page) ≡ true }
+        ensures whole { IsWhole M.PageDevice T.PageDevice self.new }
+        ensures after { state_of M.PageDevice T.PageDevice self.new ≡ without_pin (state_of M.PageDevice T.PageDevice self.old) (key page) }
+    {
+        let at = self.store.places.at(page);
+        self.store.let_go(at);
+    }
+
+    pub(crate) fn release(&mut self, page: PageId)
+        requires whole { IsWhole M.PageDevice T.PageDevice self.old }
+        requires taken { (state_of M.PageDevice T.PageDevice self.old).taken (key page) ≡ true }
+        requires not_pinned { (state_of M.PageDevice T.PageDevice self.old).pinned (key page) ≡ false }
+        ensures whole { IsWhole M.PageDevice T.PageDevice self.new }
+        ensures after { state_of M.PageDevice T.PageDevice self.new ≡ without_page (state_of M.PageDevice T.PageDevice self.old) (key page) }
+    {
+        match self.store.find(page) {
+            Some(at) => {
+                self.store.set_empty(at);
+                self.store.maps.release(page);
+            }
+            None => self.store.maps.release(page),
+        }
+    }
+
+    pub(crate) fn set_next(&mut self, page: PageId, next: Option<u32>)
+        requires whole { IsWhole M.PageDevice T.PageDevice self.old }
+        requires taken { (state_of M.PageDevice T.PageDevice self.old).taken (key page) ≡ true }
+        ensures whole { IsWhole M.PageDevice T.PageDevice self.new }
+        ensures after { state_of M.PageDevice T.PageDevice self.new ≡ with_next (state_of M.PageDevice T.PageDevice self.old) (key page) next }
+    {
+        self.store.maps.set_next(page, next);
+    }
+}

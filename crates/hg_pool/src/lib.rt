@@ -1,0 +1,47 @@
+//! The buffer pool: a space of pages over two devices, kept in frames of memory that are reserved when
+//! the pool is opened. It stands on the base crate, the traits of the outside and the page maps. The
+//! contract that the layers above use is that of [`hg_base::Pages`], which [`Pool`] implements, with
+//! what `Pool::new` says of a new pool.
+#![tactic(auto)]
+
+mod calls;
+mod devices;
+mod frames;
+mod maps;
+mod opening;
+mod pages;
+mod parts;
+mod places;
+mod pool;
+mod store;
+#[cfg(test)]
+mod tests;
+
+pub use pages::PoolPin;
+pub use pool::Pool;
+
+/// What an engine is opened with.
+#[derive(Clone, Copy, PartialEq, Eq, Debug)]
+pub struct Config {
+    /// How many frames are reserved.
+    pub max: u32,
+    /// How many frames are in use at the beginning.
+    pub pool: u32,
+    /// For how many requests at once memory is shared out.
+    pub mpl: u32,
+    /// How many pages the main file may have.
+    pub main_pages: u32,
+    /// How many pages the temporary file may have.
+    pub temp_pages: u32,
+}
+
+/// What a pool did so far. Each count stops at 2^64 - 1.
+#[derive(Clone, Copy, PartialEq, Eq, Debug)]
+pub struct PoolCounts {
+    /// Reads of the two devices, failed ones too.
+    pub reads: u64,
+    /// Writes to the two devices, failed ones too.
+    pub writes: u64,
+    /// Pages that left their frame so that another one could come in.
+    pub evictions: u64,
+}

@@ -1,0 +1,72 @@
+//! The store of a new pool.
+ghost use Rattle.std.specs.Prelude.{◌≡◌, ◌≤◌, IfOk, vec_len, replicate};
+ghost use Rattle.hg_pool.specs.Opening.{empty_frame, IsNewStore};
+
+use crate::frames::Frame;
+use crate::maps::Maps;
+use crate::places::Places;
+use crate::store::{Answers, Store};
+use crate::{Config, PoolCounts};
+use hg_base::NoMemory;
+use hg_space::Space;
+use std::alloc::{AllocError, Global};
+
+/// So many frames of no page, with room for `room` of them.
+fn frames(alloc: Global, count: u32, room: u32) -> Result<Vec<Frame>, AllocError>
+    ensures { IfOk result (λ made. made.items ≡ replicate count empty_frame) }
+{
+    let mut made = Vec::with_capacity(alloc, room as usize)?;
+    for _turn in 0..count {
+        let frame = Frame::empty(alloc)?;
+        made.push(frame)?;
+    }
+    Ok(made)
+}
+
+/// The places of the pages of both files.
+fn places(alloc: Global, main_pages: u32, temp_pages: u32) -> Result<Places, AllocError>
+    ensures main { IfOk result (λ made. vec_len made.main ≡ main_pages) }
+    ensures temp { IfOk result (λ made. vec_len made.temp ≡ temp_pages) }
+{
+    Ok(Places {
+        main: vec![in alloc; 0; main_pages as usize]?,
+        temp: vec![in alloc; 0; temp_pages as usize]?,
+    })
+}
+
+/// What a pool in which no page is taken keeps. The only error is want of memory.
+pub(crate) fn new_store(alloc: Global, config: &Config) -> Result<Store, NoMemory>
+    requires { config.now.pool ≤ config.now.max }
+    ensures { IfOk result (IsNewStore config.now) }
+{
+    let main = Space::new(alloc, config.main_pages)?;
+    let temp = Space::new(alloc, config.temp_pages)?;
+    let Ok(places) = places(alloc, config.main_pages, config.temp_pages) else {
+        return Err(NoMemory);
+    };
+    let Ok(used) = frames(alloc, config.pool, config.max) else {
+        return Err(NoMemory);
+    };
+    let Ok(spare) = frames(alloc, config.max - config.pool, config.max) else {
+        return Err(NoMemory);
+    };
+    Ok(Store {
+        frames: used,
+        spare,
+        places,
+        maps: Maps { main, temp },
+        hand: 0,
+        pins: 0,
+        answers: Answers {
+            main: 0,
+            temp: 0,
+            main_full: 0,
+            temp_full: 0,
+        },
+        counts: PoolCounts {
+            reads: 0,
+            writes: 0,
+            evictions: 0,
+        },
+    })
+}

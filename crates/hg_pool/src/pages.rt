@@ -1,0 +1,136 @@
+//! A pool is a space of pages.
+ghost use Rattle.std.specs.Prelude.{◌≡◌, ◌<◌, true, false, IfOk, IfErr, OnOk, OnErr, IsErrOf};
+ghost use Rattle.hg_base.specs.Space.{key, IsPinned, IsMade, IsSame, IsFull};
+ghost use Rattle.hg_base.specs.Causes.{HasCause, NoneFull, PinFault, FreshFault, full_fault};
+ghost use Rattle.hg_pool.specs.Shown.{state_of, in_frame, counts_of_pool};
+ghost use Rattle.hg_pool.specs.Work.{PinWork, FreshWork, IsLowest};
+
+use crate::Pool;
+use hg_base::{File, PageFault, PageId, Pages};
+use hg_io::PageDevice;
+
+/// The right to the bytes of a page of a pool. It must be spent by `unpin`.
+pub struct PoolPin {
+    pub(crate) page: PageId,
+}
+
+impl<M: PageDevice, T: PageDevice> Pages for Pool<M, T> {
+    ghost use Rattle.hg_pool.specs.Shown.{state_of};
+    ghost use Rattle.hg_pool.specs.Loans.{after_write_of, writes_of};
+
+    type Pin = PoolPin;
+
+    ghost state = { state_of M.PageDevice T.PageDevice };
+
+    ghost pin_page = { λ pin. pin.page };
+
+    ghost after_write = { after_write_of };
+
+    /// A page that is in no frame is read, once, into the frame that the round comes to next among
+    /// those that no pin holds. A page whose bytes are newer than those on its device leaves that frame
+    /// only after a write that succeeded. After a fault each page is as it was.
+    fn pin(&mut self, page: PageId) -> Result<PoolPin, PageFault>
+        requires taken { (state_of M.PageDevice T.PageDevice self.old).taken (key page) ≡ true }
+        requires not_pinned { (state_of M.PageDevice T.PageDevice self.old).pinned (key page) ≡ false }
+        requires no_heap { (state_of M.PageDevice T.PageDevice self.old).of_heap (key page) ≡ false }
+        requires few { (state_of M.PageDevice T.PageDevice self.old).pins < 8 }
+        ensures names { IfOk result (λ pin. pin.page ≡ page) }
+        ensures ok { OnOk result (IsPinned (state_of M.PageDevice T.PageDevice self.old)
+            (state_of M.PageDevice T.PageDevice self.new) (key page)) }
+        ensures err { OnErr result (IsSame (state_of M.PageDevice T.PageDevice self.old)
+            (state_of M.PageDevice T.PageDevice self.new)) }
+        ensures cause { HasCause (state_of M.PageDevice T.PageDevice self.old)
+            (state_of M.PageDevice T.PageDevice self.new) result }
+        ensures fault { IfErr result (PinFault (state_of M.PageDevice T.PageDevice self.old)
+            (state_of M.PageDevice T.PageDevice self.new)) }
+        ensures none_full { NoneFull (state_of M.PageDevice T.PageDevice self.old).counts
+            (state_of M.PageDevice T.PageDevice self.new).counts }
+        ensures in_frame { OnOk result (in_frame self.new page ≡ true) }
+        ensures work { PinWork (in_frame self.old page) (counts_of_pool self.old) (counts_of_pool self.new) result }
+    {
+        self.parts.pin(page)?;
+        Ok(PoolPin { page })
+    }
+
+    /// It is the lowest page of its file that is not taken, and comes into the frame that `pin` would
+    /// bring a page into. Where the file is full no device is called.
+    fn fresh(&mut self, file: File) -> Result<PoolPin, PageFault>
+        requires few { (state_of M.PageDevice T.PageDevice self.old).pins < 8 }
+        ensures ok { IfOk result (λ pin. IsMade file (state_of M.PageDevice T.PageDevice self.old)
+            (state_of M.PageDevice T.PageDevice self.new) pin.page) }
+        ensures ok_counts { OnOk result (NoneFull (state_of M.PageDevice T.PageDevice self.old).counts
+            (state_of M.PageDevice T.PageDevice self.new).counts) }
+        ensures err { OnErr result (IsSame (state_of M.PageDevice T.PageDevice self.old)
+            (state_of M.PageDevice T.PageDevice self.new)) }
+        ensures cause { HasCause (state_of M.PageDevice T.PageDevice self.old)
+            (state_of M.PageDevice T.PageDevice self.new) result }
+        ensures fault { IfErr result (FreshFault file (state_of M.PageDevice T.PageDevice self.old)
+            (state_of M.PageDevice T.PageDevice self.new)) }
+        ensures full { IsFull (state_of M.PageDevice T.PageDevice self.old) file → IsErrOf result (full_fault file) }
+        ensures lowest { IfOk result (λ pin. IsLowest (state_of M.PageDevice T.PageDevice self.old) pin.page) }
+        ensures in_frame { IfOk result (λ pin. in_frame self.new pin.page ≡ true) }
+        ensures work { FreshWork (counts_of_pool self.old) (counts_of_pool self.new) }
+        ensures full_work { IsFull (state_of M.PageDevice T.PageDevice self.old) file → counts_of_pool self.new ≡ counts_of_pool self.old }
+    {
+        let page = self.parts.fresh(file)?;
+        Ok(PoolPin { page })
+    }
+
+    fn page_of(&self, pin: &PoolPin) -> PageId {
+        pin.page
+    }
+
+    fn bytes(&self, pin: &PoolPin) -> &[u8] {
+        self.parts.bytes(pin.page)
+    }
+
+    fn bytes_mut(&mut self, pin: &PoolPin) -> &mut [u8] {
+        let store = &mut self.parts.store;
+        let at = store.places.at(pin.page);
+        let frame = &mut store.frames[at];
+        frame.dirty = true;
+        frame.bytes.bytes_mut()
+    }
+
+    fn unpin(&mut self, pin: PoolPin) {
+        let PoolPin { page } = pin;
+        self.parts.unpin(page);
+    }
+
+    fn release(&mut self, page: PageId) {
+        self.parts.release(page);
+    }
+
+    fn next(&self, page: PageId) -> Option<u32> {
+        self.parts.store.maps.next(page)
+    }
+
+    fn set_next(&mut self, page: PageId, next: Option<u32>) {
+        self.parts.set_next(page, next);
+    }
+
+    fn main_faults(&self) -> u64 {
+        self.parts.store.answers.main
+    }
+
+    fn temp_faults(&self) -> u64 {
+        self.parts.store.answers.temp
+    }
+
+    fn taken(&self, file: File) -> u32 {
+        self.parts.store.maps.used(file)
+    }
+
+    fn can_pin(&self, page: PageId) -> bool {
+        self.parts.store.can_pin(page)
+    }
+
+    fn fulls(&self, file: File) -> u64 {
+        match file {
+            File::Main => self.parts.store.answers.main_full,
+            File::Temp => self.parts.store.answers.temp_full,
+        }
+    }
+
+    ghost writes = { writes_of M.PageDevice T.PageDevice };
+}

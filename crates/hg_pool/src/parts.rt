@@ -1,0 +1,151 @@
+//! A pool's devices and its store, and how pages come into frames and leave them.
+
+use crate::devices::Devices;
+use crate::store::Store;
+use hg_base::{File, PageFault, PageId};
+use hg_io::PageDevice;
+
+/// The devices of a pool, and what it keeps of them.
+pub(crate) struct Parts<M, T> {
+    pub(crate) devices: Devices<M, T>,
+    pub(crate) store: Store,
+}
+
+impl<M: PageDevice, T: PageDevice> Parts<M, T> {
+    ghost use Rattle.std.specs.Prelude.{◌≡◌, ◌<◌, true, false, Ok, Some, OnOk, IfOk, length};
+    ghost use Rattle.hg_io.specs.Count.{raised};
+    ghost use Rattle.hg_base.specs.Space.{key};
+    ghost use Rattle.hg_pool.specs.Picture.{frame_at, taken_at};
+    ghost use Rattle.hg_pool.specs.Keeping.{is_inside, IsFoundAt};
+    ghost use Rattle.hg_pool.specs.Shown.{IsWhole};
+    ghost use Rattle.hg_pool.specs.Passing.{PassesParts, Clears, IsClean, IsRoom};
+    ghost use Rattle.hg_pool.specs.Work.{RoseOnce, PinWork};
+
+    /// Writes the frame's page to its device.
+    fn write_back(&mut self, at: usize, page: PageId) -> Result<(), PageFault>
+        requires whole { IsWhole M.PageDevice T.PageDevice self.old }
+        requires there { at < length self.old.store.frames.items }
+        requires page { (frame_at self.old.store.frames.items at).page ≡ Some page }
+        requires dirty { (frame_at self.old.store.frames.items at).dirty ≡ true }
+        ensures passes { PassesParts M.PageDevice T.PageDevice self.old self.new result }
+        ensures clears { Clears self.old.store self.new.store }
+        ensures clean { OnOk result ((frame_at self.new.store.frames.items at).dirty ≡ false) }
+        ensures pinned { (frame_at self.new.store.frames.items at).pinned ≡ (frame_at self.old.store.frames.items at).pinned }
+        ensures writes { RoseOnce self.old.store.counts.writes self.new.store.counts.writes }
+        ensures evictions { self.new.store.counts.evictions ≡ self.old.store.counts.evictions }
+    {
+        self.store.count_write();
+        match self
+            .devices
+            .write(page, self.store.frames[at].bytes.bytes())
+        {
+            Err(failed) => {
+                self.store.answers.count(failed);
+                Err(failed)
+            }
+            Ok(()) => {
+                self.store.set_clean(at);
+                Ok(())
+            }
+        }
+    }
+
+    /// Writes the frame's page to its device, if its bytes are newer.
+    fn clean(&mut self, at: usize) -> Result<(), PageFault>
+        requires whole { IsWhole M.PageDevice T.PageDevice self.old }
+        requires there { at < length self.old.store.frames.items }
+        ensures passes { PassesParts M.PageDevice T.PageDevice self.old self.new result }
+        ensures clears { Clears self.old.store self.new.store }
+        ensures clean { OnOk result (IsClean (frame_at self.new.store.frames.items at)) }
+        ensures pinned { (frame_at self.new.store.frames.items at).pinned ≡ (frame_at self.old.store.frames.items at).pinned }
+        ensures writes { RoseOnce self.old.store.counts.writes self.new.store.counts.writes }
+        ensures evictions { self.new.store.counts.evictions ≡ self.old.store.counts.evictions }
+    {
+        match self.store.unwritten(at) {
+            Some(page) => self.write_back(at, page),
+            None => Ok(()),
+        }
+    }
+
+    /// Makes a frame empty whose page is on its device as it is.
+    fn empty(&mut self, at: usize)
+        requires whole { IsWhole M.PageDevice T.PageDevice self.old }
+        requires there { at < length self.old.store.frames.items }
+        requires clean { IsClean (frame_at self.old.store.frames.items at) }
+        requires free { (frame_at self.old.store.frames.items at).pinned ≡ false }
+        ensures passes { PassesParts M.PageDevice T.PageDevice self.old self.new (Ok (tt {0})) }
+        ensures clears { Clears self.old.store self.new.store }
+        ensures room { IsRoom self.new.store at }
+        ensures writes { self.new.store.counts.writes ≡ self.old.store.counts.writes }
+        ensures evictions { RoseOnce self.old.store.counts.evictions self.new.store.counts.evictions }
+    {
+        if self.store.frames[at].page.is_none() {
+            return;
+        }
+        self.store.set_empty(at);
+        self.store.count_eviction();
+    }
+
+    /// An empty frame, which no pin holds: the next one in the round.
+    pub(crate) fn room(&mut self) -> Result<usize, PageFault>
+        requires whole { IsWhole M.PageDevice T.PageDevice self.old }
+        requires few { self.old.store.pins < 8 }
+        ensures passes { PassesParts M.PageDevice T.PageDevice self.old self.new result }
+        ensures clears { Clears self.old.store self.new.store }
+        ensures room { IfOk result (λ f. IsRoom self.new.store f) }
+        ensures writes { RoseOnce self.old.store.counts.writes self.new.store.counts.writes }
+        ensures evictions { RoseOnce self.old.store.counts.evictions self.new.store.counts.evictions }
+    {
+        let at = self.store.victim();
+        self.clean(at)?;
+        self.empty(at);
+        Ok(at)
+    }
+
+    /// Reads the page into an empty frame.
+    fn load(&mut self, at: usize, page: PageId) -> Result<(), PageFault>
+        requires whole { IsWhole M.PageDevice T.PageDevice self.old }
+        requires room { IsRoom self.old.store at }
+        requires taken { taken_at self.old.store.maps (key page) ≡ true }
+        requires out { is_inside self.old.store (key page) ≡ false }
+        ensures passes { PassesParts M.PageDevice T.PageDevice self.old self.new result }
+        ensures found { OnOk result (IsFoundAt self.new.store page at) }
+        ensures free { (frame_at self.new.store.frames.items at).pinned ≡ false }
+        ensures pins { self.new.store.pins ≡ self.old.store.pins }
+        ensures read { self.new.store.counts ≡ record self.old.store.counts { reads = raised self.old.store.counts.reads 1 } }
+        ensures once { RoseOnce self.old.store.counts.reads self.new.store.counts.reads }
+    {
+        self.store.count_read();
+        let frame = &mut self.store.frames[at];
+        match self.devices.fill(page, frame) {
+            Err(fault) => {
+                self.store.answers.count(fault);
+                Err(fault)
+            }
+            Ok(()) => {
+                frame.page = Some(page);
+                frame.dirty = false;
+                self.store.places.set(page, at);
+                Ok(())
+            }
+        }
+    }
+
+    /// The frame of the page, which is brought into one if it is in none.
+    pub(crate) fn bring(&mut self, page: PageId) -> Result<usize, PageFault>
+        requires whole { IsWhole M.PageDevice T.PageDevice self.old }
+        requires few { self.old.store.pins < 8 }
+        requires taken { taken_at self.old.store.maps (key page) ≡ true }
+        ensures passes { PassesParts M.PageDevice T.PageDevice self.old self.new result }
+        ensures found { IfOk result (λ f. IsFoundAt self.new.store page f) }
+        ensures pins { self.new.store.pins ≡ self.old.store.pins }
+        ensures work { PinWork (is_inside self.old.store (key page)) self.old.store.counts self.new.store.counts result }
+    {
+        if let Some(at) = self.store.find(page) {
+            return Ok(at);
+        }
+        let at = self.room()?;
+        self.load(at, page)?;
+        Ok(at)
+    }
+}

@@ -1,0 +1,88 @@
+//! The pool, how it is opened and closed, and what it tells of itself.
+ghost use Rattle.std.specs.Prelude.{◌≡◌, IfOk, IfErr};
+ghost use Rattle.hg_pool.specs.Opening.{IsPossible, new_space, no_counts};
+
+use crate::devices::Devices;
+use crate::opening::new_store;
+use crate::parts::Parts;
+use crate::{Config, PoolCounts};
+use hg_base::Pages;
+use hg_io::PageDevice;
+use std::alloc::Global;
+use std::marker::Model;
+
+/// A pool of frames over a device for the main file and one for the temporary file. Its calls take
+/// no memory. It must be spent by `close`.
+pub struct Pool<M: PageDevice, T: PageDevice> {
+    pub(crate) parts: Parts<M, T>,
+}
+
+impl<M: PageDevice, T: PageDevice> Model for Pool<M, T> {
+    ghost use Rattle.hg_pool.specs.declared.parts.Parts.{Parts};
+
+    ghost Value = { Parts M T };
+
+    ghost use Rattle.hg_pool.specs.Shown.{IsWhole};
+
+    ghost view = { λ p. p.parts };
+
+    ghost invariant = { λ p. IsWhole M.PageDevice T.PageDevice p.parts };
+}
+
+impl<M: PageDevice, T: PageDevice> Pool<M, T> {
+    ghost use Rattle.std.specs.Prelude.{◌≡◌, IfOk, IfErr};
+    ghost use Rattle.hg_base.specs.Space.{NoPins};
+    ghost use Rattle.hg_pool.specs.Disks.{disk_of};
+    ghost use Rattle.hg_pool.specs.Opening.{IsPossible, new_space, no_counts};
+    ghost use Rattle.hg_pool.specs.Shown.{state_of, main_device, temp_device, current_of, counts_of_pool};
+
+    /// Reserves the frames and the page maps, and opens a pool in which no page is taken. The only error
+    /// is want of memory; the devices are then handed back. No device is called.
+    pub fn new(alloc: Global, config: &Config, main: M, temp: T) -> Result<Pool<M, T>, (M, T)>
+        requires { IsPossible config.now (M.pages main) (T.pages temp) }
+        ensures start { IfOk result (λ pool. state_of M.PageDevice T.PageDevice pool
+            ≡ new_space config.now (record { main = disk_of M.PageDevice main; temp = disk_of T.PageDevice temp })) }
+        ensures no_pins { IfOk result (λ pool. NoPins (state_of M.PageDevice T.PageDevice pool)) }
+        ensures counts { IfOk result (λ pool. counts_of_pool pool ≡ no_counts) }
+        ensures main { IfOk result (λ pool. main_device pool ≡ main) }
+        ensures temp { IfOk result (λ pool. temp_device pool ≡ temp) }
+        ensures handed_back { IfErr result (λ devices. devices ≡ record { 0 = main; 1 = temp }) }
+    {
+        match new_store(alloc, config) {
+            Err(_) => Err((main, temp)),
+            Ok(store) => Ok(Pool {
+                parts: Parts {
+                    devices: Devices { main, temp },
+                    store,
+                },
+            }),
+        }
+    }
+
+    /// How many frames are in use.
+    pub fn current(&self) -> u32
+        ensures { result ≡ current_of self.now }
+    {
+        self.parts.store.frames.len() as u32
+    }
+
+    /// What the pool did so far.
+    pub fn counts(&self) -> PoolCounts
+        ensures { result ≡ counts_of_pool self.now }
+    {
+        self.parts.store.counts
+    }
+
+    /// Gives the devices back as they are. No device is called: what was not written is lost.
+    pub fn close(self) -> (M, T)
+        requires { NoPins (state_of M.PageDevice T.PageDevice self) }
+        ensures main { result.0 ≡ main_device self }
+        ensures temp { result.1 ≡ temp_device self }
+    {
+        let Pool { parts } = self;
+        let Parts { devices, store } = parts;
+        drop(store);
+        let Devices { main, temp } = devices;
+        (main, temp)
+    }
+}
