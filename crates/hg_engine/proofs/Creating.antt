@@ -1,5 +1,5 @@
 -- A table is made, or not.
-use Rattle.std.specs.Prelude.{◌≡◌, ◌≢◌, ℕ, zero, suc, ◌+◌, ◌<◌, ◌≤◌, ◌==◌, Bool, true, false, List, [], ◌∷◌, ◌++◌, length, All, Option, Some, None, unwrap_or, if◌then◌else◌, slice_get, slice_index_or}
+use Rattle.std.specs.Prelude.{◌≡◌, ◌≢◌, ℕ, zero, suc, ◌+◌, ◌<◌, ◌==◌, Bool, true, false, List, [], ◌∷◌, ◌++◌, length, All, Option, Some, None, unwrap_or, if◌then◌else◌, slice_get, slice_index_or}
 use Rattle.std.proofs.Common.{sym, ◌∙◌, ap, subst, refl, arith, inl, inr, length-append}
 use Rattle.std.proofs.lemmas.Bool.{false≢true}
 use Rattle.std.proofs.lemmas.Bool.Decides.{nat_tests, eqb_tells}
@@ -7,8 +7,7 @@ use Rattle.std.proofs.lemmas.Option.{slice_get_within, slice_get-get_or, none-so
 use Rattle.std.proofs.lemmas.List.Elements.{All-get_or, All-from_get_or}
 use Rattle.std.proofs.lemmas.List.Sorted.{IsPermutation-refl}
 use Rattle.hg_base.specs.Space.{Space}
-use Rattle.hg_base.specs.declared.Table.{Table}
-use Rattle.hg_machine.specs.State.{State, TableState, IsUnknown}
+use Rattle.hg_machine.specs.State.{State, TableState}
 use Rattle.hg_machine.specs.CreateTable.{CreatesTable, with_table, table_made, table_refused}
 use Rattle.hg_machine.specs.Reply.{created, syntax_error}
 use Rattle.hg_model.specs.declared.values.Value.{Value}

@@ -1,11 +1,9 @@
 -- How long the coding of a row of numbers is.
-use Rattle.std.specs.Prelude.{◌≡◌, ℕ, suc, ◌+◌, ◌*◌, ◌<◌, ◌≤◌, ℤ, Bool, true, false, List, [], ◌∷◌, ◌++◌, length, take, drop, if◌then◌else◌}
-use Rattle.std.specs.List.{flat_map}
-use Rattle.std.proofs.Common.{sym, ◌∙◌, ap, subst, refl, arith, length-append}
+use Rattle.std.specs.Prelude.{◌≤◌, ℤ, Bool, true, false, length, if◌then◌else◌}
+use Rattle.std.proofs.Common.{sym, subst, arith}
 use Rattle.hg_model.specs.Tables.{fits_integer}
-use Rattle.hg_model.specs.declared.values.Value.{Value}
 use Rattle.hg_model.specs.declared.values.Value.TheVariants.{Int}
-use Rattle.hg_value.specs.Coding.{coding, coded}
+use Rattle.hg_value.specs.Coding.{coding}
 use Rattle.hg_value.specs.Laws.{ValuesAreAsLong}
 
 either-short : (b : Bool) → (if b then 5 else 17) ≤ 17

@@ -1,36 +1,32 @@
 -- An INSERT is a step of the plain machine.
-use Rattle.std.specs.Prelude.{◌≡◌, ◌≢◌, ℕ, ◌+◌, ◌-◌, ◌^◌, ◌<◌, ◌≤◌, Bool, true, false, List, [], ◌∷◌, length, All, Option, Some, None, Result, Ok, Err, MatchResult, slice_get, slice_set, slice_index_or}
+use Rattle.std.specs.Prelude.{◌≡◌, ◌≢◌, ℕ, ◌^◌, ◌<◌, ◌≤◌, Bool, true, List, [], ◌∷◌, length, All, Some, None, Result, Ok, Err, slice_get, slice_set, slice_index_or}
 use Rattle.std.proofs.Common.{sym, ◌∙◌, ap, subst, refl, arith}
 use Rattle.std.proofs.lemmas.Option.{slice_get-get_or}
 use Rattle.hg_base.specs.Space.{Space, NoPins}
-use Rattle.hg_base.specs.Causes.{Later, Rose, MainFailed, TempFailed}
-use Rattle.hg_base.specs.declared.File.{File}
 use Rattle.hg_base.specs.declared.File.TheVariants.{Main, Temp}
-use Rattle.hg_base.specs.declared.Table.{Table}
 use Rattle.hg_base.specs.declared.pages.PageFault.{PageFault}
 use Rattle.hg_base.specs.declared.pages.PageFault.TheVariants as fault
 use Rattle.hg_model.specs.declared.values.Value.{Value}
-use Rattle.hg_machine.specs.State.{State, TableState, IsUnknown, IsTableAt, Draws}
-use Rattle.hg_machine.specs.Reply.{Reply as Line, inserted, syntax_error, unknown_table, stamps_used_up}
+use Rattle.hg_machine.specs.State.{State, TableState, IsTableAt, Draws}
+use Rattle.hg_machine.specs.Reply.{inserted, syntax_error, unknown_table, stamps_used_up}
 use Rattle.hg_machine.specs.Insert.{Inserts, MayInsert, rows_misfit, rows_nowhere, no_stamp_left, device_failed, file_full}
 use Rattle.hg_table.specs.Marks.{last, Draws as DrawsStamp, Commits}
 use Rattle.hg_engine.specs.Named.{IsNamedAt}
 use Rattle.hg_engine.specs.Putting.{Puts, PutsSome, PutFault, HaveColumns, CanPut}
-use Rattle.hg_engine.specs.Standing.{TableStands, TablesStand, LeftStands, Stands}
+use Rattle.hg_engine.specs.Standing.{TableStands, Stands}
 use Rattle.hg_engine.specs.Stepping.{TablesAre, StepsTo, CanPutAt, PutsInto, IsSameSpace, with_ends, line_of}
 use Rattle.hg_engine.specs.declared.entries.Entry.{Entry}
-use Rattle.hg_engine.specs.declared.scan.Scan.{Scan}
 use Rattle.hg_engine.specs.declared.tables.Tables.{Tables}
 use Rattle.hg_engine.proofs.Creating.{FoundAt, found-at, unknown-entry, idle-left}
 use Rattle.hg_engine.proofs.Saying.{same-space}
 use Rattle.hg_engine.proofs.Stepping.{may-insert, insert-joined, insert-failed}
 
 -- the state with nothing at work
-resting : (s : Space) (x : Tables) (state : State) → x.scan ≡ None → TablesAre s x state → Stands s x.entries.items x.stamps None state
+pub resting : (s : Space) (x : Tables) (state : State) → x.scan ≡ None → TablesAre s x state → Stands s x.entries.items x.stamps None state
 resting s x state idle st = subst (λ c. Stands s x.entries.items x.stamps c state) idle st
 
 -- a step that changed nothing
-stays : (s : Space) (old new : Tables) (state : State) → new.entries.items ≡ old.entries.items → new.stamps ≡ old.stamps → new.scan ≡ old.scan
+pub stays : (s : Space) (old new : Tables) (state : State) → new.entries.items ≡ old.entries.items → new.stamps ≡ old.stamps → new.scan ≡ old.scan
     → TablesAre s old state → TablesAre s new state
 stays s old new state entries stamps scan st =
     subst (λ c. Stands s new.entries.items new.stamps c state) (sym scan)
@@ -58,7 +54,7 @@ module _ (s : Space) (old new : Tables) (name : List ℕ) (rows : List (List Val
       ap (λ (e : Entry). e.name) (Rattle.hg_engine.proofs.Creating.some-one f.entry (slice_index_or old.entries.items k d)
       (sym f.at_entry ∙ slice_get-get_or old.entries.items k d at.inside)) ∙ at.named d
 
-  at-table : (k : ℕ) (before : State) → (st : TablesAre s old before) → (at : IsNamedAt old.entries.items name k) → (f : FoundAt s old.stamps old.entries.items before.tables st.pages k)
+  pub at-table : (k : ℕ) (before : State) → (st : TablesAre s old before) → (at : IsNamedAt old.entries.items name k) → (f : FoundAt s old.stamps old.entries.items before.tables st.pages k)
       → IsTableAt before name k f.table
   at-table k before st at f = record { place = f.at_table; named = f.stands.name ∙ named-there k before st at f }
 

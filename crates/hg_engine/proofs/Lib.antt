@@ -9,3 +9,6 @@ pub mod Stepping
 pub mod Turns
 pub mod Saying
 pub mod Inserting
+pub mod SelectSteps
+pub mod FirstPage
+pub mod EngineSteps

@@ -5,7 +5,6 @@ use Rattle.std.proofs.Common.{sym, ◌∙◌, ap, subst, refl, append_assoc}
 use Rattle.std.proofs.lemmas.Option.{none-some}
 use Rattle.hg_base.specs.Space.{Space}
 use Rattle.hg_base.specs.Steadiness.{Steady}
-use Rattle.hg_base.specs.SteadyLaws.{Steady_then}
 use Rattle.hg_base.specs.declared.Place.{Place}
 use Rattle.hg_base.specs.declared.Table.{Table}
 use Rattle.hg_model.specs.declared.values.Value.{Value}

@@ -1,6 +1,5 @@
 -- Laws of rows that are put into a table one by one.
-use Rattle.std.specs.Prelude.{◌≡◌, ℕ, zero, suc, ◌+◌, ◌<◌, ◌≤◌, ◌⊎◌, ◌==◌, ◌||◌, Bool, true, false, List, [], ◌∷◌, ◌++◌, length, Option, Some, None, unwrap_or, if◌then◌else◌, take, slice_index_or}
-use Rattle.std.specs.List.{list_any}
+use Rattle.std.specs.Prelude.{◌≡◌, ℕ, zero, suc, ◌+◌, ◌<◌, ◌≤◌, ◌⊎◌, ◌==◌, ◌||◌, Bool, true, false, List, [], ◌∷◌, ◌++◌, length, Option, Some, unwrap_or, if◌then◌else◌, take, slice_index_or}
 use Rattle.std.proofs.Common.{sym, ◌∙◌, ap, subst, refl, arith, inl, inr, length-append, length-take}
 use Rattle.std.proofs.Math.Seq.{take-suc}
 use Rattle.std.proofs.lemmas.List.Elements.{All-get_or}
@@ -8,7 +7,7 @@ use Rattle.std.proofs.lemmas.Bool.{false≢true, false_from_ne_true}
 use Rattle.std.proofs.lemmas.Bool.Decides.{nat_tests, eqb_tells}
 use Rattle.std.proofs.lemmas.Option.{none-some}
 use Rattle.hg_base.specs.Space.{Space, NoPins, at, key_in, taken_in, taken_below}
-use Rattle.hg_base.specs.Steadiness.{Mine, Steady, these_pages}
+use Rattle.hg_base.specs.Steadiness.{Steady}
 use Rattle.hg_base.specs.SteadyLaws.{Steady_same, Steady_then, Steady_wider}
 use Rattle.hg_base.specs.TakenLaws.{AreDistinctPages, taken_below-new}
 use Rattle.hg_base.specs.declared.File.TheVariants.{Main}
@@ -16,13 +15,12 @@ use Rattle.hg_base.specs.declared.Place.{Place}
 use Rattle.hg_base.specs.declared.Table.{Table}
 use Rattle.hg_model.specs.declared.values.Value.{Value}
 use Rattle.hg_table.specs.Chains.{IsChain, has_page, last_of}
-use Rattle.hg_table.specs.Versions.{Placed, IsTable}
 use Rattle.hg_base.specs.Causes.{Later}
 use Rattle.hg_base.specs.declared.pages.PageFault.{PageFault}
 use Rattle.hg_base.specs.declared.pages.PageFault.TheVariants as fault
-use Rattle.hg_table.specs.Calls.{HasTable, InsertFault, IsNamed, Inserts, KeepsPages, AddsPage, newborn, insert_mine, none_mine}
+use Rattle.hg_table.specs.Calls.{HasTable, InsertFault, IsNamed, Inserts, newborn, insert_mine, none_mine}
 use Rattle.hg_table.specs.TableLaws.{NoneMine, chain_stays, table_stays}
-use Rattle.hg_engine.specs.Putting.{Joined, Grows, Puts, PutsSome, PutFault, OneMore, CanPut, HaveColumns, table_mine}
+use Rattle.hg_engine.specs.Putting.{Grows, Puts, PutsSome, PutFault, OneMore, CanPut, HaveColumns, table_mine}
 use Rattle.hg_engine.proofs.SeenLaws.{joined-none, joined-one, joined-then}
 
 -- a page that is named is among the pages

@@ -1,5 +1,5 @@
 -- Lines of a reply.
-use Rattle.std.specs.Prelude.{◌≡◌, ℕ, ◌+◌, ◌-◌, ◌^◌, ◌≤◌, min, Bool, true, false, ◌||◌, List, [], ◌∷◌, ◌++◌, if◌then◌else◌}
+use Rattle.std.specs.Prelude.{◌≡◌, ℕ, ◌+◌, Bool, true, false, ◌||◌, List, [], ◌∷◌, ◌++◌, if◌then◌else◌}
 use Rattle.std.proofs.Common.{sym, ◌∙◌, ap, subst, refl, arith}
 use Rattle.std.proofs.lemmas.Bool.{false≢true}
 use Rattle.std.proofs.lemmas.List.{append-nil}
@@ -9,12 +9,13 @@ use Rattle.hg_base.specs.Steadiness.{Mine, Steady}
 use Rattle.hg_base.specs.SteadyLaws.{Later_same}
 use Rattle.hg_base.specs.declared.pages.PageFault.{PageFault}
 use Rattle.hg_base.specs.declared.pages.PageFault.TheVariants as fault
-use Rattle.hg_base.specs.declared.File.{File}
 use Rattle.hg_base.specs.declared.File.TheVariants.{Main, Temp}
-use Rattle.hg_io.specs.Count.{raised}
-use Rattle.hg_machine.specs.Reply.{Reply as Line, reply_text, text_of, has_error, is_error, fault_lines, is_fault_of}
+use Rattle.hg_machine.specs.Reply.{Reply as Line, closed, reply_text, text_of, has_error, is_error, fault_lines, is_fault_of}
 use Rattle.hg_reply.specs.declared.reply.Reply.{Reply}
+use Rattle.hg_base.specs.declared.Check.{Check}
+use Rattle.hg_base.specs.declared.PageId.{PageId}
 use Rattle.hg_engine.specs.Putting.{PutFault}
+use Rattle.hg_engine.specs.Scanning.{ScanFault}
 use Rattle.hg_engine.specs.Stepping.{Tells, Counted, FullOnlyWhereFull, IsSameSpace, says_full, line_of}
 
 text-one : (line : Line) → reply_text line ≡ text_of (line ∷ [])
@@ -79,3 +80,51 @@ put-counted a b n (fault.Damaged page check) later h = counted-plain a b (line_o
 
 pub put-known : (a b : Space) (n : ℕ) (f : PageFault) → PutFault a b n f → f ≡ fault.TempFull → ⊥
 put-known a b n f h e = subst (PutFault a b n) e h
+
+pub tells-none : (reply : Reply) → reply.text.items ≡ [] → reply.has_error ≡ false → Tells reply []
+unfolding text_of has_error
+tells-none reply empty clean = record { text = empty; errors = clean }
+
+pub counted-nothing : (a : Space) → Counted a a []
+unfolding fault_lines
+counted-nothing a = record { main = omega arith; temp = omega arith }
+
+text-two : (one other : Line) → reply_text one ++ reply_text other ≡ text_of (one ∷ other ∷ [])
+unfolding text_of
+text-two one other = ap (λ t. reply_text one ++ t) (sym (append-nil (reply_text other)))
+
+error-two : (one other : Line) → (is_error one || is_error other) ≡ has_error (one ∷ other ∷ [])
+unfolding has_error
+error-two one other = ap (λ b. is_error one || b) (elim (is_error other) as (λ b. b ≡ (b || false)) [ true ↦ refl | false ↦ refl ])
+
+-- two lines, in a reply that had none
+pub tells-two : (old mid new : Reply) (one other : Line) → old.text.items ≡ [] → old.has_error ≡ false
+    → mid.text.items ≡ old.text.items ++ reply_text one → mid.has_error ≡ (old.has_error || is_error one)
+    → new.text.items ≡ mid.text.items ++ reply_text other → new.has_error ≡ (mid.has_error || is_error other) → Tells new (one ∷ other ∷ [])
+tells-two old mid new one other empty clean text errors more worse = record {
+  text = more ∙ ap (λ t. t ++ reply_text other) (text ∙ ap (λ t. t ++ reply_text one) empty) ∙ text-two one other;
+  errors = worse ∙ ap (λ b. b || is_error other) (errors ∙ ap (λ b. b || is_error one) clean) ∙ error-two one other;
+}
+
+main-closed : (a b : Space) → Later a.counts b.counts → MainFailed a.counts b.counts → Counted a b (line_of fault.MainFault ∷ closed ∷ [])
+unfolding fault_lines
+main-closed a b later h = record { main = let own = h.1 in omega arith; temp = let t = later.temp_device in omega arith }
+
+temp-closed : (a b : Space) → Later a.counts b.counts → TempFailed a.counts b.counts → Counted a b (line_of fault.TempFault ∷ closed ∷ [])
+unfolding fault_lines
+temp-closed a b later h = record { main = let t = later.main_device in omega arith; temp = let own = h.1 in omega arith }
+
+damaged-closed : (a b : Space) (page : PageId) (check : Check) → Later a.counts b.counts → Counted a b (line_of (fault.Damaged page check) ∷ closed ∷ [])
+unfolding fault_lines
+damaged-closed a b page check later = record { main = let t = later.main_device in omega arith; temp = let t = later.temp_device in omega arith }
+
+pub scan-counted : (a b : Space) (f : PageFault) → Later a.counts b.counts → ScanFault a b f → Counted a b (line_of f ∷ closed ∷ [])
+scan-counted a b fault.MainFault later h = main-closed a b later h
+scan-counted a b fault.TempFault later h = temp-closed a b later h
+scan-counted a b fault.MainFull later h = absurd h
+scan-counted a b fault.TempFull later h = absurd h
+scan-counted a b (fault.Damaged page check) later h = damaged-closed a b page check later
+
+pub or-false : (b : Bool) → b ≡ (b || false)
+or-false true = refl
+or-false false = refl

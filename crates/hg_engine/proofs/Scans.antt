@@ -1,8 +1,7 @@
 -- A scan goes on look by look.
-use Rattle.std.specs.Prelude.{◌≡◌, ℕ, ◌+◌, ◌<◌, ◌≤◌, Bool, true, false, List, [], ◌∷◌, ◌++◌, length, Option, Some, None, map, if◌then◌else◌}
-use Rattle.std.proofs.Common.{sym, ◌∙◌, ap, subst, refl, arith}
+use Rattle.std.specs.Prelude.{◌≡◌, ℕ, ◌+◌, ◌<◌, ◌≤◌, Bool, true, false, List, [], ◌∷◌, ◌++◌, length, Option, Some, if◌then◌else◌}
+use Rattle.std.proofs.Common.{sym, ◌∙◌, ap, refl, arith}
 use Rattle.hg_base.specs.Space.{Space, NoPins}
-use Rattle.hg_base.specs.Causes.{NoneFull, Rose, MainFailed, TempFailed}
 use Rattle.hg_base.specs.Steadiness.{Steady}
 use Rattle.hg_base.specs.SteadyLaws.{Steady_same, Steady_then}
 use Rattle.hg_base.specs.declared.Place.{Place}
@@ -13,8 +12,7 @@ use Rattle.hg_model.specs.declared.values.Value.{Value}
 use Rattle.hg_table.specs.Calls.{none_mine, TakesNone}
 use Rattle.hg_table.specs.Versions.{Placed}
 use Rattle.hg_engine.specs.Seen.{is_seen, row_of, seen_rows}
-use Rattle.hg_engine.specs.Scanning.{Position, IsSomewhere, IsScan, Passes, Finds, ScanFault}
-use Rattle.hg_engine.specs.declared.next.Found.{Found}
+use Rattle.hg_engine.specs.Scanning.{Position, IsScan, Passes, Finds, ScanFault}
 use Rattle.hg_engine.proofs.SeenLaws.{seen_rows-cons}
 
 pub TakesNone_same : (a : Space) → TakesNone a a

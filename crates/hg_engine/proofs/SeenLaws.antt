@@ -1,5 +1,5 @@
 -- Laws of the rows that a snapshot sees.
-use Rattle.std.specs.Prelude.{◌≡◌, ℕ, ◌<◌, ◌≤◌, ◌&&◌, ◌||◌, not, nat_lt, nat_le, Bool, true, false, List, [], ◌∷◌, ◌++◌, Option, Some, None, MatchOption, ⊤, map, if◌then◌else◌}
+use Rattle.std.specs.Prelude.{◌≡◌, ℕ, ◌≤◌, nat_lt, nat_le, Bool, true, false, List, [], ◌∷◌, ◌++◌, Option, Some, None, MatchOption, ⊤, map, if◌then◌else◌}
 use Rattle.std.specs.List.{filter, AllByRecursion}
 use Rattle.std.specs.List.Sorted.{IsPermutation}
 use Rattle.std.proofs.Common.{sym, ◌∙◌, ap, subst, refl, arith, append_assoc}
@@ -8,9 +8,9 @@ use Rattle.std.proofs.lemmas.List.{append-nil, map-append}
 use Rattle.std.proofs.lemmas.List.Elements.{filter-append}
 use Rattle.std.proofs.lemmas.List.Sorted.{IsPermutation-refl, IsPermutation-trans, IsPermutation-sym, IsPermutation-middle, IsPermutation-to_front, IsPermutation-append_left}
 use Rattle.hg_base.specs.declared.Place.{Place}
-use Rattle.hg_model.specs.Visible.{is_alive, is_visible}
+use Rattle.hg_model.specs.Visible.{is_alive}
 use Rattle.hg_model.specs.declared.values.Value.{Value}
-use Rattle.hg_table.specs.Versions.{Placed, RowVersion}
+use Rattle.hg_table.specs.Versions.{Placed}
 use Rattle.hg_table.specs.Calls.{PutsIn, newborn}
 use Rattle.hg_engine.specs.Seen.{is_seen, row_of, seen_rows, IsPast}
 use Rattle.hg_engine.specs.Putting.{Joined}

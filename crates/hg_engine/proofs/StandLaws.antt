@@ -1,5 +1,5 @@
 -- What the tables of an engine are after rows were put into one of them.
-use Rattle.std.specs.Prelude.{◌≡◌, ◌≢◌, ℕ, zero, suc, ◌*◌, ◌<◌, ◌≤◌, ◌⊎◌, ◌==◌, Bool, true, false, List, [], ◌∷◌, ◌++◌, length, Option, Some, None, unwrap_or, if◌then◌else◌, slice_get, slice_set, slice_index_or}
+use Rattle.std.specs.Prelude.{◌≡◌, ◌≢◌, ℕ, zero, suc, ◌*◌, ◌<◌, ◌≤◌, ◌==◌, Bool, true, false, List, [], ◌∷◌, ◌++◌, length, Option, Some, None, unwrap_or, if◌then◌else◌, slice_get, slice_set, slice_index_or}
 use Rattle.std.specs.List.{AllByRecursion}
 use Rattle.std.specs.List.Sorted.{IsPermutation}
 use Rattle.std.proofs.Common.{sym, ◌∙◌, ap, subst, refl, arith, inl, inr}
@@ -15,10 +15,9 @@ use Rattle.hg_model.specs.declared.values.Value.{Value}
 use Rattle.hg_machine.specs.State.{TableState}
 use Rattle.hg_table.specs.Marks.{last, committed}
 use Rattle.hg_table.specs.Chains.{IsChain, has_page}
-use Rattle.hg_table.specs.Versions.{Placed, IsTable}
 use Rattle.hg_table.specs.Calls.{IsNamed}
 use Rattle.hg_table.specs.TableLaws.{NoneMine, chain_stays, table_stays}
-use Rattle.hg_engine.specs.Seen.{seen_rows, IsPast}
+use Rattle.hg_engine.specs.Seen.{seen_rows}
 use Rattle.hg_engine.specs.Putting.{Grows, Puts, table_mine}
 use Rattle.hg_engine.specs.Standing.{HasRows, TableStands, TablesStand}
 use Rattle.hg_engine.specs.declared.entries.Entry.{Entry}

@@ -1,23 +1,19 @@
 -- Steps of an engine are steps of the plain machine.
 use Rattle.std.specs.Prelude.{◌≡◌, ◌≢◌, ℕ, zero, suc, ◌+◌, ◌^◌, ◌<◌, ◌≤◌, ◌==◌, Bool, true, false, List, [], ◌∷◌, ◌++◌, length, All, Option, Some, None, if◌then◌else◌, slice_get, slice_set}
-use Rattle.std.specs.List.Sorted.{IsPermutation}
 use Rattle.std.proofs.Common.{sym, ◌∙◌, ap, subst, refl, arith}
-use Rattle.hg_base.specs.Space.{Space, NoPins, taken_in}
-use Rattle.hg_base.specs.Steadiness.{Steady}
-use Rattle.hg_base.specs.declared.File.{File}
-use Rattle.hg_base.specs.declared.File.TheVariants.{Main, Temp}
+use Rattle.hg_base.specs.Space.{Space, taken_in}
+use Rattle.hg_base.specs.declared.File.TheVariants.{Main}
 use Rattle.hg_base.specs.declared.Table.{Table}
 use Rattle.hg_model.specs.declared.values.Value.{Value}
-use Rattle.hg_machine.specs.State.{State, TableState, IsUnknown, IsTableAt, Draws}
-use Rattle.hg_machine.specs.Reply.{Reply, inserted}
+use Rattle.hg_machine.specs.State.{State, TableState, Draws}
+use Rattle.hg_machine.specs.Reply.{inserted}
 use Rattle.hg_machine.specs.Insert.{Inserts, MayInsert, with_rows, rows_joined}
 use Rattle.hg_table.specs.Marks.{last, committed, Draws as DrawsStamp, Commits}
-use Rattle.hg_engine.specs.Putting.{Puts, PutsSome, PutFault, HaveColumns}
+use Rattle.hg_engine.specs.Putting.{Puts, HaveColumns}
 use Rattle.hg_engine.specs.Standing.{TableStands, TablesStand, LeftStands, Stands}
 use Rattle.hg_engine.specs.declared.entries.Entry.{Entry}
-use Rattle.hg_engine.specs.declared.scan.Scan.{Scan}
 use Rattle.hg_engine.proofs.StandLaws.{IsLater, with_data, with_more, pages_with, uncommitted-stands, committed-stands, tables-then, get-set-here, get-set-other, length-set}
-use Rattle.hg_engine.proofs.Creating.{FoundAt, found-at, unknown-entry}
+use Rattle.hg_engine.proofs.Creating.{FoundAt}
 
 -- a stamp that was drawn
 pub later-drawn : (old new : List Bool) (s : ℕ) → DrawsStamp old new s → IsLater old new

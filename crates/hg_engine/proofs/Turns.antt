@@ -1,5 +1,5 @@
 -- A SELECT begins, and its turns are turns of the plain machine.
-use Rattle.std.specs.Prelude.{◌≡◌, ℕ, zero, suc, ◌+◌, ◌*◌, ◌<◌, ◌≤◌, Bool, true, false, List, [], ◌∷◌, ◌++◌, length, Option, Some, None, slice_get}
+use Rattle.std.specs.Prelude.{◌≡◌, ℕ, zero, suc, ◌*◌, ◌<◌, ◌≤◌, Bool, true, false, List, [], ◌∷◌, ◌++◌, length, Option, Some, None, slice_get}
 use Rattle.std.specs.List.Sorted.{IsPermutation}
 use Rattle.std.proofs.Common.{sym, ◌∙◌, ap, subst, refl, arith, length-append}
 use Rattle.std.proofs.lemmas.Bool.{false≢true}
@@ -9,25 +9,22 @@ use Rattle.hg_base.specs.Steadiness.{Steady}
 use Rattle.hg_base.specs.TakenLaws.{AreDistinctPages-few}
 use Rattle.hg_base.specs.declared.File.{File}
 use Rattle.hg_base.specs.declared.File.TheVariants.{Main}
-use Rattle.hg_base.specs.declared.Place.{Place}
 use Rattle.hg_model.specs.declared.values.Value.{Value}
 use Rattle.hg_machine.specs.State.{State, TableState}
 use Rattle.hg_machine.specs.Reply.{device_fault, row, at_end, closed}
 use Rattle.hg_machine.specs.Run.{Turn, gives_row, ends, fails}
 use Rattle.hg_table.specs.Marks.{last, committed}
-use Rattle.hg_table.specs.Chains.{IsChain}
 use Rattle.hg_table.specs.Versions.{Placed, RowVersion, IsTable, in_slot, in_slots, in_pages, most_slots}
 use Rattle.hg_table.specs.Calls.{none_mine, TakesNone}
 use Rattle.hg_table.specs.TableLaws.{chain_stays, table_stays}
 use Rattle.hg_engine.specs.Seen.{seen_rows}
 use Rattle.hg_engine.specs.Scanning.{Position, IsScan, Finds}
-use Rattle.hg_engine.specs.Standing.{HasRows, TableStands, TablesStand, HasLeft, ScanStands, LeftStands, Stands}
+use Rattle.hg_engine.specs.Standing.{TableStands, TablesStand, HasLeft, ScanStands, LeftStands, Stands}
 use Rattle.hg_engine.specs.declared.entries.Entry.{Entry}
 use Rattle.hg_engine.specs.declared.next.Found.{Found}
 use Rattle.hg_engine.specs.declared.scan.Scan.{Scan}
 use Rattle.hg_engine.proofs.PutLaws.{none-mine}
 use Rattle.hg_engine.proofs.Creating.{FoundAt}
-use Rattle.hg_engine.proofs.Looking.{position-stays}
 
 -- a page shows no more versions than it has slots
 slots-few : (x : ℕ) (held : ℕ → Option RowVersion) (k n : ℕ) → length (in_slots x held k n) ≤ n

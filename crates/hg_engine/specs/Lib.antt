@@ -4,3 +4,6 @@ pub mod Standing
 pub mod Putting
 pub mod Named
 pub mod Stepping
+pub mod Opened
+pub mod Shown
+pub mod ShownLaws

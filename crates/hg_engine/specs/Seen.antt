@@ -1,9 +1,9 @@
 -- What a table shows of its versions: the rows of those that a snapshot sees. Our own rule.
-use Rattle.std.specs.Prelude.{ℕ, ◌≤◌, Bool, List, map, Option, MatchOption, ⊤}
-use Rattle.std.specs.List.{filter, AllByRecursion}
+use Rattle.std.specs.Prelude.{ℕ, ◌≤◌, Bool, List, map, MatchOption, ⊤}
+use Rattle.std.specs.List.{filter}
 use Rattle.hg_model.specs.Visible.{is_visible}
 use Rattle.hg_model.specs.declared.values.Value.{Value}
-use Rattle.hg_table.specs.Versions.{Placed, RowVersion}
+use Rattle.hg_table.specs.Versions.{Placed}
 
 abbrev pub is_seen : (ℕ → Bool) → ℕ → Placed → Bool
 is_seen committed snapshot v = is_visible committed snapshot v.version

@@ -1,7 +1,7 @@
 -- Which state of the plain machine an engine stands for. Our own rule: its tables are the rows that the
 -- last stamp sees, the pages in use are the main pages that are taken, and the stamps given are those
 -- that were drawn. Where the space does not tell its bytes nothing is said of rows.
-use Rattle.std.specs.Prelude.{◌≡◌, ◌≢◌, ℕ, ◌<◌, ◌++◌, ⊤, Bool, true, List, length, Option, None, Some, slice_get}
+use Rattle.std.specs.Prelude.{◌≡◌, ◌≢◌, ℕ, ◌<◌, ⊤, Bool, true, List, length, Option, None, Some, slice_get}
 use Rattle.std.specs.List.{AllByRecursion}
 use Rattle.std.specs.List.Sorted.{IsPermutation}
 use Rattle.hg_base.specs.Space.{Space, NoPins, taken_in}

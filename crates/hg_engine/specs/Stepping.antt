@@ -1,9 +1,8 @@
 -- What a step of an engine promises: it says lines, and is a step of the plain machine. Our own rule.
-use Rattle.std.specs.Prelude.{◌≡◌, ◌≢◌, ℕ, ◌<◌, ◌≤◌, true, List, [], ◌∷◌, length, All, Option, Some, Result, MatchResult, slice_get, slice_set, Bool, false}
+use Rattle.std.specs.Prelude.{◌≡◌, ◌≢◌, ℕ, ◌<◌, ◌≤◌, true, List, length, All, ◌+◌, Option, None, Some, Result, MatchResult, slice_get, slice_set, Bool, false}
 use Rattle.std.specs.List.{list_any}
 use Rattle.hg_base.specs.Space.{Space, NoPins}
 use Rattle.hg_base.specs.Causes.{Later, Rose}
-use Rattle.hg_base.specs.declared.File.{File}
 use Rattle.hg_base.specs.declared.File.TheVariants.{Main, Temp}
 use Rattle.hg_io.specs.Count.{raised}
 use Rattle.hg_machine.specs.CreateTable.{AllDifferent}
@@ -18,6 +17,7 @@ use Rattle.hg_table.specs.Chains.{IsChain}
 use Rattle.hg_engine.specs.Putting.{HaveColumns, CanPut, Puts, PutsSome}
 use Rattle.hg_engine.specs.Standing.{Stands}
 use Rattle.hg_engine.specs.declared.entries.Entry.{Entry}
+use Rattle.hg_engine.specs.declared.scan.Scan.{Scan}
 use Rattle.hg_engine.specs.declared.tables.Tables.{Tables}
 
 -- what an engine keeps of its tables stands for this state
@@ -92,3 +92,8 @@ pub record IsSameSpace (a b : Space) : Type 0 where
   pub limit : b.limit ≡ a.limit
   pub pins : NoPins b
   pub later : Later a.counts b.counts
+
+-- at most so many turns are left
+abbrev pub looks_left : Option Scan → ℕ
+looks_left None = 0
+looks_left (Some scan) = scan.budget + 1

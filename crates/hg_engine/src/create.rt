@@ -36,7 +36,7 @@ impl Tables {
     ghost use Rattle.hg_machine.specs.CreateTable.{CreatesTable};
     ghost use Rattle.hg_machine.specs.Reply.{Reply as Line};
     ghost use Rattle.hg_base.specs.Space.{Space};
-    ghost use Rattle.hg_engine.specs.Stepping.{Tells, StepsTo};
+    ghost use Rattle.hg_engine.specs.Stepping.{Tells, Counted, StepsTo};
 
     /// No table, no stamp and no SELECT. All memory that is ever needed is taken here.
     pub fn new(alloc: Global) -> Result<Tables, NoMemory>
@@ -60,7 +60,7 @@ impl Tables {
         requires idle { self.old.scan ≡ None }
         requires empty { reply.old.text.items ≡ [] }
         requires no_error { reply.old.has_error ≡ false }
-        ensures step { (lines : List Line) × Tells reply.new lines
+        ensures step { (lines : List Line) × Tells reply.new lines × ((s : Space) → Counted s s lines)
             × ((s : Space) → StepsTo s s self.old self.new (λ before lines after. CreatesTable before name columns.items lines after) lines) }
         ensures idle { self.new.scan ≡ None }
     {

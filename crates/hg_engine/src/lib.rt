@@ -6,11 +6,17 @@
 #![tactic(auto)]
 
 mod create;
+mod engine;
 mod entries;
 mod faults;
 mod fill;
+mod first;
 mod insert;
 mod next;
 mod putting;
 mod scan;
+mod select;
 mod tables;
+
+pub use engine::{Devices, Engine};
+pub use hg_pool::Config;

@@ -29,7 +29,7 @@ pub enum Look {
 #[derive(Clone, Copy)]
 pub struct Found {
     pub place: Place,
-    pub budget: u32,
+    pub budget: u64,
 }
 
 /// Looks for the next version behind a place. The row of one that the snapshot sees is put into `row`.

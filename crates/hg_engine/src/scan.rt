@@ -7,5 +7,5 @@ use hg_base::Place;
 pub struct Scan {
     pub table: usize,
     pub at: Option<Place>,
-    pub budget: u32,
+    pub budget: u64,
 }

@@ -5,3 +5,4 @@ pub mod Session
 pub mod Serving
 pub mod Ending
 pub mod Number
+pub mod Run

@@ -1,8 +1,9 @@
 //! Runs a script: reads its lines from a source, answers each by an engine, and writes the replies to
-//! a sink. It stands on the traits of the outside (`hg_io`), on the plain machine (`hg_machine`) and
-//! on the seam to an engine (`hg_reply`). No call takes memory.
+//! a sink. It stands on the traits of the outside (`hg_io`), on the plain machine (`hg_machine`), on the
+//! seam to an engine (`hg_reply`) and, for the top call alone, on the engine (`hg_engine`). Memory is taken
+//! at opening alone.
 //!
-//! The contract used above is that of `serve_lines`: for any bytes of a script and any faults of
+//! The contract used above is that of `run`: for any bytes of a script and any faults of
 //! source, sink and devices, what is written is the text of a run of the plain machine over the lines
 //! of the script, as far as the status says; and a fault is answered only where that object's count
 //! of faults rose.
@@ -15,6 +16,9 @@ mod scan;
 mod serve;
 mod session;
 mod statuses;
+mod top;
 
 pub use serve::serve_lines;
+pub use hg_engine::{Config, Devices, Engine};
 pub use statuses::Status;
+pub use top::{Outcome, run};

@@ -43,6 +43,7 @@ fn serve<E: Machine, S: Source, K: Sink>(engine: &mut E, source: &mut S, sink: &
         (outside (S.left source.new) (S.given source.new) (K.written sink.new) (E.faults engine.new)) taken }
     ensures source_fault { result ≡ Status.SourceFault → Rose (S.faults source.old) (S.faults source.new) }
     ensures sink_fault { result ≡ Status.SinkFault → Rose (K.faults sink.old) (K.faults sink.new) }
+    ensures stands { (s : State) × E.stands engine.new s }
     ensures idle { E.pending engine.new ≡ false }
     ensures setting { E.setting engine.new ≡ E.setting engine.old }
     ensures later { NoneFell (E.faults engine.old) (E.faults engine.new) }
@@ -126,6 +127,7 @@ pub fn serve_lines<E: Machine, S: Source, K: Sink>(
     ensures no_usage { result ≢ Status.Usage }
     ensures no_memory { result ≢ Status.NoMemory }
 
+    ensures stands { (s : State) × E.stands engine.new s }
     ensures idle { E.pending engine.new ≡ false }
     ensures setting { E.setting engine.new ≡ E.setting engine.old }
     ensures later { NoneFell (E.faults engine.old) (E.faults engine.new) }

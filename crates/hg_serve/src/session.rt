@@ -266,6 +266,7 @@ impl Session {
         ensures closes { (first : E) (w : Seen) (taken : List ℕ)
             → Serves E.stands (E.setting engine.old).told first engine.old w (seen (K.written sink.old) (E.faults engine.old)) self.old taken
             → Closes E.stands (E.setting engine.old).told first engine.new w (seen (K.written sink.new) (E.faults engine.new)) (lines_of taken) result }
+        ensures stands { (s : State) × E.stands engine.new s }
         ensures idle { E.pending engine.new ≡ false }
         ensures setting { E.setting engine.new ≡ E.setting engine.old }
         ensures later { NoneFell (E.faults engine.old) (E.faults engine.new) }

@@ -1,4 +1,3 @@
-use Rattle.hg_engine.specs.declared.entries.Entry.{Entry}
 use Rattle.hg_table.specs.TableLaws.{no_pages}
 use Rattle.std.proofs.Common.{[]}
 use Rattle.hg_engine.proofs.Creating.{taken_name-none}

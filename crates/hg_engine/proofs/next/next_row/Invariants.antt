@@ -1,4 +1,3 @@
-use Rattle.std.specs.Prelude.{ℕ}
 use Rattle.hg_table.specs.Marks.{committed}
 use Rattle.hg_engine.proofs.Scans.{Scanned}
 use Rattle.hg_engine.proofs.next.next_row.Given as goal

@@ -1,4 +1,4 @@
-use Rattle.std.proofs.Common.{◌≡◌, ◌∙◌, ◌<◌, length, take, sym, ap, subst}
+use Rattle.std.proofs.Common.{◌≡◌, ◌∙◌, take, sym, subst}
 use Rattle.hg_base.specs.declared.Table.{Table}
 use Rattle.hg_engine.specs.Putting.{OneMore, PutsSome}
 use Rattle.hg_engine.proofs.PutLaws.{PutSoFar, put-next, puts-failed, take-more, row-long, length-first}

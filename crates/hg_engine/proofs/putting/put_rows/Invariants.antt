@@ -1,4 +1,4 @@
-use Rattle.std.specs.Prelude.{◌≡◌, take}
+use Rattle.std.specs.Prelude.{take}
 use Rattle.hg_engine.proofs.PutLaws.{PutSoFar}
 use Rattle.hg_engine.proofs.putting.put_rows.Given as goal
 

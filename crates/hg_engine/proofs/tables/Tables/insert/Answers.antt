@@ -1,11 +1,10 @@
-use Rattle.std.proofs.Common.{◌≡◌, ◌∙◌, ◌<◌, List, [], ◌∷◌, length, Ok, Err, Some, refl, ap, sym, subst, slice_get}
+use Rattle.std.proofs.Common.{◌∙◌, [], ◌∷◌, length, Ok, Err, refl, ap, sym, subst, slice_get}
 use Rattle.hg_base.specs.SteadyLaws.{Later_same}
 use Rattle.hg_machine.specs.Reply.{unknown_table, syntax_error, stamps_used_up, inserted}
 use Rattle.hg_table.specs.Marks.{Commits}
 use Rattle.hg_table.specs.TableLaws.{no_pages}
 use Rattle.hg_engine.specs.Named.{IsNamedAt}
-use Rattle.hg_engine.specs.Putting.{HaveColumns}
-use Rattle.hg_engine.specs.Stepping.{PutsInto, line_of}
+use Rattle.hg_engine.specs.Stepping.{line_of}
 use Rattle.hg_engine.specs.declared.entries.Entry.{Entry}
 use Rattle.hg_engine.proofs.Inserting.{insert-nowhere, insert-misfit, insert-late, insert-done, insert-faulted, can-put-at, done-same, failed-put, puts-over}
 use Rattle.hg_engine.proofs.Saying.{tells-one, counted-plain, not-full, full-fault, put-counted, put-known}

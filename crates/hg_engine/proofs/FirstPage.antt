@@ -1,0 +1,77 @@
+-- The first page.
+use Rattle.std.specs.Prelude.{◌≡◌, ℕ, zero, suc, ◌+◌, ◌-◌, ◌==◌, Bool, true, false, [], None, if◌then◌else◌}
+use Rattle.std.proofs.Common.{sym, ◌∙◌, ap, subst, refl, arith, inl, inr}
+use Rattle.std.proofs.lemmas.Bool.Decides.{nat_tests, eqb_tells}
+use Rattle.hg_base.specs.Space.{Space, NoPins, IsMade, IsSame, key, at, key_in, without_pin, taken_in, taken_below}
+use Rattle.hg_base.specs.Causes.{Later}
+use Rattle.hg_base.specs.TakenLaws.{taken_in-made}
+use Rattle.hg_base.specs.declared.File.TheVariants.{Main}
+use Rattle.hg_base.specs.declared.PageId.{PageId}
+use Rattle.std.proofs.lemmas.Bool.{false≢true}
+use Rattle.std.proofs.lemmas.Option.{none-some}
+use Rattle.hg_machine.specs.State.{first_state}
+use Rattle.hg_engine.specs.Opened.{TakesFirst}
+use Rattle.hg_engine.specs.Shown.{setting_in}
+use Rattle.hg_engine.specs.Standing.{Stands}
+use Rattle.hg_engine.specs.Stepping.{TablesAre}
+use Rattle.hg_engine.specs.declared.tables.Tables.{Tables}
+
+at-twice : (f : ℕ → Bool) (p q : ℕ) → f q ≡ false → at (at f p true) p false q ≡ false
+at-twice f p q h = elim (eqb_tells q p) [
+  | inl e ↦ ap (λ b. if b then false else at f p true q) e.0
+  | inr n ↦ ap (λ b. if b then false else at f p true q) n.0 ∙ ap (λ b. if b then true else f q) n.0 ∙ h
+]
+
+pub takes-first : (a b c : Space) (page : PageId) → NoPins a → IsMade Main a b page → c ≡ without_pin b (key page) → Later a.counts b.counts → TakesFirst a c
+takes-first a b c page pins made after later =
+    subst (TakesFirst a) (sym after) (record {
+      told = ap (λ (s : Space). s.told) made.after;
+      limit = ap (λ (s : Space). s.limit) made.after;
+      pins = record {
+        none_out = ap (λ (s : Space). s.pins - 1) made.after ∙ (let none = pins.none_out in omega arith);
+        not_pinned = λ q. ap (λ (s : Space). at s.pinned (key page) false q) made.after ∙ at-twice a.pinned (key page) q (pins.not_pinned q);
+      };
+      used = taken_in-made Main a b page made;
+      later = later;
+    })
+
+pub none-first : (a b : Space) → NoPins a → IsSame a b → NoPins b
+none-first a b pins same = record {
+  none_out = ap (λ (s : Space). s.pins) same.after ∙ pins.none_out;
+  not_pinned = λ q. ap (λ (s : Space). s.pinned q) same.after ∙ pins.not_pinned q;
+}
+
+-- the page that was made is pinned
+pub made-pinned : (a b : Space) (page : PageId) → IsMade Main a b page → b.pinned (key page) ≡ true
+made-pinned a b page made =
+    let here : (key page == key page) ≡ true = grind (arith, nat_tests) in
+    ap (λ (s : Space). s.pinned (key page)) made.after ∙ ap (λ b. if b then true else a.pinned (key page)) here
+
+none-taken : (taken : ℕ → Bool) (n : ℕ) → ((q : ℕ) → taken q ≡ false) → taken_below taken Main n ≡ 0
+none-taken taken zero none = refl
+none-taken taken (suc n) none =
+    ap (λ b. (if b then 1 else 0) + taken_below taken Main n) (none (key_in Main n)) ∙ ap (λ k. 0 + k) (none-taken taken n none)
+
+-- an engine of no table stands for the first state
+pub opened : (a b : Space) (x : Tables) (limit : ℕ) → TakesFirst a b → ((q : ℕ) → a.taken q ≡ false) → a.limit Main ≡ limit
+    → x.entries.items ≡ [] → x.stamps ≡ [] → x.scan ≡ None → TablesAre b x (first_state limit)
+opened a b x limit first none limit_is entries stamps scan =
+    let standing : Stands b [] [] None (first_state limit) = record {
+      pins = first.pins;
+      pages = λ k. [];
+      tables = record {
+        count = refl;
+        each = λ k e t he ht. absurd (none-some e he);
+        apart = λ j k x hj hk differ mj mk. absurd (false≢true mj);
+      };
+      left = tt;
+      used = let zero_taken : taken_in a Main ≡ 0 = none-taken a.taken (a.limit Main) none in let one = first.used in omega arith;
+      limit = sym limit_is ∙ sym (ap (λ l. l Main) first.limit);
+      stamps = refl;
+    } in
+    subst (λ c. Stands b x.entries.items x.stamps c (first_state limit)) (sym scan)
+    (subst (λ m. Stands b x.entries.items m None (first_state limit)) (sym stamps) (subst (λ l. Stands b l [] None (first_state limit)) (sym entries) standing))
+
+pub setting-first : (a b : Space) (told : Bool) (limit : ℕ) → TakesFirst a b → a.told ≡ told → a.limit Main ≡ limit
+    → setting_in b ≡ record { told = told; limit = limit }
+setting-first a b told limit first ht hl = λ i. record { told = (first.told ∙ ht) i; limit = (ap (λ l. l Main) first.limit ∙ hl) i }

@@ -1,0 +1,13 @@
+-- What the first page of an engine does to its space.
+use Rattle.std.specs.Prelude.{◌≡◌, ◌+◌}
+use Rattle.hg_base.specs.Space.{Space, NoPins, taken_in}
+use Rattle.hg_base.specs.Causes.{Later}
+use Rattle.hg_base.specs.declared.File.TheVariants.{Main}
+
+-- one page more is taken, and no pin is out
+pub record TakesFirst (a b : Space) : Type 0 where
+  pub told : b.told ≡ a.told
+  pub limit : b.limit ≡ a.limit
+  pub pins : NoPins b
+  pub used : taken_in b Main ≡ taken_in a Main + 1
+  pub later : Later a.counts b.counts

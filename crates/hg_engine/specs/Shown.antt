@@ -1,0 +1,54 @@
+-- What contracts see of an engine: the space of its pages, and which state of the plain machine it
+-- stands for.
+use Rattle.std.specs.Prelude.{◌≡◌, ◌≤◌, ℕ, Bool, List, is_some}
+use Rattle.hg_base.specs.Space.{Space}
+use Rattle.hg_base.specs.declared.File.TheVariants.{Main}
+use Rattle.hg_io.specs.declared.device.PageDevice.{Ghosts}
+use Rattle.hg_machine.specs.Outcome.{Setting}
+use Rattle.hg_machine.specs.State.{State}
+use Rattle.hg_pool.specs.Shown.{state_of}
+use Rattle.hg_machine.specs.Reply.{Reply as Line}
+use Rattle.hg_reply.specs.Steps.{DeviceFaults, Says, Moves}
+use Rattle.hg_reply.specs.declared.reply.Reply.{Reply}
+use Rattle.hg_engine.specs.Stepping.{TablesAre, looks_left}
+use Rattle.hg_engine.specs.declared.engine.Engine.{Engine}
+
+abbrev pub setting_in : Space → Setting
+setting_in s = record { told = s.told; limit = s.limit Main }
+
+abbrev pub faults_in : Space → DeviceFaults
+faults_in s = record { main = s.counts.main_device; temp = s.counts.temp_device }
+
+module _ {M T : Type 0} where
+  -- the pages of an engine
+  abbrev pub space_of : Ghosts M → Ghosts T → Engine M T → Space
+  space_of m t e = state_of m t e.pool
+
+  -- the engine stands for this state
+  abbrev pub IsEngineOf : Ghosts M → Ghosts T → Engine M T → State → Type 0
+  IsEngineOf m t e state = TablesAre (space_of m t e) e.tables state
+
+  abbrev pub setting_of : Ghosts M → Ghosts T → Engine M T → Setting
+  setting_of m t e = setting_in (space_of m t e)
+
+  abbrev pub faults_of : Ghosts M → Ghosts T → Engine M T → DeviceFaults
+  faults_of m t e = faults_in (space_of m t e)
+
+  -- a SELECT is at work
+  abbrev pub is_pending : Engine M T → Bool
+  is_pending e = is_some e.tables.scan
+
+  abbrev pub turns_left : Engine M T → ℕ
+  turns_left e = looks_left e.tables.scan
+
+  -- one step of an engine: the lines that it says, and the step of the machine that they are
+  pub record EngineSteps (m : Ghosts M) (t : Ghosts T) (old new : Engine M T) (reply : Reply) (Step : State → List Line → State → Type 0) : Type 0 where
+    pub lines : List Line
+    pub says : Says reply (faults_of m t old) (faults_of m t new) lines
+    pub moves : Moves (IsEngineOf m t) (space_of m t old).told old new Step lines
+
+-- what no step changes, and that no count of faults falls
+pub record IsSameSetting (a b : Space) : Type 0 where
+  pub setting : setting_in b ≡ setting_in a
+  pub main : a.counts.main_device ≤ b.counts.main_device
+  pub temp : a.counts.temp_device ≤ b.counts.temp_device
