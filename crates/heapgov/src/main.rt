@@ -1,8 +1,9 @@
 //! The program: runs the script on standard input, writes its replies to standard output, and ends
-//! with the number of the status. For now the tables are kept in memory, and the devices are not used.
+//! with the number of the status. Its devices are the files `heapgov.main` and `heapgov.temp` in the
+//! current folder, which are made anew.
 //!
-//! What standard input holds, and that standard output takes what is written, no proof says: the two
-//! streams are the trusted edge.
+//! What standard input and the files hold, and that standard output takes what is written, no proof
+//! says: the streams and the files are the trusted edge.
 #![tactic(auto)]
 
 mod files;
@@ -10,9 +11,8 @@ mod streams;
 #[cfg(test)]
 mod tests;
 
-use hg_io::MemDevice;
+use files::FileDevice;
 use hg_serve::{Status, run};
-use std::alloc::{AllocError, Global};
 use std::env::{self, Env};
 use std::io::{self, ErrorKind};
 use std::process::ExitCode;
@@ -35,11 +35,6 @@ fn refused(kind: ErrorKind) -> Status {
     }
 }
 
-/// A device that never fails.
-fn device(alloc: Global) -> MemDevice {
-    MemDevice::new(alloc, Vec::new(alloc), Vec::new(alloc))
-}
-
 fn main(rt: HostRuntime) -> ExitCode {
     let alloc = rt.alloc();
     let words = match words(&rt) {
@@ -53,8 +48,8 @@ fn main(rt: HostRuntime) -> ExitCode {
         &words,
         &mut source,
         &mut sink,
-        device(alloc),
-        device(alloc),
+        FileDevice::new(&rt, "heapgov.main"),
+        FileDevice::new(&rt, "heapgov.temp"),
     );
     ExitCode::from(outcome.status.number())
 }

@@ -11,4 +11,3 @@ pub mod Scripts
 pub mod ServeLemmas
 pub mod Closing
 pub mod Endings
-mod Opening

@@ -18,7 +18,10 @@ mod session;
 mod statuses;
 mod top;
 
-pub use serve::serve_lines;
 pub use hg_engine::{Config, Devices, Engine};
+pub use serve::serve_lines;
 pub use statuses::Status;
 pub use top::{Outcome, run};
+
+#[cfg(test)]
+mod tests;
