@@ -1,5 +1,5 @@
 -- A table behind whose last page a page was put.
-use Rattle.std.specs.Prelude.{◌≡◌, ◌≢◌, ℕ, ◌+◌, ◌<◌, ◌≤◌, Bool, true, false, List, [], ◌∷◌, ◌++◌, length, Option, Some, None, is_some, if◌then◌else◌}
+use Rattle.std.specs.Prelude.{◌≡◌, ◌≢◌, ℕ, ◌<◌, Bool, true, false, List, [], ◌∷◌, ◌++◌, length, Option, Some, None, is_some, if◌then◌else◌}
 use Rattle.std.specs.List.{AllByRecursion}
 use Rattle.std.proofs.Common.{sym, ◌∙◌, ap, subst, refl, arith, inl, inr}
 use Rattle.std.proofs.lemmas.Bool.{cases_eq, false≢true}
@@ -11,10 +11,10 @@ use Rattle.hg_base.specs.declared.Place.{Place}
 use Rattle.hg_base.specs.declared.Table.{Table}
 use Rattle.hg_model.specs.declared.values.Value.{Value}
 use Rattle.hg_slot.specs.Slotted.{record_at}
-use Rattle.hg_table.specs.Chains.{IsLine, IsPath, IsChain, last_of}
+use Rattle.hg_table.specs.Chains.{IsPath, IsChain, last_of}
 use Rattle.hg_table.specs.Versions.{Placed, RowVersion, HoldsVersions, IsStored, IsTable, Shows, in_pages, most_slots}
-use Rattle.hg_table.specs.Calls.{insert_mine, IsNamed, Inserts, IsTableWith, newborn, PutsIn}
-use Rattle.hg_table.specs.Steps.{Changes, HoldsRecord, AddsRecord, IsLinked, LeadsTo, first_with}
+use Rattle.hg_table.specs.Calls.{insert_mine, Inserts, IsTableWith, newborn, PutsIn}
+use Rattle.hg_table.specs.Steps.{Changes, HoldsRecord, AddsRecord, LeadsTo, first_with}
 use Rattle.hg_table.specs.Listing.{AreApart, put}
 use Rattle.hg_table.specs.Altering.{with_new, none_held, at_here, at_other, pages_new}
 use Rattle.hg_table.specs.TableLaws.{line-plain, all_map, all_both, distinct-apart}

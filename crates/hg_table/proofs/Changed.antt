@@ -1,22 +1,18 @@
 -- A table of which one page was changed.
-use Rattle.std.specs.Prelude.{◌≡◌, ◌≢◌, ℕ, ◌+◌, ◌<◌, ◌≤◌, Bool, true, false, List, [], ◌∷◌, ◌++◌, length, take, drop, Option, Some, None}
-use Rattle.std.specs.Int.{w32, to_le_bytes}
-use Rattle.std.specs.List.{AllByRecursion}
-use Rattle.std.proofs.Common.{sym, ◌∙◌, ap, subst, refl, arith, inl, inr}
+use Rattle.std.specs.Prelude.{◌≡◌, ◌≢◌, ℕ, List, Option}
+use Rattle.std.proofs.Common.{sym, ◌∙◌, ap, subst, refl, inl, inr}
 use Rattle.std.proofs.lemmas.Bool.{cases_eq}
 use Rattle.hg_base.specs.Space.{Space, at, key_in}
 use Rattle.hg_base.specs.TakenLaws.{key_in-one}
 use Rattle.hg_base.specs.Steadiness.{IsPlain, IsSamePage}
 use Rattle.hg_base.specs.declared.File.TheVariants.{Main}
-use Rattle.hg_base.specs.declared.Place.{Place}
 use Rattle.hg_base.specs.declared.Table.{Table}
 use Rattle.hg_slot.specs.Slotted.{record_at, IsSlotted}
-use Rattle.hg_table.specs.Chains.{IsLine, IsChain, has_page}
-use Rattle.hg_table.specs.Versions.{Placed, RowVersion, HoldsVersions, IsTable, Shows, in_pages, most_slots}
+use Rattle.hg_table.specs.Chains.{IsLine, IsChain}
+use Rattle.hg_table.specs.Versions.{Placed, RowVersion, HoldsVersions, IsTable, Shows, in_pages}
 use Rattle.hg_table.specs.Steps.{ChangesPage, Changes}
-use Rattle.hg_table.specs.Listing.{AreApart}
-use Rattle.hg_table.specs.Altering.{with_slot, at_here, at_other, slot_here, slot_beside}
-use Rattle.hg_table.specs.TableLaws.{IsSameLink, line_stays, line-plain, all_map, all_both, distinct-apart}
+use Rattle.hg_table.specs.Altering.{with_slot, at_other, slot_here, slot_beside}
+use Rattle.hg_table.specs.TableLaws.{IsSameLink, line_stays, line-plain, all_map, all_both}
 
 -- every page is linked as before
 pub changed_link : (a b : Space) (x y : ℕ) (P : List ℕ → List ℕ → Type 0) → ChangesPage a b x P → IsPlain a (key_in Main y) → IsSameLink a b (key_in Main y)

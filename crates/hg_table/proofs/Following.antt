@@ -1,9 +1,9 @@
 -- The versions behind a place of a table.
-use Rattle.std.specs.Prelude.{◌≡◌, ◌≢◌, ℕ, ◌+◌, ◌-◌, ◌<◌, ◌≤◌, ◌==◌, suc, Bool, true, false, List, [], ◌∷◌, ◌++◌, Option, Some, None, MatchOption, IsTrue, ⊤, if◌then◌else◌}
+use Rattle.std.specs.Prelude.{◌≡◌, ℕ, ◌+◌, ◌-◌, ◌<◌, ◌≤◌, ◌==◌, suc, Bool, true, false, List, [], ◌∷◌, ◌++◌, Option, Some, None, if◌then◌else◌}
 use Rattle.std.specs.List.{AllByRecursion, filter}
-use Rattle.std.proofs.Common.{sym, ◌∙◌, ap, subst, refl, arith, inl, inr}
-use Rattle.std.proofs.lemmas.Bool.{cases_eq, cases_lt, false≢true, eq-eqb, ne_eqb}
-use Rattle.hg_base.specs.Space.{Space, NoPins, IsFree, key_in}
+use Rattle.std.proofs.Common.{sym, ◌∙◌, ap, subst, arith, inl, inr}
+use Rattle.std.proofs.lemmas.Bool.{cases_lt, false≢true, eq-eqb, ne_eqb}
+use Rattle.hg_base.specs.Space.{Space, NoPins, key_in}
 use Rattle.hg_base.specs.TakenLaws.{AreDistinctPages}
 use Rattle.hg_base.specs.Steadiness.{IsPlain, IsSamePage}
 use Rattle.hg_base.specs.declared.File.TheVariants.{Main}
@@ -11,10 +11,10 @@ use Rattle.hg_base.specs.declared.Place.{Place}
 use Rattle.hg_base.specs.declared.Table.{Table}
 use Rattle.hg_slot.specs.Slotted.{record_at}
 use Rattle.hg_table.specs.Chains.{IsLine, IsPath, has_page}
-use Rattle.hg_table.specs.Versions.{Placed, RowVersion, HoldsVersions, IsTable, in_slots, in_pages, most_slots}
+use Rattle.hg_table.specs.Versions.{Placed, HoldsVersions, IsTable, in_pages, most_slots}
 use Rattle.hg_table.specs.Places.{behind, pages_behind, comes_behind, first_place}
 use Rattle.hg_table.specs.Calls.{HasStart}
-use Rattle.hg_table.specs.Steps.{Looks, HoldsLine, IsSound, IsFirstFull, main_page}
+use Rattle.hg_table.specs.Steps.{Looks, HoldsLine, IsSound, IsFirstFull}
 use Rattle.hg_table.specs.Listing.{has_cases, pages_after, slots_after, slots_after-is, slots_after-none, behind_all}
 use Rattle.hg_table.specs.TableLaws.{IsSameLink, line_stays, line-plain, all_map, distinct-apart, holds_stay, one_chain}
 use Rattle.hg_table.proofs.Seeing.{slot_small}

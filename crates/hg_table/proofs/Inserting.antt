@@ -1,25 +1,25 @@
 -- A version that was put into a table: on its last page, or on a new page behind it.
-use Rattle.std.specs.Prelude.{◌≡◌, ◌≢◌, ℕ, ◌+◌, ◌<◌, ◌≤◌, ◌==◌, ◌||◌, Bool, true, false, List, [], ◌∷◌, ◌++◌, length, Option, Some, None, is_some, if◌then◌else◌}
+use Rattle.std.specs.Prelude.{◌≡◌, ◌≢◌, ℕ, ◌<◌, ◌==◌, ◌||◌, Bool, true, false, List, [], ◌∷◌, length, Option, Some, None, is_some, if◌then◌else◌}
 use Rattle.std.specs.List.{AllByRecursion}
 use Rattle.std.proofs.Common.{sym, ◌∙◌, ap, subst, refl, arith, inl, inr}
-use Rattle.std.proofs.lemmas.Bool.{cases_eq, false≢true, eq-eqb}
+use Rattle.std.proofs.lemmas.Bool.{false≢true, eq-eqb}
 use Rattle.hg_base.specs.Space.{Space, NoPins, at, key_in, with_next}
-use Rattle.hg_base.specs.TakenLaws.{AreDistinctPages, key_in-one}
+use Rattle.hg_base.specs.TakenLaws.{key_in-one}
 use Rattle.hg_base.specs.Causes.{NoneFull}
-use Rattle.hg_base.specs.Steadiness.{IsPlain, IsSamePage, Steady, these_pages}
+use Rattle.hg_base.specs.Steadiness.{IsPlain, IsSamePage, Steady}
 use Rattle.hg_base.specs.SteadyLaws.{Steady_then, Steady_wider, Later_same}
 use Rattle.hg_base.specs.declared.File.TheVariants.{Main}
 use Rattle.hg_base.specs.declared.Place.{Place}
 use Rattle.hg_base.specs.declared.Table.{Table}
 use Rattle.hg_model.specs.declared.values.Value.{Value}
 use Rattle.hg_slot.specs.Slotted.{IsSlotted, record_at}
-use Rattle.hg_table.specs.Chains.{IsLine, IsPath, IsChain, has_page, last_of}
+use Rattle.hg_table.specs.Chains.{IsChain, has_page, last_of}
 use Rattle.hg_table.specs.Versions.{Placed, RowVersion, HoldsVersions, IsStored, IsTable, Shows, in_pages, most_slots}
 use Rattle.hg_table.specs.Calls.{HasTable, none_mine, page_mine, insert_mine, IsNamed, Inserts, IsTableWith, PutsIn, KeepsPages, AddsPage, HasNoRoom, newborn}
-use Rattle.hg_table.specs.Steps.{ChangesPage, Changes, Puts, HoldsRecord, HasNoPlace, MakesPage, AddsRecord, IsLinked, LeadsTo, first_with, Looks}
-use Rattle.hg_table.specs.Listing.{AreApart, put}
-use Rattle.hg_table.specs.Altering.{with_slot, with_new, none_held, at_here, at_other, pages_put, pages_new}
-use Rattle.hg_table.specs.TableLaws.{chain_stays, line-plain, all_map, all_both, distinct-apart, distinct-taken, holds-same}
+use Rattle.hg_table.specs.Steps.{ChangesPage, Changes, Puts, HoldsRecord, MakesPage, AddsRecord, LeadsTo, Looks}
+use Rattle.hg_table.specs.Listing.{put}
+use Rattle.hg_table.specs.Altering.{with_slot, at_here, at_other, pages_put}
+use Rattle.hg_table.specs.TableLaws.{chain_stays, line-plain, distinct-apart}
 use Rattle.hg_table.proofs.Seeing.{slot_small}
 use Rattle.hg_table.proofs.Places.{all_has}
 use Rattle.hg_table.proofs.Walking.{shown_none, looks_page}

@@ -1,5 +1,5 @@
 -- From a page that is read at a slot to a table that is read at a place.
-use Rattle.std.specs.Prelude.{◌≡◌, ◌≢◌, ℕ, ◌+◌, ◌<◌, ◌≤◌, ◌==◌, ◌||◌, Bool, true, false, List, [], ◌∷◌, ◌++◌, Option, Some, None, IsSome, IsTrue, IfSome}
+use Rattle.std.specs.Prelude.{◌≡◌, ◌≢◌, ℕ, ◌<◌, ◌≤◌, ◌==◌, ◌||◌, Bool, true, false, List, [], ◌∷◌, Option, Some, None, IsSome}
 use Rattle.std.specs.List.{AllByRecursion}
 use Rattle.std.proofs.Common.{sym, ◌∙◌, ap, subst, refl, arith, inl, inr}
 use Rattle.std.proofs.lemmas.Bool.{cases_lt, cases_Bool, false≢true, eq-eqb}
@@ -10,11 +10,11 @@ use Rattle.hg_base.specs.declared.File.TheVariants.{Main}
 use Rattle.hg_base.specs.declared.Place.{Place}
 use Rattle.hg_base.specs.declared.Table.{Table}
 use Rattle.hg_slot.specs.Slotted.{record_at}
-use Rattle.hg_table.specs.Chains.{IsLine, IsChain, has_page}
+use Rattle.hg_table.specs.Chains.{IsLine, has_page}
 use Rattle.hg_table.specs.Versions.{Placed, RowVersion, HoldsVersions, IsTable, Shows, in_slots, in_pages, most_slots}
 use Rattle.hg_table.specs.Places.{version_at}
 use Rattle.hg_table.specs.Calls.{HasPage, HasVersion}
-use Rattle.hg_table.specs.Steps.{IsSound, IsSoundAt, main_page}
+use Rattle.hg_table.specs.Steps.{IsSoundAt, main_page}
 use Rattle.hg_table.specs.Listing.{or_else, version_at-append, slots_below, pages_here, pages_other, has_cases}
 use Rattle.hg_table.specs.TableLaws.{line-plain, distinct-apart, one_chain}
 use Rattle.hg_table.proofs.Seeing.{none_past, most_slots-is}

@@ -1,7 +1,7 @@
 -- What is known of pages that were looked at.
-use Rattle.std.specs.Prelude.{◌≡◌, ◌≢◌, ℕ, ◌+◌, ◌<◌, ◌≤◌, ◌==◌, ◌&&◌, not, List, Option, Some, None, if◌then◌else◌}
-use Rattle.std.proofs.Common.{sym, ◌∙◌, ap, subst, refl, arith, inl, inr}
-use Rattle.std.proofs.lemmas.Bool.{cases_eq, cases_lt, le-ltb, lt-ltb}
+use Rattle.std.specs.Prelude.{◌≡◌, ℕ, ◌+◌, ◌<◌, ◌≤◌, ◌==◌, ◌&&◌, not, List, Option, Some, None, if◌then◌else◌}
+use Rattle.std.proofs.Common.{sym, ◌∙◌, ap, refl, arith, inl, inr}
+use Rattle.std.proofs.lemmas.Bool.{cases_eq, cases_lt, le-ltb}
 use Rattle.hg_base.specs.Space.{Space, NoPins, IsSame}
 use Rattle.hg_base.specs.Causes.{Later}
 use Rattle.hg_base.specs.SteadyLaws.{Steady_refused, Steady_then}

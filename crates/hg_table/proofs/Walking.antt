@@ -1,23 +1,20 @@
 -- The way along a line of pages.
-use Rattle.std.specs.Prelude.{◌≡◌, ◌≢◌, ℕ, ◌+◌, ◌<◌, ◌≤◌, ◌==◌, ◌||◌, Bool, true, false, List, [], ◌∷◌, ◌++◌, length, Option, Some, None, IsSome, MatchOption, ⊤}
-use Rattle.std.specs.List.{AllByRecursion}
-use Rattle.std.proofs.Common.{sym, ◌∙◌, ap, subst, refl, arith, inl, inr, append_assoc, append-nil, length-append}
-use Rattle.std.proofs.lemmas.Bool.{false≢true, eq-eqb, cases_Bool}
+use Rattle.std.specs.Prelude.{◌≡◌, ℕ, ◌+◌, ◌<◌, ◌≤◌, ◌==◌, ◌||◌, Bool, true, false, List, [], ◌∷◌, ◌++◌, length, Option, Some, None}
+use Rattle.std.proofs.Common.{sym, ◌∙◌, ap, subst, refl, arith, append_assoc, append-nil, length-append}
+use Rattle.std.proofs.lemmas.Bool.{eq-eqb}
 use Rattle.hg_base.specs.Space.{Space, NoPins, IsFree, key_in, taken_in}
 use Rattle.hg_base.specs.TakenLaws.{AreDistinctPages-few}
-use Rattle.hg_base.specs.Steadiness.{IsPlain, IsSamePage, Steady}
+use Rattle.hg_base.specs.Steadiness.{IsPlain, IsSamePage}
 use Rattle.hg_base.specs.SteadyLaws.{Steady_then, Steady_same}
 use Rattle.hg_base.specs.declared.File.TheVariants.{Main}
-use Rattle.hg_base.specs.declared.Place.{Place}
-use Rattle.hg_base.specs.declared.Table.{Table}
 use Rattle.hg_slot.specs.Slotted.{record_at}
-use Rattle.hg_table.specs.Chains.{IsLine, IsPath, has_page}
-use Rattle.hg_table.specs.Versions.{Placed, RowVersion, HoldsVersions, IsTable, Shows, in_slots, in_pages, most_slots}
+use Rattle.hg_table.specs.Chains.{IsPath, has_page}
+use Rattle.hg_table.specs.Versions.{Placed, RowVersion, HoldsVersions, Shows, in_slots, in_pages, most_slots}
 use Rattle.hg_table.specs.Places.{first_place}
-use Rattle.hg_table.specs.Calls.{none_mine, TakesNone}
-use Rattle.hg_table.specs.Steps.{Looks, HoldsLine, IsSound, IsNextSlot, IsFirstFull, main_page}
+use Rattle.hg_table.specs.Calls.{none_mine}
+use Rattle.hg_table.specs.Steps.{Looks, HoldsLine, IsSound, IsFirstFull, main_page}
 use Rattle.hg_table.specs.Listing.{first_slot, slots_none}
-use Rattle.hg_table.proofs.Seeing.{slot_small, most_slots-is}
+use Rattle.hg_table.proofs.Seeing.{slot_small}
 use Rattle.hg_table.proofs.Places.{all_has, line-free}
 
 -- Pages of a line were passed that hold no version, and the rest is still to come.

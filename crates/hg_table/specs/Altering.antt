@@ -7,7 +7,7 @@ use Rattle.hg_base.specs.Space.{at}
 use Rattle.hg_base.specs.declared.Place.{Place}
 use Rattle.hg_table.specs.Chains.{has_page}
 use Rattle.hg_table.specs.Versions.{Placed, RowVersion, in_slot, in_slots, in_pages, most_slots}
-use Rattle.hg_table.specs.Places.{is_at, killed_at, killed}
+use Rattle.hg_table.specs.Places.{killed_at, killed}
 use Rattle.hg_table.specs.Calls.{PutsIn}
 use Rattle.hg_table.specs.Listing.{put, AreApart, slots_agree, pages_agree, slots_none, has_cases, apart_under}
 

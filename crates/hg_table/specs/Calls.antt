@@ -13,7 +13,7 @@ use Rattle.hg_base.specs.declared.pages.PageFault.TheVariants as fault
 use Rattle.hg_model.specs.declared.values.Value.{Value}
 use Rattle.hg_slot.specs.Slotted.{Fits}
 use Rattle.hg_table.specs.Chains.{IsChain, has_page}
-use Rattle.hg_table.specs.Versions.{Placed, RowVersion, IsTable}
+use Rattle.hg_table.specs.Versions.{Placed, IsTable}
 use Rattle.hg_table.specs.Places.{version_at}
 
 -- a call that owns no page

@@ -1,7 +1,7 @@
 -- A table that a caller holds between its calls. Our own rule.
-use Rattle.std.specs.Prelude.{◌≡◌, ℕ, Bool, true, false, List, [], ◌∷◌, length, Option, Some, None, IsTrue, MatchOption, ⊤, if◌then◌else◌}
+use Rattle.std.specs.Prelude.{◌≡◌, ℕ, Bool, true, List, [], ◌∷◌, length, Option, Some, None, IsTrue, MatchOption, ⊤, if◌then◌else◌}
 use Rattle.std.specs.List.{AllByRecursion, filter}
-use Rattle.std.proofs.Common.{sym, ◌∙◌, ap, subst, refl, inl, inr}
+use Rattle.std.proofs.Common.{sym, ◌∙◌, ap, subst, inl, inr}
 use Rattle.std.proofs.lemmas.Bool.{cases_Bool}
 use Rattle.hg_base.specs.Space.{Space, NoPins}
 use Rattle.hg_base.specs.Steadiness.{Mine, Steady}

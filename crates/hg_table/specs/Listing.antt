@@ -1,15 +1,12 @@
 -- Laws of the versions of slots and pages as lists.
-use Rattle.std.specs.Prelude.{◌≡◌, ◌≢◌, ℕ, ◌+◌, ◌<◌, ◌≤◌, ◌==◌, ◌&&◌, ◌||◌, nat_lt, zero, suc, map, Bool, true, false, List, [], ◌∷◌, ◌++◌, Option, Some, None, if◌then◌else◌, ⊤}
+use Rattle.std.specs.Prelude.{◌≡◌, ◌≢◌, ℕ, ◌+◌, ◌<◌, ◌≤◌, ◌==◌, ◌&&◌, ◌||◌, nat_lt, zero, suc, Bool, true, false, List, [], ◌∷◌, ◌++◌, Option, Some, None, if◌then◌else◌, ⊤}
 use Rattle.std.specs.List.{filter, AllByRecursion}
-use Rattle.std.proofs.Common.{sym, ◌∙◌, ap, refl, arith, inl, inr, append_assoc, append-nil}
-use Rattle.std.proofs.lemmas.Bool.{cases_eq, cases_lt, eq-eqb, ne_eqb, lt-ltb, le-ltb}
-use Rattle.std.proofs.lemmas.Bool.Decides.{nat_tests}
-use Rattle.hg_base.specs.Space.{at}
+use Rattle.std.proofs.Common.{sym, ◌∙◌, ap, refl, arith, inl, inr}
+use Rattle.std.proofs.lemmas.Bool.{cases_eq, eq-eqb, ne_eqb, lt-ltb, le-ltb}
 use Rattle.hg_base.specs.declared.Place.{Place}
 use Rattle.hg_table.specs.Chains.{has_page}
 use Rattle.hg_table.specs.Versions.{Placed, RowVersion, in_slot, in_slots, in_pages, most_slots}
-use Rattle.hg_table.specs.Places.{is_at, version_at, pages_behind, comes_behind, first_place, killed_at, killed}
-use Rattle.hg_table.specs.Calls.{PutsIn}
+use Rattle.hg_table.specs.Places.{is_at, version_at, pages_behind, comes_behind, first_place}
 
 -- the first of two answers that there is
 abbrev pub or_else : Option RowVersion → Option RowVersion → Option RowVersion

@@ -1,6 +1,6 @@
 -- The stamps that were drawn, 1, 2 and so on, and which of them were committed. Our own rule. They
 -- are kept as one mark for each stamp that was drawn, in order.
-use Rattle.std.specs.Prelude.{◌≡◌, ◌≢◌, ℕ, ◌+◌, ◌<◌, ◌≤◌, zero, suc, Bool, true, false, List, [], ◌∷◌, length, slice_index_or}
+use Rattle.std.specs.Prelude.{◌≡◌, ◌≢◌, ℕ, ◌+◌, ◌<◌, ◌≤◌, zero, suc, Bool, true, false, List, length, slice_index_or}
 
 -- the last stamp that was drawn; 0 before the first
 abbrev pub last : List Bool → ℕ

@@ -1,7 +1,7 @@
 -- What a table is: its pages are slotted pages, each record of which is a version of a row: four
 -- bytes for the stamp it was born under, four for the stamp it died under, 0 for none, and then the
 -- bytes of the row. Numbers have the least byte first. Our own rule.
-use Rattle.std.specs.Prelude.{◌≡◌, ℕ, ◌+◌, ◌^◌, ◌<◌, zero, suc, true, List, [], ◌∷◌, ◌++◌, take, drop, Option, Some, None, ⊤}
+use Rattle.std.specs.Prelude.{◌≡◌, ℕ, ◌^◌, ◌<◌, zero, suc, true, List, [], ◌∷◌, ◌++◌, take, drop, Option, Some, None, ⊤}
 use Rattle.std.specs.Int.{w32, to_le_bytes}
 use Rattle.std.specs.List.{AllByRecursion}
 use Rattle.hg_base.specs.Space.{Space, key_in}

@@ -41,17 +41,25 @@ pub trait TableCalls {
     ) -> Result<Place, PageFault>
         requires out { NoPins (S.state space.old) }
         requires chain { (pages : List ℕ) × IsChain (S.state space.old) (ends self.old) pages }
-        requires table { (S.state space.old).told ≡ true → HasTable (S.state space.old) (ends self.old) }
+        requires table { (S.state space.old).told ≡ true
+            → HasTable (S.state space.old) (ends self.old) }
         requires short { length (coded row.now) ≤ 1000 }
-        ensures ok { IfOk result (λ at. (pages : List ℕ) → IsChain (S.state space.old) (ends self.old) pages
-            → Inserts (S.state space.old) (S.state space.new) (ends self.old) (ends self.new) pages (newborn row.now born.0 at)) }
-        ensures pages { IfOk result (λ at. KeepsPages (S.state space.old) (S.state space.new) (ends self.old) (ends self.new) at.page
-            ⊎ AddsPage (S.state space.old) (S.state space.new) (ends self.old) (ends self.new) at.page (8 + length (coded row.now))) }
-        ensures steady { IfOk result (λ at. Steady (insert_mine (ends self.old) at) (S.state space.old) (S.state space.new)) }
-        ensures ok_counts { OnOk result (NoneFull (S.state space.old).counts (S.state space.new).counts) }
+        ensures ok { IfOk result (λ at. (pages : List ℕ)
+            → IsChain (S.state space.old) (ends self.old) pages
+            → Inserts (S.state space.old) (S.state space.new) (ends self.old)
+            (ends self.new) pages (newborn row.now born.0 at)) }
+        ensures pages { IfOk result (λ at. KeepsPages (S.state space.old) (S.state space.new)
+            (ends self.old) (ends self.new) at.page
+            ⊎ AddsPage (S.state space.old) (S.state space.new) (ends self.old)
+            (ends self.new) at.page (8 + length (coded row.now))) }
+        ensures steady { IfOk result (λ at. Steady (insert_mine (ends self.old) at)
+            (S.state space.old) (S.state space.new)) }
+        ensures ok_counts { OnOk result (NoneFull (S.state space.old).counts
+            (S.state space.new).counts) }
 
         ensures err { OnErr result (ends self.new ≡ ends self.old) }
-        ensures err_steady { OnErr result (Steady none_mine (S.state space.old) (S.state space.new)) }
+        ensures err_steady { OnErr result (Steady none_mine (S.state space.old)
+            (S.state space.new)) }
         ensures err_taken { OnErr result ((S.state space.new).taken ≡ (S.state space.old).taken) }
         ensures cause { HasCause (S.state space.old) (S.state space.new) result }
         ensures fault { IfErr result (InsertFault (S.state space.old) (S.state space.new)) };
@@ -59,17 +67,24 @@ pub trait TableCalls {
     /// Sets the stamp under which a version died, also over an earlier one.
     fn kill<S: Pages>(&mut self, space: &mut S, at: Place, died: Stamp) -> Result<(), PageFault>
         requires out { NoPins (S.state space.old) }
-        requires there { (S.state space.old).told ≡ true → (columns : ℕ) × HasVersion (S.state space.old) (ends self.old) columns at }
+        requires there { (S.state space.old).told ≡ true → (columns : ℕ)
+            × HasVersion (S.state space.old) (ends self.old) columns at }
         requires stamp { died.0 ≢ 0 }
-        ensures ok { OnOk result ((columns : ℕ) (pages : List ℕ) (versions : List Placed) → IsTable (S.state space.old) (ends self.old) columns pages versions
-            → IsTable (S.state space.new) (ends self.new) columns pages (killed at died.0 versions)) }
+        ensures ok { OnOk result ((columns : ℕ) (pages : List ℕ) (versions : List Placed)
+            → IsTable (S.state space.old) (ends self.old) columns pages versions
+            → IsTable (S.state space.new) (ends self.new) columns pages
+            (killed at died.0 versions)) }
         ensures same { ends self.new ≡ ends self.old }
-        ensures chain { (pages : List ℕ) → IsChain (S.state space.old) (ends self.old) pages → IsChain (S.state space.new) (ends self.old) pages }
-        ensures steady { OnOk result (Steady (page_mine at.page) (S.state space.old) (S.state space.new)) }
-        ensures err_steady { OnErr result (Steady none_mine (S.state space.old) (S.state space.new)) }
+        ensures chain { (pages : List ℕ) → IsChain (S.state space.old) (ends self.old) pages
+            → IsChain (S.state space.new) (ends self.old) pages }
+        ensures steady { OnOk result (Steady (page_mine at.page) (S.state space.old)
+            (S.state space.new)) }
+        ensures err_steady { OnErr result (Steady none_mine (S.state space.old)
+            (S.state space.new)) }
         ensures takes_none { TakesNone (S.state space.old) (S.state space.new) }
         ensures cause { HasCause (S.state space.old) (S.state space.new) result }
-        ensures fault { IfErr result (LookFault IsVersionCheck (S.state space.old) (S.state space.new)) };
+        ensures fault { IfErr result (LookFault IsVersionCheck (S.state space.old)
+            (S.state space.new)) };
 
     /// Whether a version stands at a place and the snapshot sees it. Its row is put into `out` then;
     /// where it is not seen, `out` stays as it was.
@@ -83,28 +98,36 @@ pub trait TableCalls {
         out: &mut Row,
     ) -> Result<bool, PageFault>
         requires no_pins { NoPins (S.state space.old) }
-        requires page { (S.state space.old).told ≡ true → HasPage (S.state space.old) (ends self.now) columns at }
-        ensures seen { IfOk result (λ seen. (pages : List ℕ) (versions : List Placed) → IsTable (S.state space.old) (ends self.now) columns pages versions
+        requires page { (S.state space.old).told ≡ true
+            → HasPage (S.state space.old) (ends self.now) columns at }
+        ensures seen { IfOk result (λ seen. (pages : List ℕ) (versions : List Placed)
+            → IsTable (S.state space.old) (ends self.now) columns pages versions
             → seen ≡ sees (committed stamps.now) snapshot.0 (version_at versions at)) }
-        ensures row { result ≡ Ok true → (pages : List ℕ) (versions : List Placed) → IsTable (S.state space.old) (ends self.now) columns pages versions
+        ensures row { result ≡ Ok true → (pages : List ℕ) (versions : List Placed)
+            → IsTable (S.state space.old) (ends self.now) columns pages versions
             → IfSome (version_at versions at) (λ v. out.new ≡ v.row) }
         ensures unseen { result ≡ Ok false → out.new ≡ out.old }
         ensures steady { Steady none_mine (S.state space.old) (S.state space.new) }
         ensures takes_none { TakesNone (S.state space.old) (S.state space.new) }
         ensures cause { HasCause (S.state space.old) (S.state space.new) result }
-        ensures fault { IfErr result (LookFault IsVersionCheck (S.state space.old) (S.state space.new)) };
+        ensures fault { IfErr result (LookFault IsVersionCheck (S.state space.old)
+            (S.state space.new)) };
 
     /// The place of the next version behind `at`, in order of pages and slots; of the first where `at`
     /// is None. None where no version is left. A version need not stand at `at` any more.
     fn after<S: Pages>(&self, space: &mut S, at: Option<Place>) -> Result<Option<Place>, PageFault>
         requires out { NoPins (S.state space.old) }
-        requires start { (S.state space.old).told ≡ true → HasStart (S.state space.old) (ends self.now) at }
-        ensures next { IfOk result (λ next. (columns : ℕ) (pages : List ℕ) (versions : List Placed) → IsTable (S.state space.old) (ends self.now) columns pages versions
+        requires start { (S.state space.old).told ≡ true
+            → HasStart (S.state space.old) (ends self.now) at }
+        ensures next { IfOk result (λ next. (columns : ℕ) (pages : List ℕ)
+            (versions : List Placed)
+            → IsTable (S.state space.old) (ends self.now) columns pages versions
             → next ≡ first_place (behind pages at versions)) }
         ensures steady { Steady none_mine (S.state space.old) (S.state space.new) }
         ensures takes_none { TakesNone (S.state space.old) (S.state space.new) }
         ensures cause { HasCause (S.state space.old) (S.state space.new) result }
-        ensures fault { IfErr result (LookFault IsWalkCheck (S.state space.old) (S.state space.new)) };
+        ensures fault { IfErr result (LookFault IsWalkCheck (S.state space.old)
+            (S.state space.new)) };
 
     /// The stamps of the version at a place, seen or not. Its row is put into `out`.
     fn version<S: Pages>(
@@ -115,13 +138,21 @@ pub trait TableCalls {
         out: &mut Row,
     ) -> Result<(Stamp, Option<Stamp>), PageFault>
         requires no_pins { NoPins (S.state space.old) }
-        requires there { (S.state space.old).told ≡ true → HasVersion (S.state space.old) (ends self.now) columns at }
-        ensures found { IfOk result (λ stamps. (pages : List ℕ) (versions : List Placed) → IsTable (S.state space.old) (ends self.now) columns pages versions
-            → version_at versions at ≡ Some (record { born = stamps.0.0; died = option_map (λ (s : StampOf). s.0) stamps.1; row = out.new })) }
+        requires there { (S.state space.old).told ≡ true
+            → HasVersion (S.state space.old) (ends self.now) columns at }
+        ensures found { IfOk result (λ stamps. (pages : List ℕ) (versions : List Placed)
+            → IsTable (S.state space.old) (ends self.now) columns pages versions
+            → version_at versions at ≡ Some (record {
+              born = stamps.0.0;
+              died = option_map (λ
+                  (s : StampOf). s.0) stamps.1;
+              row = out.new;
+            })) }
         ensures steady { Steady none_mine (S.state space.old) (S.state space.new) }
         ensures takes_none { TakesNone (S.state space.old) (S.state space.new) }
         ensures cause { HasCause (S.state space.old) (S.state space.new) result }
-        ensures fault { IfErr result (LookFault IsVersionCheck (S.state space.old) (S.state space.new)) };
+        ensures fault { IfErr result (LookFault IsVersionCheck (S.state space.old)
+            (S.state space.new)) };
 }
 
 impl TableCalls for Table {

@@ -24,7 +24,8 @@ fn put_in(page: &mut [u8], bytes: &[u8]) -> Result<Option<u16>, Check>
     ensures err { OnErr result (page.new ≡ page.old) }
 {
     slot::verify(page)?;
-    match slot::insert(page, bytes) {
+    let placed = slot::insert(page, bytes);
+    match placed {
         Ok(slot) => Ok(Some(slot)),
         Err(_) => Ok(None),
     }
@@ -47,7 +48,8 @@ fn start_with(page: &mut [u8], bytes: &[u8]) -> u16
 fn put_on<S: Pages>(space: &mut S, no: u32, bytes: &[u8]) -> Result<Option<u16>, PageFault>
     requires out { NoPins (S.state space.old) }
     requires plain { IsPlain (S.state space.old) (key_in File.Main no) }
-    requires sound { (S.state space.old).told ≡ true → (page : List ℕ) × ((S.state space.old).bytes (key_in File.Main no) ≡ Some page) × IsSlotted page }
+    requires sound { (S.state space.old).told ≡ true → (page : List ℕ)
+        × ((S.state space.old).bytes (key_in File.Main no) ≡ Some page) × IsSlotted page }
     ensures put { IfOk result (PutsRecord (S.state space.old) (S.state space.new) no bytes.now) }
     ensures err { OnErr result (Looks (S.state space.old) (S.state space.new)) }
     ensures cause { HasCause (S.state space.old) (S.state space.new) result }
@@ -87,7 +89,8 @@ fn add_page<S: Pages>(table: &mut Table, space: &mut S, bytes: &[u8]) -> Result<
     requires out { NoPins (S.state space.old) }
     requires chain { (pages : List ℕ) × IsChain (S.state space.old) table.old pages }
     requires short { length bytes.now ≤ 4076 }
-    ensures made { IfOk result (λ place. AddsRecord (S.state space.old) (S.state space.new) table.old table.new bytes.now place) }
+    ensures made { IfOk result (λ place. AddsRecord (S.state space.old)
+        (S.state space.new) table.old table.new bytes.now place) }
     ensures same { OnErr result (table.new ≡ table.old) }
     ensures err { OnErr result (Refused (S.state space.old) (S.state space.new)) }
     ensures cause { HasCause (S.state space.old) (S.state space.new) result }
@@ -113,12 +116,18 @@ pub fn insert<S: Pages>(
     requires chain { (pages : List ℕ) × IsChain (S.state space.old) table.old pages }
     requires short { length (coded row.now) ≤ 1000 }
     requires table { (S.state space.old).told ≡ true → HasTable (S.state space.old) table.old }
-    ensures ok { IfOk result (λ place. (pages : List ℕ) → IsChain (S.state space.old) table.old pages
-        → Inserts (S.state space.old) (S.state space.new) table.old table.new pages (newborn row.now born.0 place)) }
-    ensures pages { IfOk result (λ place. KeepsPages (S.state space.old) (S.state space.new) table.old table.new place.page
-        ⊎ AddsPage (S.state space.old) (S.state space.new) table.old table.new place.page (8 + length (coded row.now))) }
-    ensures steady { IfOk result (λ place. Steady (insert_mine table.old place) (S.state space.old) (S.state space.new)) }
-    ensures ok_counts { OnOk result (NoneFull (S.state space.old).counts (S.state space.new).counts) }
+    ensures ok { IfOk result (λ place. (pages : List ℕ)
+        → IsChain (S.state space.old) table.old pages
+        → Inserts (S.state space.old) (S.state space.new) table.old table.new pages
+        (newborn row.now born.0 place)) }
+    ensures pages { IfOk result (λ place. KeepsPages (S.state space.old)
+        (S.state space.new) table.old table.new place.page
+        ⊎ AddsPage (S.state space.old) (S.state space.new) table.old table.new place.page
+        (8 + length (coded row.now))) }
+    ensures steady { IfOk result (λ place. Steady (insert_mine table.old place)
+        (S.state space.old) (S.state space.new)) }
+    ensures ok_counts { OnOk result (NoneFull (S.state space.old).counts
+        (S.state space.new).counts) }
     ensures same { OnErr result (table.new ≡ table.old) }
     ensures err { OnErr result (Refused (S.state space.old) (S.state space.new)) }
     ensures cause { HasCause (S.state space.old) (S.state space.new) result }

@@ -43,11 +43,14 @@ pub fn kill_in(page: &mut [u8], slot: u16, died: Stamp) -> Result<(), Check>
 /// Sets the stamp under which the version at a place died.
 pub fn kill<S: Pages>(space: &mut S, place: Place, died: Stamp) -> Result<(), PageFault>
     requires out { NoPins (S.state space.old) }
-    requires sound { (S.state space.old).told ≡ true → (columns : ℕ) × (v : RowVersion) × IsSoundAt (S.state space.old) columns place.page place.slot (Some v) }
-    ensures ok { OnOk result (ChangesPage (S.state space.old) (S.state space.new) place.page (λ old new. Kills old new place.slot died.0)) }
+    requires sound { (S.state space.old).told ≡ true → (columns : ℕ) × (v : RowVersion)
+        × IsSoundAt (S.state space.old) columns place.page place.slot (Some v) }
+    ensures ok { OnOk result (ChangesPage (S.state space.old) (S.state space.new) place.page
+        (λ old new. Kills old new place.slot died.0)) }
     ensures err { OnErr result (Looks (S.state space.old) (S.state space.new)) }
     ensures cause { HasCause (S.state space.old) (S.state space.new) result }
-    ensures fault { IfErr result (LookFault IsVersionCheck (S.state space.old) (S.state space.new)) }
+    ensures fault { IfErr result (LookFault IsVersionCheck (S.state space.old)
+        (S.state space.new)) }
 {
     let pin = open(space, place.page)?;
     let answer = kill_in(space.bytes_mut(&pin), place.slot, died);

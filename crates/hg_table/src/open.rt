@@ -33,7 +33,8 @@ pub fn open<S: Pages>(space: &mut S, no: u32) -> Result<S::Pin, PageFault>
     requires free { (S.state space.old).told ≡ true → IsFree (S.state space.old) (main_page no) }
     ensures names { IfOk result (λ pin. S.pin_page pin ≡ main_page no) }
     ensures free { OnOk result (IsFree (S.state space.old) (main_page no)) }
-    ensures ok { OnOk result (IsPinned (S.state space.old) (S.state space.new) (key_in File.Main no)) }
+    ensures ok { OnOk result (IsPinned (S.state space.old) (S.state space.new)
+        (key_in File.Main no)) }
     ensures err { OnErr result (IsSame (S.state space.old) (S.state space.new)) }
     ensures cause { HasCause (S.state space.old) (S.state space.new) result }
     ensures fault { IfErr result (LookFault IsLevel (S.state space.old) (S.state space.new)) }

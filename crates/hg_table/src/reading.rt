@@ -27,9 +27,11 @@ pub fn read_in(
     out: &mut Row,
 ) -> Result<bool, Check>
     requires { length page.now ≡ 4096 }
-    ensures seen { IfOk result (λ seen. (v : Option RowVersion) → Shows columns (record_at page.now slot) v
+    ensures seen { IfOk result (λ seen. (v : Option RowVersion)
+        → Shows columns (record_at page.now slot) v
         → seen ≡ sees (committed stamps.now) snapshot.0 v) }
-    ensures row { result ≡ Ok true → (v : Option RowVersion) → Shows columns (record_at page.now slot) v → IfSome v (λ w. out.new ≡ w.row) }
+    ensures row { result ≡ Ok true → (v : Option RowVersion)
+        → Shows columns (record_at page.now slot) v → IfSome v (λ w. out.new ≡ w.row) }
     ensures unseen { result ≡ Ok false → out.new ≡ out.old }
     ensures wrong { IfErr result (IsWrongAt page.now columns slot) }
 {
@@ -57,8 +59,14 @@ pub fn version_in(
     out: &mut Row,
 ) -> Result<(Stamp, Option<Stamp>), Check>
     requires { length page.now ≡ 4096 }
-    ensures found { IfOk result (λ stamps. (v : Option RowVersion) → Shows columns (record_at page.now slot) v
-        → v ≡ Some (record { born = stamps.0.0; died = option_map (λ (s : StampOf). s.0) stamps.1; row = out.new })) }
+    ensures found { IfOk result (λ stamps. (v : Option RowVersion)
+        → Shows columns (record_at page.now slot) v
+        → v ≡ Some (record {
+          born = stamps.0.0;
+          died = option_map (λ
+              (s : StampOf). s.0) stamps.1;
+          row = out.new;
+        })) }
     ensures wrong { IfErr result (IsWrongVersion page.now columns slot) }
 {
     let Some(record) = slot::peek(page, slot)? else {
@@ -84,14 +92,19 @@ pub fn read<S: Pages>(
     out: &mut Row,
 ) -> Result<bool, PageFault>
     requires no_pins { NoPins (S.state space.old) }
-    requires sound { (S.state space.old).told ≡ true → (v : Option RowVersion) × IsSoundAt (S.state space.old) columns at.page at.slot v }
-    ensures seen { IfOk result (λ seen. (v : Option RowVersion) → IsSoundAt (S.state space.old) columns at.page at.slot v
+    requires sound { (S.state space.old).told ≡ true → (v : Option RowVersion)
+        × IsSoundAt (S.state space.old) columns at.page at.slot v }
+    ensures seen { IfOk result (λ seen. (v : Option RowVersion)
+        → IsSoundAt (S.state space.old) columns at.page at.slot v
         → seen ≡ sees (committed stamps.now) snapshot.0 v) }
-    ensures row { result ≡ Ok true → (v : Option RowVersion) → IsSoundAt (S.state space.old) columns at.page at.slot v → IfSome v (λ w. out.new ≡ w.row) }
+    ensures row { result ≡ Ok true → (v : Option RowVersion)
+        → IsSoundAt (S.state space.old) columns at.page at.slot v
+        → IfSome v (λ w. out.new ≡ w.row) }
     ensures unseen { result ≡ Ok false → out.new ≡ out.old }
     ensures looks { Looks (S.state space.old) (S.state space.new) }
     ensures cause { HasCause (S.state space.old) (S.state space.new) result }
-    ensures fault { IfErr result (LookFault IsVersionCheck (S.state space.old) (S.state space.new)) }
+    ensures fault { IfErr result (LookFault IsVersionCheck (S.state space.old)
+        (S.state space.new)) }
 {
     let pin = open(space, at.page)?;
     let answer = read_in(space.bytes(&pin), at.slot, columns, snapshot, stamps, out);
@@ -110,12 +123,20 @@ pub fn version<S: Pages>(
     out: &mut Row,
 ) -> Result<(Stamp, Option<Stamp>), PageFault>
     requires no_pins { NoPins (S.state space.old) }
-    requires sound { (S.state space.old).told ≡ true → (v : RowVersion) × IsSoundAt (S.state space.old) columns at.page at.slot (Some v) }
-    ensures found { IfOk result (λ stamps. (v : Option RowVersion) → IsSoundAt (S.state space.old) columns at.page at.slot v
-        → v ≡ Some (record { born = stamps.0.0; died = option_map (λ (s : StampOf). s.0) stamps.1; row = out.new })) }
+    requires sound { (S.state space.old).told ≡ true → (v : RowVersion)
+        × IsSoundAt (S.state space.old) columns at.page at.slot (Some v) }
+    ensures found { IfOk result (λ stamps. (v : Option RowVersion)
+        → IsSoundAt (S.state space.old) columns at.page at.slot v
+        → v ≡ Some (record {
+          born = stamps.0.0;
+          died = option_map (λ
+              (s : StampOf). s.0) stamps.1;
+          row = out.new;
+        })) }
     ensures looks { Looks (S.state space.old) (S.state space.new) }
     ensures cause { HasCause (S.state space.old) (S.state space.new) result }
-    ensures fault { IfErr result (LookFault IsVersionCheck (S.state space.old) (S.state space.new)) }
+    ensures fault { IfErr result (LookFault IsVersionCheck (S.state space.old)
+        (S.state space.new)) }
 {
     let pin = open(space, at.page)?;
     let answer = version_in(space.bytes(&pin), at.slot, columns, out);

@@ -25,7 +25,8 @@ pub struct Life {
 /// The record of a row that was born under a stamp.
 pub fn record_of(row: &Row, born: Stamp) -> ArrayVec<u8, 1008>
     requires { length (coded row.now) ≤ 1000 }
-    ensures stored { IsStored (length row.now) result.items (record { born = born.0; died = None; row = row.now }) }
+    ensures stored { IsStored (length row.now) result.items
+        (record { born = born.0; died = None; row = row.now }) }
     ensures size { length result.items ≡ 8 + length (coded row.now) }
 {
     let mut record = ArrayVec::new();
@@ -37,9 +38,11 @@ pub fn record_of(row: &Row, born: Stamp) -> ArrayVec<u8, 1008>
 
 /// The stamps of a record. None where it is too short to be a version.
 pub fn life_of(bytes: &[u8]) -> Option<Life>
-    ensures some { IfSome result (λ life. (columns : ℕ) (v : RowVersion) → IsStored columns bytes.now v → (life.born ≡ v.born) × (life.died ≡ death v.died)) }
+    ensures some { IfSome result (λ life. (columns : ℕ) (v : RowVersion)
+        → IsStored columns bytes.now v → (life.born ≡ v.born) × (life.died ≡ death v.died)) }
     ensures long { IfSome result (λ _. 8 ≤ length bytes.now) }
-    ensures none { IsNone result → (columns : ℕ) (v : RowVersion) → IsStored columns bytes.now v → ⊥ }
+    ensures none { IsNone result → (columns : ℕ) (v : RowVersion) → IsStored columns bytes.now v
+        → ⊥ }
 {
     if bytes.len() < STAMPS {
         return None;
@@ -65,7 +68,8 @@ pub fn is_seen(life: Life, snapshot: Stamp, stamps: &Stamps) -> bool
 /// Reads the row of a record. False where its bytes are no row of so many values.
 pub fn row_of(bytes: &[u8], columns: u8, out: &mut Row) -> bool
     requires { 8 ≤ length bytes.now }
-    ensures row { OnTrue result ((v : RowVersion) → IsStored columns bytes.now v → out.new ≡ v.row) }
+    ensures row { OnTrue result ((v : RowVersion) → IsStored columns bytes.now v
+        → out.new ≡ v.row) }
     ensures none { OnFalse result ((v : RowVersion) → IsStored columns bytes.now v → ⊥) }
 {
     let (_, row) = bytes.split_at(STAMPS);
@@ -74,7 +78,8 @@ pub fn row_of(bytes: &[u8], columns: u8, out: &mut Row) -> bool
 
 /// The stamp of a death, where there is one.
 pub fn death_of(life: Life) -> Option<Stamp>
-    ensures { (died : Option ℕ) → death died ≡ life.died → IsDeath died → option_map (λ (s : StampOf). s.0) result ≡ died }
+    ensures { (died : Option ℕ) → death died ≡ life.died → IsDeath died
+        → option_map (λ (s : StampOf). s.0) result ≡ died }
 {
     if life.died == 0 {
         None

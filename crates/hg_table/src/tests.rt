@@ -97,7 +97,8 @@ fn step<S: Pages>(
     out: &mut Row,
 ) -> Result<Option<(Place, bool)>, PageFault>
     requires { IsReadyAt (S.state space.old) table.now 4 at }
-    ensures { IfOk result (λ o. IfSome o (λ p. IsReadyAt (S.state space.new) table.now 4 (Some p.0))) }
+    ensures { IfOk result (λ o. IfSome o (λ p. IsReadyAt (S.state space.new) table.now 4
+        (Some p.0))) }
 {
     let Some(place) = table.after(space, at)? else {
         return Ok(None);

@@ -55,7 +55,8 @@ fn look<S: Pages>(
     requires out { NoPins (S.state space.old) }
     requires sound { (S.state space.old).told ≡ true → IsSound (S.state space.old) no }
     requires first { entering ≡ true → from ≡ 0 }
-    ensures next { IfOk result (λ slot. (page : List ℕ) → (S.state space.old).bytes (key_in File.Main no) ≡ Some page → IsNextSlot page from slot) }
+    ensures next { IfOk result (λ slot. (page : List ℕ)
+        → (S.state space.old).bytes (key_in File.Main no) ≡ Some page → IsNextSlot page from slot) }
     ensures plain { OnOk result (IsFree (S.state space.old) (main_page no)) }
     ensures looks { Looks (S.state space.old) (S.state space.new) }
     ensures cause { HasCause (S.state space.old) (S.state space.new) result }
@@ -79,7 +80,8 @@ fn look<S: Pages>(
 fn first_along<S: Pages>(space: &mut S, start: Option<u32>) -> Result<Option<Place>, PageFault>
     requires out { NoPins (S.state space.old) }
     requires line { (S.state space.old).told ≡ true → HoldsLine (S.state space.old) start }
-    ensures first { IfOk result (λ first. (l : HoldsLine (S.state space.old) start) → first ≡ first_place (in_pages l.held l.pages)) }
+    ensures first { IfOk result (λ first. (l : HoldsLine (S.state space.old) start)
+        → first ≡ first_place (in_pages l.held l.pages)) }
     ensures looks { Looks (S.state space.old) (S.state space.new) }
     ensures cause { HasCause (S.state space.old) (S.state space.new) result }
     ensures fault { IfErr result (LookFault IsWalkCheck (S.state space.old) (S.state space.new)) }
@@ -108,7 +110,8 @@ pub fn after<S: Pages>(
 ) -> Result<Option<Place>, PageFault>
     requires out { NoPins (S.state space.old) }
     requires start { (S.state space.old).told ≡ true → HasStart (S.state space.old) table.now at }
-    ensures next { IfOk result (λ next. (columns : ℕ) (pages : List ℕ) (versions : List Placed) → IsTable (S.state space.old) table.now columns pages versions
+    ensures next { IfOk result (λ next. (columns : ℕ) (pages : List ℕ) (versions : List Placed)
+        → IsTable (S.state space.old) table.now columns pages versions
         → next ≡ first_place (behind pages at versions)) }
     ensures looks { Looks (S.state space.old) (S.state space.new) }
     ensures cause { HasCause (S.state space.old) (S.state space.new) result }

@@ -1,10 +1,8 @@
-use Rattle.std.specs.Prelude.{◌≡◌, ℕ, List, length, Option, Some, None}
-use Rattle.std.proofs.Common.{sym, ◌∙◌, ap, subst}
+use Rattle.std.specs.Prelude.{ℕ, List, length, None}
+use Rattle.std.proofs.Common.{sym, subst}
 use Rattle.std.proofs.lemmas.Result.{IfOk-weaker}
 use Rattle.hg_base.specs.Space.{Space}
-use Rattle.hg_base.specs.declared.Place.{Place}
 use Rattle.hg_base.specs.declared.Table.{Table}
-use Rattle.hg_model.specs.declared.values.Value.{Value}
 use Rattle.hg_table.specs.Versions.{IsStored}
 use Rattle.hg_table.specs.Steps.{Looks, PutsRecord}
 use Rattle.hg_table.proofs.Walking.{looks_same}

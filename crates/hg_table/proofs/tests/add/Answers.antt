@@ -1,5 +1,5 @@
 use Rattle.std.specs.Prelude.{◌≡◌, length}
-use Rattle.std.proofs.Common.{sym, ◌∙◌, arith}
+use Rattle.std.proofs.Common.{arith}
 use Rattle.hg_table.specs.Calls.{insert_mine, newborn}
 use Rattle.hg_table.specs.Kept.{ready_inserted}
 use Rattle.hg_table.proofs.tests.add.Goals as goal

@@ -1,11 +1,9 @@
-use Rattle.std.specs.Prelude.{◌≡◌, ℕ, ◌+◌, true, List, Option, Some, None}
-use Rattle.std.proofs.Common.{sym, ◌∙◌, ap, subst, arith, rules}
-use Rattle.hg_base.specs.Space.{Space, key, key_in}
+use Rattle.std.specs.Prelude.{◌≡◌, ℕ, ◌+◌, true}
+use Rattle.std.proofs.Common.{sym, ◌∙◌, ap, subst, arith}
+use Rattle.hg_base.specs.Space.{Space, key}
 use Rattle.hg_base.specs.Causes.{Licensed}
-use Rattle.hg_base.specs.declared.File.TheVariants.{Main}
-use Rattle.hg_base.specs.declared.pages.PageFault.{PageFault}
 use Rattle.hg_table.specs.Calls.{LookFault, IsWalkCheck}
-use Rattle.hg_table.specs.Steps.{HoldsLine, IsNextSlot, IsFirstFull}
+use Rattle.hg_table.specs.Steps.{HoldsLine, IsNextSlot}
 use Rattle.hg_table.proofs.Walking.{Passed, line_ended, line_found, line_passed, line_short, looks_then, next_page, next_sound, not_told}
 use Rattle.hg_table.proofs.walk.first_along.Goals as goal
 

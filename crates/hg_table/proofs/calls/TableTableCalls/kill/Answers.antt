@@ -1,4 +1,3 @@
-use Rattle.std.specs.Prelude.{ℕ}
 use Rattle.std.proofs.lemmas.Result.{on_ok_weaker}
 use Rattle.hg_table.proofs.Lifting.{version_sound}
 use Rattle.hg_table.proofs.Killing.{killed_table, kept_chain}

@@ -1,4 +1,4 @@
-use Rattle.std.specs.Prelude.{◌≡◌, Bool, ℕ, List, IfSome}
+use Rattle.std.specs.Prelude.{◌≡◌, IfSome}
 use Rattle.hg_table.specs.Marks.{committed}
 use Rattle.hg_table.specs.Places.{sees}
 use Rattle.std.proofs.lemmas.Result.{IfOk-weaker}
