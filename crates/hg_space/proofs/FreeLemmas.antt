@@ -1,10 +1,10 @@
 -- Bits of pages that are set one by one, from words that have none.
-use Rattle.std.proofs.Common.{◌≡◌, ◌≢◌, ℕ, zero, suc, ◌+◌, ◌-◌, ◌*◌, ◌/◌, ◌%◌, ◌<◌, ◌≤◌, ◌==◌, Bool, true, false, List, length, refl, sym, ◌∙◌, ap, inl, inr, arith}
+use Rattle.std.proofs.Common.{◌≡◌, ◌≢◌, ℕ, ◌+◌, ◌/◌, ◌%◌, ◌≤◌, ◌==◌, true, false, List, sym, ◌∙◌, ap, inl, inr, arith}
 use Rattle.std.specs.Prelude.{not, nat_lt, slice_index}
 use Rattle.std.specs.Int.{bit_at}
 use Rattle.std.proofs.lemmas.Bool.Decides.{eqb_tells, nat_tests}
 use Rattle.std.proofs.lemmas.Nat.Bits.{bit_at-zero}
-use Rattle.hg_space.specs.Bits.{is_set, has_bits, HasNoBits}
+use Rattle.hg_space.specs.Bits.{is_set, HasNoBits}
 use Rattle.hg_space.specs.Summary.{IsSummary, PutsUp}
 
 -- a word without bits has none that is set

@@ -1,16 +1,13 @@
 -- What each call keeps of what a space keeps, and the answers of the calls that change nothing.
-use Rattle.std.proofs.Common.{◌≡◌, ◌≢◌, ℕ, ◌+◌, ◌-◌, ◌*◌, ◌/◌, ◌<◌, ◌≤◌, ◌^◌, Bool, true, false, List, length, Some, None, refl, sym, ◌∙◌, ap, subst, inl, inr, arith}
-use Rattle.std.specs.Prelude.{◌&&◌, not, nat_lt, Option, if◌then◌else◌, slice_index, slice_set}
-use Rattle.std.proofs.lemmas.Bool.{false≢true}
-use Rattle.hg_space.specs.Bits.{is_set, has_bits, Puts, IsFirstSet}
+use Rattle.std.proofs.Common.{◌≡◌, ℕ, ◌+◌, ◌-◌, ◌/◌, ◌<◌, ◌≤◌, ◌^◌, Bool, true, false, List, length, Some, None, refl, sym, ◌∙◌, ap, subst, arith}
+use Rattle.std.specs.Prelude.{◌&&◌, not, nat_lt, if◌then◌else◌, slice_index}
+use Rattle.hg_space.specs.Bits.{is_set, Puts, IsFirstSet}
 use Rattle.hg_space.specs.Summary.{level_start, IsSummary, PutsUp}
-use Rattle.hg_space.specs.PageMap.{PageMap, IsLowestFree, used_count, count_below, unused_pages, with_page, without_page, with_next}
+use Rattle.hg_space.specs.PageMap.{IsLowestFree, used_count, count_below, unused_pages, with_page, without_page}
 use Rattle.hg_space.specs.PageLaws.{count_below-le, count_below-with, count_below-without, count_below-same, count_below-unused, maps_agree}
 use Rattle.hg_space.specs.Shown.{Kept, IsKept, is_used, next_of, pages_of}
 use Rattle.hg_space.specs.ShownLaws.{nat_lt-true, nat_lt-false, used-within}
-use Rattle.hg_space.proofs.BitLemmas.{has_bits-set}
-use Rattle.hg_space.proofs.SummaryLemmas.{inside-of}
-use Rattle.hg_space.proofs.Steps.{refreed, relinked, retaken, released, unlinked, linked-to, taken, lowest-free, page-below}
+use Rattle.hg_space.proofs.Steps.{refreed, relinked, retaken, released, taken, lowest-free, page-below}
 
 -- a used page is below the limit
 pub page-within : (s seen : Kept) (n : ℕ) → s ≡ seen → (pages_of seen).used n ≡ true → n < s.limit

@@ -1,18 +1,16 @@
 -- What each call makes of the map that a space shows.
-use Rattle.std.proofs.Common.{◌≡◌, ◌≢◌, ℕ, zero, suc, ◌+◌, ◌-◌, ◌*◌, ◌/◌, ◌%◌, ◌<◌, ◌≤◌, ◌==◌, Bool, true, false, List, length, Some, None, refl, sym, ◌∙◌, ap, subst, inl, inr, arith, get_or-set_same, get_or-set_other}
+use Rattle.std.proofs.Common.{◌≡◌, ◌≢◌, ℕ, zero, suc, ◌+◌, ◌-◌, ◌/◌, ◌<◌, ◌≤◌, ◌==◌, Bool, true, false, List, length, Some, None, refl, sym, ◌∙◌, ap, inl, inr, arith, get_or-set_same, get_or-set_other}
 use Rattle.std.specs.Prelude.{◌&&◌, not, nat_lt, Option, if◌then◌else◌, slice_index, slice_set}
 use Rattle.std.proofs.lemmas.Bool.{false≢true}
-use Rattle.std.proofs.lemmas.Bool.Decides.{eqb_tells, leb_tells, nat_tests}
+use Rattle.std.proofs.lemmas.Bool.Decides.{eqb_tells, leb_tells}
 use Rattle.std.proofs.Math.ListN.{get_or-eq_default}
 use Rattle.hg_base.specs.Space.{at}
-use Rattle.hg_space.specs.Bits.{is_set, has_bits, Puts, IsFirstSet}
-use Rattle.hg_space.specs.Summary.{level_start, IsSummary, PutsUp}
-use Rattle.hg_space.specs.PageMap.{PageMap, IsFull, IsLowestFree, used_count, count_below, unused_pages, with_page, without_page, with_next}
-use Rattle.hg_space.specs.PageLaws.{maps_agree, at-here, at-other, count_below-le, count_below-with, count_below-without, count_below-same, count_below-unused}
-use Rattle.hg_space.specs.Shown.{Kept, IsKept, is_used, next_of, pages_of}
-use Rattle.hg_space.specs.ShownLaws.{nat_lt-true, nat_lt-false, used-within}
-use Rattle.hg_space.proofs.BitLemmas.{has_bits-set}
-use Rattle.hg_space.proofs.SummaryLemmas.{inside-of}
+use Rattle.hg_space.specs.Bits.{is_set, Puts, IsFirstSet}
+use Rattle.hg_space.specs.Summary.{IsSummary, PutsUp}
+use Rattle.hg_space.specs.PageMap.{IsFull, IsLowestFree, with_page, without_page, with_next}
+use Rattle.hg_space.specs.PageLaws.{maps_agree, at-here, at-other}
+use Rattle.hg_space.specs.Shown.{Kept, is_used, next_of, pages_of}
+use Rattle.hg_space.specs.ShownLaws.{nat_lt-true}
 use Rattle.hg_space.proofs.FreeLemmas.{not-set}
 
 not-not : (b : Bool) → not (not b) ≡ b

@@ -1,10 +1,9 @@
 -- Laws of page maps: when two of them are one, and how a change changes the count of used pages.
-use Rattle.std.specs.Prelude.{◌≡◌, ◌≢◌, ℕ, zero, suc, ◌+◌, ◌<◌, ◌≤◌, Bool, true, false, Option, if◌then◌else◌}
-use Rattle.std.proofs.Common.{◌∙◌, sym, ap, refl, arith, inl, inr}
-use Rattle.std.proofs.lemmas.Bool.{false≢true}
+use Rattle.std.specs.Prelude.{◌≡◌, ◌≢◌, ℕ, zero, suc, ◌+◌, ◌<◌, ◌≤◌, true, false, if◌then◌else◌}
+use Rattle.std.proofs.Common.{◌∙◌, ap, refl, arith, inl, inr}
 use Rattle.std.proofs.lemmas.Bool.Decides.{eqb_tells, nat_tests}
 use Rattle.hg_base.specs.Space.{at}
-use Rattle.hg_space.specs.PageMap.{PageMap, count_below, used_count, IsFull, IsUnused, with_page, without_page}
+use Rattle.hg_space.specs.PageMap.{PageMap, count_below, IsUnused, with_page, without_page}
 
 -- two maps that agree in each page are one
 pub maps_agree : (a b : PageMap) → a.limit ≡ b.limit → ((n : ℕ) → a.used n ≡ b.used n) → ((n : ℕ) → a.next n ≡ b.next n) → a ≡ b

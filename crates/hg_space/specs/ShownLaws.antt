@@ -1,6 +1,6 @@
 -- What holds of the map of every space.
-use Rattle.std.specs.Prelude.{◌≡◌, ℕ, ◌+◌, ◌<◌, ◌≤◌, ◌&&◌, nat_lt, not, Bool, true, false, Some, None, if◌then◌else◌, slice_index}
-use Rattle.std.proofs.Common.{◌∙◌, sym, ap, refl, arith, inl, inr}
+use Rattle.std.specs.Prelude.{◌≡◌, ℕ, ◌+◌, ◌<◌, ◌≤◌, ◌&&◌, nat_lt, not, true, false, Some, None, if◌then◌else◌, slice_index}
+use Rattle.std.proofs.Common.{◌∙◌, sym, ap, arith, inl, inr}
 use Rattle.std.proofs.lemmas.Bool.{false≢true}
 use Rattle.std.proofs.lemmas.Bool.Decides.{leb_tells, nat_tests}
 use Rattle.hg_space.specs.Bits.{is_set}

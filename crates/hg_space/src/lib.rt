@@ -7,5 +7,7 @@ mod bits;
 mod levels;
 mod space;
 mod summary;
+#[cfg(test)]
+mod tests;
 
 pub use space::Space;

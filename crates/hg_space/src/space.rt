@@ -76,11 +76,11 @@ impl Space {
             return None;
         }
         let bit = first_below(&self.free, self.levels.above);
-        let page = bit - self.levels.first;
+        let lowest = bit - self.levels.first;
         clear_up(&mut self.free, bit);
-        let _ = clear(&mut self.linked, page);
+        let _ = clear(&mut self.linked, lowest);
         self.used += 1;
-        Some(page as u32)
+        Some(lowest as u32)
     }
 
     /// Gives a page back: it is not used any more.

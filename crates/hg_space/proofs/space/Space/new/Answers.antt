@@ -1,4 +1,4 @@
-use Rattle.std.proofs.Common.{◌≡◌, ◌∙◌, ◌+◌, ◌/◌, refl, arith, ap, length}
+use Rattle.std.proofs.Common.{◌≡◌, ◌+◌, ◌/◌, arith, length}
 use Rattle.std.proofs.lemmas.List.{with_items_is}
 use Rattle.hg_space.specs.ShownLaws.{pages_of_sound}
 use Rattle.hg_space.proofs.KeptLemmas.{made-unused, kept-made}

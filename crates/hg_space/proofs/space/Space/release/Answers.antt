@@ -1,4 +1,4 @@
-use Rattle.std.proofs.Common.{◌≡◌, ◌∙◌, true, arith, ap, length, sym}
+use Rattle.std.proofs.Common.{◌≡◌, ◌∙◌, true, arith, ap, length}
 use Rattle.std.proofs.lemmas.List.{with_items_is}
 use Rattle.hg_space.specs.PageMap.{without_page}
 use Rattle.hg_space.specs.Shown.{pages_of}
