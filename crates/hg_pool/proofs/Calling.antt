@@ -1,10 +1,10 @@
 -- The calls of a pool as its code makes them: each on its devices and what it keeps.
-use Rattle.std.specs.Prelude.{◌≡◌, ◌≢◌, ℕ, ◌+◌, ◌-◌, ◌<◌, ◌≤◌, ◌&&◌, ◌||◌, Bool, true, false, List, length, Option, None, Some, Result, Ok, Err, IfErr, OnOk, slice_set}
+use Rattle.std.specs.Prelude.{◌≡◌, ℕ, ◌+◌, ◌-◌, ◌<◌, ◌||◌, Bool, true, false, List, length, Option, None, Some, Result, Ok, Err}
 use Rattle.std.proofs.Common.{sym, ◌∙◌, ap, subst, refl, arith, length-set}
-use Rattle.hg_base.specs.Space.{Space, Counts, at, key, key_in, with_counts, with_pin, with_new, without_pin, without_page, with_next, unpinned_bytes, IsSame, IsPinned, IsMade, IsUnused}
+use Rattle.hg_base.specs.Space.{Space, at, key, key_in, with_counts, with_pin, without_pin, without_page, with_next, unpinned_bytes, IsSame, IsPinned, IsMade}
 use Rattle.std.proofs.lemmas.Grind.{common_steps}
 use Rattle.hg_base.specs.Lending.{refit}
-use Rattle.hg_base.specs.Causes.{Later, NoneFull, PinFault, FreshFault, Licensed, HasCause}
+use Rattle.hg_base.specs.Causes.{NoneFull, PinFault, FreshFault, Licensed, HasCause}
 use Rattle.hg_base.specs.declared.File.{File}
 use Rattle.hg_base.specs.declared.File.TheVariants.{Main, Temp}
 use Rattle.hg_base.specs.declared.PageId.{PageId}
@@ -12,8 +12,8 @@ use Rattle.hg_base.specs.declared.pages.PageFault.{PageFault}
 use Rattle.hg_base.specs.declared.pages.PageFault.TheVariants as fault
 use Rattle.hg_space.specs.Shown.{pages_of}
 use Rattle.hg_pool.specs.Disks.{Disks}
-use Rattle.hg_pool.specs.Picture.{Picture, picture_of, counts_of, shown, frame_at, place_at, taken_at, next_at, limit_of, is_in, is_pinned, is_key_of}
-use Rattle.hg_pool.specs.Sound.{IsSound, IsShaped, IsCoherent, AreSound, pinned_in}
+use Rattle.hg_pool.specs.Picture.{Picture, picture_of, counts_of, shown, frame_at, place_at, taken_at, next_at, limit_of, is_in, is_key_of}
+use Rattle.hg_pool.specs.Sound.{IsSound, IsShaped, IsCoherent, AreSound}
 use Rattle.hg_pool.specs.Keeping.{places_in, with_place, with_frame, is_inside, IsFoundAt, new_frame, MapsAfter, TakesLowest}
 use Rattle.hg_pool.specs.Passing.{Passes, IsRoom}
 use Rattle.hg_pool.specs.Work.{PinWork}

@@ -1,5 +1,5 @@
 -- A pool that is opened.
-use Rattle.std.specs.Prelude.{◌≡◌, ℕ, ◌+◌, ◌*◌, ◌/◌, ◌%◌, ◌==◌, ◌⊎◌, ◌<◌, ◌≤◌, ◌&&◌, ◌||◌, Bool, true, false, List, length, Option, None, Some, if◌then◌else◌, replicate, slice_index_or}
+use Rattle.std.specs.Prelude.{◌≡◌, ℕ, ◌/◌, ◌%◌, ◌==◌, ◌⊎◌, ◌<◌, ◌≤◌, ◌&&◌, ◌||◌, Bool, true, false, List, length, Option, None, Some, if◌then◌else◌, replicate}
 use Rattle.std.proofs.Common.{sym, ◌∙◌, ap, subst, refl, arith, inl, inr}
 use Rattle.std.proofs.lemmas.List.{get_or-replicate, length-replicate}
 use Rattle.std.proofs.Math.ListN.{get_or-eq_default}
@@ -8,14 +8,13 @@ use Rattle.hg_base.specs.Space.{Space, NoPins, key}
 use Rattle.hg_base.specs.SteadyLaws.{spaces_agree}
 use Rattle.hg_base.specs.declared.File.{File}
 use Rattle.hg_base.specs.declared.File.TheVariants.{Main, Temp}
-use Rattle.hg_base.specs.declared.PageId.{PageId}
 use Rattle.hg_space.specs.Shown.{pages_of}
 use Rattle.hg_space.specs.PageMap as map
 use Rattle.hg_pool.specs.Files.{by_key}
 use Rattle.hg_pool.specs.Disks.{Disks}
-use Rattle.hg_pool.specs.Picture.{Picture, picture_of, shown, frame_at, place_at, taken_at, next_at, limit_of, no_heaps, no_frame, is_in, is_pinned, is_key_of, held_in, bytes_told, counts_of}
-use Rattle.hg_pool.specs.Sound.{IsSound, IsShaped, Fits, pins_of, pinned_in}
-use Rattle.hg_pool.specs.Opening.{IsPossible, IsNewStore, new_space, limit_in, empty_frame, no_counts}
+use Rattle.hg_pool.specs.Picture.{Picture, picture_of, shown, frame_at, place_at, taken_at, limit_of, no_heaps, no_frame, is_in, is_pinned, is_key_of, held_in, counts_of}
+use Rattle.hg_pool.specs.Sound.{IsSound, pins_of, pinned_in}
+use Rattle.hg_pool.specs.Opening.{IsPossible, IsNewStore, new_space, limit_in, empty_frame}
 use Rattle.hg_pool.specs.declared.Config.{Config}
 use Rattle.hg_pool.specs.declared.frames.Frame.{Frame}
 use Rattle.hg_pool.specs.declared.store.Answers.{Answers}

@@ -1,10 +1,10 @@
 -- The steps of a pool as its code makes them: on its devices and what it keeps.
-use Rattle.std.specs.Prelude.{◌≡◌, ◌≢◌, ℕ, ◌+◌, ◌-◌, ◌*◌, ◌^◌, ◌<◌, ◌≤◌, min, Bool, true, false, List, length, Option, None, Some, Result, Ok, Err, IfErr, slice_set, slice_index_or}
+use Rattle.std.specs.Prelude.{◌≡◌, ℕ, ◌<◌, ◌≤◌, true, false, List, length, None, Some, Result, Ok, Err, IfErr, slice_set, slice_index_or}
 use Rattle.std.proofs.Common.{sym, ◌∙◌, ap, subst, refl, arith, length-set, inl, inr}
 use Rattle.std.proofs.lemmas.Bool.Decides.{eqb_tells}
-use Rattle.hg_base.specs.Space.{Space, Counts, at, key, key_in, with_counts, IsSame}
+use Rattle.hg_base.specs.Space.{Space, at, key, key_in, with_counts, IsSame}
 use Rattle.hg_base.specs.Changes.{items-set}
-use Rattle.hg_base.specs.Causes.{Later, NoneFull, PinFault, Rose}
+use Rattle.hg_base.specs.Causes.{Later, NoneFull, PinFault}
 use Rattle.hg_base.specs.SteadyLaws.{Later_same, Later_then}
 use Rattle.hg_base.specs.declared.File.{File}
 use Rattle.hg_base.specs.declared.File.TheVariants.{Main, Temp}
@@ -15,13 +15,12 @@ use Rattle.hg_pool.specs.Files.{by_key}
 use Rattle.hg_pool.specs.Disks.{Disks, all_told, page_on, SameShape, SamePages, SameButOne, DeviceFailed, DeviceCause}
 use Rattle.hg_pool.specs.Picture.{Picture, picture_of, counts_of, shown, frame_at, place_at, taken_at, limit_of, is_in, is_key_of}
 use Rattle.hg_pool.specs.Sound.{IsSound, IsShaped, IsCoherent, AreSound, pinned_in}
-use Rattle.hg_pool.specs.Keeping.{places_in, with_place, with_place_in, with_frame, counted, is_inside, IsFoundAt, new_frame}
+use Rattle.hg_pool.specs.Keeping.{places_in, with_place, with_place_in, with_frame, counted, is_inside}
 use Rattle.hg_pool.specs.Passing.{Passes, LaterAnswers, Clears, IsClean, IsRoom}
 use Rattle.hg_pool.specs.Keys.{at-main, at-temp, at-here, at-other}
-use Rattle.hg_pool.specs.Loans.{picture-frame, frames-set}
+use Rattle.hg_pool.specs.Loans.{frames-set}
 use Rattle.hg_pool.specs.declared.frames.Frame.{Frame}
 use Rattle.hg_pool.specs.declared.places.Places.{Places}
-use Rattle.hg_pool.specs.declared.maps.Maps.{Maps}
 use Rattle.hg_pool.specs.declared.store.Answers.{Answers}
 use Rattle.hg_pool.specs.declared.store.Store.{Store}
 use Rattle.hg_pool.specs.declared.PoolCounts.{PoolCounts}

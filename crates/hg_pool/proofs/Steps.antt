@@ -1,15 +1,15 @@
 -- The steps of a pool: what each of them leaves of the space that it shows, and that frames stay coherent.
 use Rattle.std.specs.Prelude.{◌≡◌, ◌≢◌, ℕ, ◌+◌, ◌-◌, ◌&&◌, ◌||◌, Bool, true, false, List, length, Option, None, Some, if◌then◌else◌}
-use Rattle.std.proofs.Common.{sym, ◌∙◌, ap, subst, refl, arith, inl, inr}
+use Rattle.std.proofs.Common.{sym, ◌∙◌, ap, refl, inl, inr}
 use Rattle.std.proofs.lemmas.Bool.{false≢true}
 use Rattle.std.proofs.lemmas.Bool.Decides.{eqb_tells}
-use Rattle.hg_base.specs.Space.{Space, Counts, at, key, zero_page, length-zero_page, with_counts, with_pin, with_new, without_pin, without_page, with_next, unpinned_bytes, IsUnused}
+use Rattle.hg_base.specs.Space.{Space, Counts, at, key, zero_page, length-zero_page, with_counts, with_pin, with_new, without_pin, without_page, with_next, unpinned_bytes}
 use Rattle.hg_base.specs.declared.PageId.{PageId}
 use Rattle.hg_pool.specs.Picture.{Picture, shown, is_in, is_pinned, held_in, bytes_told, is_key_of}
-use Rattle.hg_pool.specs.Sound.{Fits, IsCoherent}
+use Rattle.hg_pool.specs.Sound.{IsCoherent}
 use Rattle.hg_pool.specs.declared.frames.Frame.{Frame}
-use Rattle.hg_pool.specs.Keys.{at-here, at-other, is_key_of-true, is_key_of-here, is_key_of-other, key-one}
-use Rattle.hg_pool.specs.Views.{SameAt, SameFront, SameHere, pinned_by, held_by, shown-same, bytes-at, pinned-at, same-at, same-frame, same-here, not-here, away, coherent-at, fits-kept, in-found, not-found, other-page, page-of-in, same-pins}
+use Rattle.hg_pool.specs.Keys.{at-here, at-other, is_key_of-true, is_key_of-here, is_key_of-other}
+use Rattle.hg_pool.specs.Views.{SameAt, shown-same, bytes-at, pinned-at, same-at, same-frame, same-here, away, coherent-at, fits-kept, in-found, not-found, other-page, page-of-in, same-pins}
 
 -- b is sound in its frames, and the space of a but for counts
 pub record Keeps (a b : Picture) : Type 0 where

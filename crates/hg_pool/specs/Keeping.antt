@@ -1,5 +1,5 @@
 -- What the calls on the parts of a pool leave of them. Our own rule.
-use Rattle.std.specs.Prelude.{◌≡◌, ℕ, ◌+◌, ◌<◌, Bool, true, false, List, length, Option, None, Some}
+use Rattle.std.specs.Prelude.{◌≡◌, ℕ, ◌<◌, Bool, true, false, length, Option, None, Some}
 use Rattle.std.specs.Vec.{with_item}
 use Rattle.hg_base.specs.Space.{at, key, key_in, zero_page}
 use Rattle.hg_base.specs.declared.File.{File}

@@ -1,19 +1,18 @@
 -- What a loan of a page's bytes leaves of a pool.
-use Rattle.std.specs.Prelude.{◌≡◌, ◌≢◌, ℕ, ◌<◌, ◌&&◌, ◌||◌, Bool, true, false, List, length, Option, None, Some, if◌then◌else◌, slice_index_or, slice_set}
+use Rattle.std.specs.Prelude.{◌≡◌, ◌≢◌, ℕ, ◌<◌, ◌&&◌, ◌||◌, Bool, true, false, List, length, Option, None, Some, if◌then◌else◌, slice_set}
 use Rattle.std.proofs.Common.{sym, ◌∙◌, ap, refl, arith, length-set}
 use Rattle.std.proofs.lemmas.Bool.Decides.{nat_tests}
 use Rattle.std.proofs.lemmas.Grind.{common_steps}
 use Rattle.hg_io.specs.declared.device.PageDevice.{Ghosts}
 use Rattle.hg_base.specs.Lending.{refit}
-use Rattle.hg_base.specs.Space.{Space, at, key, with_bytes}
+use Rattle.hg_base.specs.Space.{at, with_bytes}
 use Rattle.hg_base.specs.Changes.{items-set}
-use Rattle.hg_base.specs.declared.PageId.{PageId}
 use Rattle.hg_pool.specs.Disks.{Disks}
 use Rattle.hg_pool.specs.Picture.{Picture, frame_at, place_at, picture_of, shown, is_in, is_pinned, bytes_told, is_key_of, no_frame}
 use Rattle.hg_pool.specs.Keeping.{with_frame}
 use Rattle.hg_pool.specs.Shown.{state_of, disks_of}
 use Rattle.hg_pool.specs.Keys.{at-here, is_key_of-true, is_key_of-other}
-use Rattle.hg_pool.specs.Views.{SameAt, same-pins, pinned_by, held_by, bytes-at, pinned-at, away}
+use Rattle.hg_pool.specs.Views.{SameAt, same-pins, pinned_by, held_by, bytes-at, away}
 use Rattle.hg_pool.specs.declared.frames.Frame.{Frame}
 use Rattle.hg_pool.specs.declared.store.Store.{Store}
 use Rattle.hg_pool.specs.declared.parts.Parts.{Parts}

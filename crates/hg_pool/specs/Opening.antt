@@ -1,9 +1,9 @@
 -- A pool that is opened. Our own rule.
-use Rattle.std.specs.Prelude.{◌≡◌, ℕ, ◌≤◌, Bool, false, None, length, replicate}
+use Rattle.std.specs.Prelude.{◌≡◌, ℕ, ◌≤◌, false, None, length, replicate}
 use Rattle.hg_base.specs.Space.{Space, zero_page}
 use Rattle.hg_base.specs.declared.File.{File}
 use Rattle.hg_base.specs.declared.File.TheVariants.{Main, Temp}
-use Rattle.hg_pool.specs.Disks.{Disk, Disks, all_told}
+use Rattle.hg_pool.specs.Disks.{Disks, all_told}
 use Rattle.hg_pool.specs.Picture.{no_heaps}
 use Rattle.hg_space.specs.Shown.{pages_of}
 use Rattle.hg_space.specs.PageMap as map

@@ -1,5 +1,5 @@
 -- A step of a pool that changes nothing of what it shows but counts, or fails by a device. Our own rule.
-use Rattle.std.specs.Prelude.{◌≡◌, ℕ, ◌+◌, ◌<◌, ◌≤◌, Bool, true, false, List, length, Option, None, Some, Result, IfErr}
+use Rattle.std.specs.Prelude.{◌≡◌, ℕ, ◌<◌, ◌≤◌, false, length, None, Some, Result, IfErr}
 use Rattle.hg_io.specs.declared.device.PageDevice.{Ghosts}
 use Rattle.hg_base.specs.Space.{IsSame}
 use Rattle.hg_base.specs.Causes.{Later, NoneFull, PinFault}

@@ -1,6 +1,6 @@
 -- What a pool comes down to, as functions of the key of a page and of the number of a frame, and the
 -- space that it shows. Our own rule.
-use Rattle.std.specs.Prelude.{ℕ, ◌==◌, ◌&&◌, ◌||◌, Bool, true, false, List, [], length, Option, None, Some, if◌then◌else◌, slice_index_or}
+use Rattle.std.specs.Prelude.{ℕ, ◌==◌, ◌&&◌, ◌||◌, Bool, false, List, [], length, Option, None, Some, if◌then◌else◌, slice_index_or}
 use Rattle.hg_base.specs.Content.{Heaps}
 use Rattle.hg_base.specs.Space.{Space, Counts, key}
 use Rattle.hg_base.specs.declared.File.{File}

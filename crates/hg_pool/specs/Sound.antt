@@ -1,11 +1,11 @@
 -- What holds of every pool. Our own rule.
-use Rattle.std.specs.Prelude.{◌≡◌, ℕ, ◌≤◌, Bool, true, false, List, length, Option, None, Some, sum_by, if◌then◌else◌}
+use Rattle.std.specs.Prelude.{◌≡◌, ℕ, ◌≤◌, true, false, List, length, Some, sum_by, if◌then◌else◌}
 use Rattle.hg_base.specs.Space.{key}
 use Rattle.hg_base.specs.declared.PageId.{PageId}
 use Rattle.hg_space.specs.Shown.{pages_of}
 use Rattle.hg_space.specs.PageMap as map
 use Rattle.hg_pool.specs.Disks.{Disks}
-use Rattle.hg_pool.specs.Picture.{Picture, picture_of, limit_of}
+use Rattle.hg_pool.specs.Picture.{Picture, picture_of}
 use Rattle.hg_pool.specs.declared.frames.Frame.{Frame}
 use Rattle.hg_pool.specs.declared.maps.Maps.{Maps}
 use Rattle.hg_pool.specs.declared.store.Store.{Store}

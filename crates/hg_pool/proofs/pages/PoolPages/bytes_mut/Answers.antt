@@ -1,5 +1,5 @@
-use Rattle.std.proofs.Common.{◌≡◌, ℕ, ◌<◌, ◌∙◌, ap, sym, subst, refl, Some, true, List, length, Bool}
-use Rattle.hg_base.specs.Space.{Space, key}
+use Rattle.std.proofs.Common.{◌≡◌, ℕ, ◌<◌, ◌∙◌, ap, sym, subst, refl, Some, true, length}
+use Rattle.hg_base.specs.Space.{key}
 use Rattle.hg_base.specs.declared.PageId.{PageId}
 use Rattle.hg_pool.specs.Disks.{Disks, disks_in}
 use Rattle.hg_pool.specs.Picture.{shown, picture_of, frame_at, place_at}

@@ -1,6 +1,6 @@
-use Rattle.std.proofs.Common.{◌≡◌, ◌∙◌, ap, sym, subst, Err, OnErr, Result}
+use Rattle.std.proofs.Common.{sym, subst, OnErr, Result}
 use Rattle.std.proofs.lemmas.Result.{err_from_is_err_and}
-use Rattle.hg_base.specs.Space.{key, IsSame, IsPinned, IsMade}
+use Rattle.hg_base.specs.Space.{key, IsSame, IsPinned}
 use Rattle.hg_base.specs.declared.pages.PageFault.{PageFault}
 use Rattle.hg_pool.specs.Shown.{state_of}
 use Rattle.hg_pool.specs.declared.parts.Parts.{Parts}

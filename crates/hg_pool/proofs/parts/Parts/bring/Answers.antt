@@ -1,14 +1,7 @@
-use Rattle.std.proofs.Common.{◌≡◌, ℕ, ◌+◌, ◌-◌, ◌≤◌, ◌∙◌, ap, sym, subst, refl, Ok, Err, Some, None, true, false, arith, Result, Bool}
-use Rattle.hg_base.specs.Space.{Space, key, with_next, without_pin, without_page, IsPinned, IsSame}
-use Rattle.hg_base.specs.declared.PageId.{PageId}
+use Rattle.std.proofs.Common.{◌≡◌, ℕ, ◌∙◌, ap, sym, subst, Ok, Err, Result}
 use Rattle.hg_base.specs.declared.pages.PageFault.{PageFault}
 use Rattle.hg_pool.specs.Disks.{Disks, disks_in}
-use Rattle.hg_pool.specs.Picture.{shown, picture_of, counts_of, frame_at, place_at}
-use Rattle.hg_pool.specs.Sound.{IsSound}
-use Rattle.hg_pool.specs.Keeping.{with_frame}
 use Rattle.hg_pool.specs.Passing.{Passes}
-use Rattle.hg_pool.specs.declared.frames.Frame.{Frame}
-use Rattle.hg_pool.specs.declared.maps.Maps.{Maps}
 use Rattle.hg_pool.specs.declared.store.Store.{Store}
 use Rattle.std.proofs.lemmas.Result.{err_from_is_err_and}
 use Rattle.hg_pool.proofs.Passing.{passes-then, passes-err, passes-ok}

@@ -1,21 +1,14 @@
-use Rattle.std.proofs.Common.{◌≡◌, ℕ, ◌+◌, ◌-◌, ◌<◌, ◌≤◌, ◌∙◌, ap, sym, subst, refl, Ok, Err, Some, None, true, false, arith, Result, Bool}
-use Rattle.hg_base.specs.Space.{Space, key, with_next, without_pin, without_page, IsPinned, IsSame, IsMade}
+use Rattle.std.proofs.Common.{◌≡◌, ◌+◌, ◌<◌, ◌∙◌, ap, sym, subst, refl, arith}
+use Rattle.hg_base.specs.Space.{key, IsMade}
 use Rattle.hg_base.specs.declared.PageId.{PageId}
-use Rattle.hg_base.specs.declared.pages.PageFault.{PageFault}
 use Rattle.hg_pool.specs.Disks.{Disks, disks_in}
-use Rattle.hg_pool.specs.Picture.{shown, picture_of, counts_of, frame_at, place_at, is_in}
+use Rattle.hg_pool.specs.Picture.{shown, picture_of}
 use Rattle.hg_pool.specs.Sound.{IsSound}
-use Rattle.hg_pool.specs.Keeping.{with_frame, with_place, new_frame, IsFullIn, TakesLowest, is_inside}
-use Rattle.hg_pool.specs.Passing.{Passes}
-use Rattle.hg_pool.specs.Work.{IsLowest}
-use Rattle.hg_pool.specs.declared.frames.Frame.{Frame}
+use Rattle.hg_pool.specs.Keeping.{with_frame, with_place, new_frame, IsFullIn, is_inside}
 use Rattle.hg_pool.specs.declared.maps.Maps.{Maps}
 use Rattle.hg_pool.specs.declared.store.Store.{Store}
-use Rattle.std.proofs.lemmas.Result.{err_from_is_err_and}
 use Rattle.std.proofs.lemmas.Bool.{false≢true}
-use Rattle.hg_base.specs.Causes.{FreshFault}
-use Rattle.hg_pool.proofs.Counting.{places-limit}
-use Rattle.hg_pool.proofs.Calling.{makes-page, made-behind, passes-fresh, passes-cause}
+use Rattle.hg_pool.proofs.Calling.{makes-page, made-behind}
 use Rattle.hg_pool.proofs.parts.Parts.fresh.Goals as goal
 
 pub unreachable-requires : goal.unreachable-requires

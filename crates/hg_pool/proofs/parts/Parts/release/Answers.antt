@@ -1,13 +1,9 @@
-use Rattle.std.proofs.Common.{◌≡◌, ℕ, ◌+◌, ◌-◌, ◌≤◌, ◌∙◌, ap, sym, subst, refl, Ok, Err, Some, None, true, false, arith, Result, Bool}
-use Rattle.hg_base.specs.Space.{Space, key, at, with_next, without_pin, without_page, IsPinned, IsSame}
-use Rattle.hg_base.specs.declared.PageId.{PageId}
-use Rattle.hg_base.specs.declared.pages.PageFault.{PageFault}
+use Rattle.std.proofs.Common.{◌≡◌, ◌∙◌, ap, sym, subst, None, false}
+use Rattle.hg_base.specs.Space.{key, at}
 use Rattle.hg_pool.specs.Disks.{Disks, disks_in}
-use Rattle.hg_pool.specs.Picture.{shown, picture_of, counts_of, frame_at, place_at, taken_at, next_at}
+use Rattle.hg_pool.specs.Picture.{shown, picture_of, frame_at, taken_at, next_at}
 use Rattle.hg_pool.specs.Sound.{IsSound}
 use Rattle.hg_pool.specs.Keeping.{with_frame, MapsAfter}
-use Rattle.hg_pool.specs.Passing.{Passes}
-use Rattle.hg_pool.specs.declared.frames.Frame.{Frame}
 use Rattle.hg_pool.specs.declared.maps.Maps.{Maps}
 use Rattle.hg_pool.specs.declared.store.Store.{Store}
 use Rattle.hg_pool.proofs.Calling.{gives-back, gives-back-out}

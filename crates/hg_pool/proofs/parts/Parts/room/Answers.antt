@@ -1,16 +1,8 @@
-use Rattle.std.proofs.Common.{◌≡◌, ℕ, ◌+◌, ◌≤◌, ◌∙◌, ap, sym, subst, refl, Ok, Err, Some, None, true, false, slice_index_or, length, arith, Result}
-use Rattle.hg_base.specs.declared.PageId.{PageId}
+use Rattle.std.proofs.Common.{◌≡◌, ℕ, ◌+◌, ◌∙◌, ap, sym, subst, Ok, Err, arith, Result}
 use Rattle.hg_base.specs.declared.pages.PageFault.{PageFault}
 use Rattle.hg_pool.specs.Disks.{Disks, disks_in}
-use Rattle.hg_pool.specs.Picture.{frame_at}
-use Rattle.hg_pool.specs.Keeping.{with_frame, with_place, counted}
-use Rattle.hg_pool.specs.Passing.{Passes, LaterAnswers}
-use Rattle.hg_pool.specs.declared.frames.Frame.{Frame}
-use Rattle.hg_pool.specs.declared.PoolCounts.{PoolCounts}
-use Rattle.hg_pool.specs.declared.store.Answers.{Answers}
+use Rattle.hg_pool.specs.Passing.{Passes}
 use Rattle.hg_pool.specs.declared.store.Store.{Store}
-use Rattle.hg_pool.proofs.Counting.{frame-here}
-use Rattle.hg_pool.proofs.Ranges.{held-on-device}
 use Rattle.std.proofs.lemmas.Result.{err_from_is_err_and}
 use Rattle.hg_pool.proofs.Passing.{moved-hand, passes-then, passes-err, passes-ok}
 use Rattle.hg_pool.proofs.parts.Parts.room.Goals as goal

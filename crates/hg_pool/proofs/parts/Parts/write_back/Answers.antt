@@ -1,9 +1,8 @@
-use Rattle.std.proofs.Common.{◌≡◌, ℕ, ◌∙◌, ap, sym, subst, Ok, Err, true, false, slice_index_or}
-use Rattle.hg_base.specs.declared.PageId.{PageId}
+use Rattle.std.proofs.Common.{◌≡◌, ℕ, ◌∙◌, ap, sym, subst, Ok, Err, false, slice_index_or}
 use Rattle.hg_pool.specs.Disks.{Disks, disks_in}
 use Rattle.hg_pool.specs.Picture.{frame_at}
 use Rattle.hg_pool.specs.Keeping.{with_frame}
-use Rattle.hg_pool.specs.Passing.{Passes, LaterAnswers}
+use Rattle.hg_pool.specs.Passing.{Passes}
 use Rattle.hg_pool.specs.Keeping.{counted}
 use Rattle.hg_pool.specs.declared.frames.Frame.{Frame}
 use Rattle.hg_pool.specs.declared.PoolCounts.{PoolCounts}

@@ -1,4 +1,3 @@
-use Rattle.std.proofs.Common.{rules}
 use Rattle.hg_pool.specs.Disks.{Disks, disk_of}
 use Rattle.hg_pool.proofs.NewPool.{new-sound, new-shown, new-no_pins}
 use Rattle.hg_pool.proofs.pool.Pool.new.Goals as goal

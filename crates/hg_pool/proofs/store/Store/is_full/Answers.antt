@@ -1,4 +1,4 @@
-use Rattle.std.proofs.Common.{ℕ, ◌≡◌, ap, sym, ◌∙◌}
+use Rattle.std.proofs.Common.{◌≡◌, sym, ◌∙◌}
 use Rattle.std.proofs.lemmas.Bool.{eq-eqb, eqb-true}
 use Rattle.hg_pool.specs.Picture.{taken_at, limit_of}
 use Rattle.hg_pool.proofs.Counting.{all-counted, counted-all, places-limit}

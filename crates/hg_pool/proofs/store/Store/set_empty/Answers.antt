@@ -1,6 +1,6 @@
-use Rattle.std.proofs.Common.{ℕ, ◌≡◌, ◌+◌, ◌-◌, ap, true, false, Some, None, ◌∙◌}
+use Rattle.std.proofs.Common.{ℕ, ◌≡◌, ap, None}
 use Rattle.hg_pool.specs.Picture.{frame_at}
-use Rattle.hg_pool.specs.Keeping.{with_frame, with_place, new_frame}
+use Rattle.hg_pool.specs.Keeping.{with_frame}
 use Rattle.hg_pool.specs.declared.frames.Frame.{Frame}
 use Rattle.hg_pool.specs.declared.store.Store.{Store}
 use Rattle.hg_pool.proofs.Counting.{frame-here}

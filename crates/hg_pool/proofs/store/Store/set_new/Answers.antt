@@ -1,9 +1,6 @@
-use Rattle.std.proofs.Common.{ℕ, ◌≡◌, ◌+◌, ◌-◌, ap, true, false, Some, None, ◌∙◌}
-use Rattle.hg_pool.specs.Picture.{frame_at}
+use Rattle.std.proofs.Common.{ℕ, ◌+◌, ap, ◌∙◌}
 use Rattle.hg_pool.specs.Keeping.{with_frame, with_place, new_frame}
-use Rattle.hg_pool.specs.declared.frames.Frame.{Frame}
 use Rattle.hg_pool.specs.declared.store.Store.{Store}
-use Rattle.hg_pool.proofs.Counting.{frame-here}
 use Rattle.hg_pool.proofs.store.Store.set_new.Goals as goal
 
 pub returns : goal.returns
