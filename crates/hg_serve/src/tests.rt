@@ -1,7 +1,7 @@
 //! Scripts with the replies that were worked out by hand, and one run for each fault. The rows of a
 //! SELECT come in any order; here they are listed in the order in which they were inserted.
-use crate::{Outcome, Status, run};
-use hg_io::{MemDevice, MemSink, MemSource};
+use crate::{Config, Engine, Outcome, Status, run, serve_lines};
+use hg_io::{CleanDevice, MemDevice, MemSink, MemSource, PageDevice};
 use std::alloc::{AllocError, Global};
 use std::process::Abort;
 use std::test::Fail;
@@ -150,5 +150,313 @@ fn faults(rt: HostRuntime) -> Result<(), Fail> {
     );
     let (status, sink) = serve(alloc, Some("--max"), "SELEC\n", &[], &[])?;
     assert_eq!(rt; (status, sink.bytes().is_empty()), (Status::Usage, true));
+    Ok(())
+}
+
+/// A table of one number, with rows 10001, 10002 and so on, `per` of them in each INSERT.
+#[derive(Clone, Copy)]
+struct Load {
+    rows: usize,
+    per: usize,
+}
+
+fn push_digits(text: &mut Vec<u8>, number: usize, digits: usize) -> Result<(), AllocError> {
+    let mut unit = 1;
+    for _digit in 1..digits {
+        unit *= 10;
+    }
+    for _digit in 0..digits {
+        text.push(b'0' + (number / unit % 10) as u8)?;
+        unit /= 10;
+    }
+    Ok(())
+}
+
+/// The statements, and a SELECT of all rows at the end.
+fn script_of(alloc: Global, load: Load) -> Result<Vec<u8>, AllocError> {
+    let mut text = Vec::from_slice(alloc, b"CREATE TABLE t (a INTEGER)\n".as_slice())?;
+    for row in 0..load.rows {
+        if row % load.per == 0 {
+            text.extend_from_slice(b"INSERT INTO t VALUES (".as_slice())?;
+        } else {
+            text.extend_from_slice(b", (".as_slice())?;
+        }
+        push_digits(&mut text, 10_001 + row, 5)?;
+        text.push(b')')?;
+        if row % load.per == load.per - 1 || row == load.rows - 1 {
+            text.push(b'\n')?;
+        }
+    }
+    text.extend_from_slice(b"SELECT * FROM t\n".as_slice())?;
+    Ok(text)
+}
+
+/// The replies where the INSERTs from `first` to before `behind` gave `line` instead, whose rows are then
+/// left out; the SELECT shows the first `shown` rows of the others, and then `end`.
+#[derive(Clone, Copy)]
+struct Expected<'a> {
+    first: usize,
+    behind: usize,
+    line: &'a [u8],
+    shown: usize,
+    end: &'a [u8],
+}
+
+const ALL: usize = 1_000_000;
+
+const END: &[u8] = b"end *\n";
+
+const FAULT: &[u8] = b"error 17 main device fault\n";
+
+fn replies_of(alloc: Global, load: Load, expected: &Expected) -> Result<Vec<u8>, AllocError> {
+    let mut text = Vec::from_slice(alloc, b"created\n".as_slice())?;
+    let mut rows = Vec::new(alloc);
+    let mut left = expected.shown;
+    for row in 0..load.rows {
+        let insert = row / load.per;
+        let refused = expected.first <= insert && insert < expected.behind;
+        if row % load.per == 0 && refused {
+            text.extend_from_slice(expected.line)?;
+        }
+        if row % load.per == 0 && !refused {
+            text.extend_from_slice(b"rows ".as_slice())?;
+            push_digits(&mut text, load.per.min(load.rows - row), 2)?;
+            text.push(b'\n')?;
+        }
+        if left > 0 && !refused {
+            rows.extend_from_slice(b"row * ".as_slice())?;
+            push_digits(&mut rows, 10_001 + row, 5)?;
+            rows.push(b'\n')?;
+            left -= 1;
+        }
+    }
+    text.extend_from_slice(rows.as_slice())?;
+    text.extend_from_slice(expected.end)?;
+    Ok(text)
+}
+
+/// What a script gives through an engine of 16 frames over this main device.
+fn through_engine<M: PageDevice + Drop>(
+    alloc: Global,
+    script: Vec<u8>,
+    main: M,
+) -> Result<(Status, MemSink), AllocError> {
+    let config = Config {
+        max: 16,
+        pool: 16,
+        mpl: 1,
+        main_pages: 64,
+        temp_pages: 64,
+    };
+    let mut source = MemSource::new(script, Vec::new(alloc));
+    let mut sink = MemSink::new(alloc, Vec::new(alloc));
+    let Ok(mut engine) = Engine::new(alloc, &config, main, device(alloc)) else {
+        return Err(AllocError);
+    };
+    let status = serve_lines(&mut engine, &mut source, &mut sink);
+    let _ = engine.close();
+    Ok((status, sink))
+}
+
+/// On which line, from 0, the first error stands.
+fn first_error(text: &[u8]) -> Option<usize> {
+    let mut line = 0;
+    for at in 0..text.len() {
+        let (_, rest) = text.split_at(at);
+        if rest.starts_with(b"error".as_slice()) {
+            return Some(line);
+        }
+        if text[at] == b'\n' {
+            line += 1;
+        }
+    }
+    None
+}
+
+/// What is expected with the first error on that line: an INSERT's is instead of its rows, the
+/// SELECT's closes it.
+fn with_fault(error: Option<usize>, inserts: usize) -> Expected<'static> {
+    let all = Expected {
+        first: 0,
+        behind: 0,
+        line: FAULT,
+        shown: ALL,
+        end: END,
+    };
+    match error {
+        None => all,
+        Some(line) if line <= inserts => Expected {
+            first: line - 1,
+            behind: line,
+            ..all
+        },
+        Some(line) => Expected {
+            shown: line - 1 - inserts,
+            end: b"error 17 main device fault\nclosed *\n",
+            ..all
+        },
+    }
+}
+
+/// A load with its script and the replies without a fault.
+#[derive(Drop)]
+struct Trial {
+    load: Load,
+    script: Vec<u8>,
+    plain: Vec<u8>,
+}
+
+impl Trial {
+    fn new(alloc: Global, rows: usize) -> Result<Trial, AllocError> {
+        let load = Load { rows, per: 64 };
+        let script = script_of(alloc, load)?;
+        let plain = replies_of(alloc, load, &with_fault(None, 0))?;
+        Ok(Trial {
+            load,
+            script,
+            plain,
+        })
+    }
+
+    /// Over a main device whose read or write of that number fails: on which line the error stands.
+    fn one_fault(
+        &self,
+        rt: &impl Abort,
+        alloc: Global,
+        read: &[u64],
+        write: &[u64],
+    ) -> Result<Option<usize>, AllocError> {
+        let read = Vec::from_slice(alloc, read)?;
+        let write = Vec::from_slice(alloc, write)?;
+        let main = MemDevice::new(alloc, read, write);
+        let script = Vec::from_slice(alloc, self.script.as_slice())?;
+        let (status, sink) = through_engine(alloc, script, main)?;
+        if status == Status::Clean {
+            assert!(rt; sink.bytes() == self.plain.as_slice());
+            return Ok(None);
+        }
+        let error = first_error(sink.bytes());
+        let inserts = self.load.rows.div_ceil(self.load.per);
+        let expected = replies_of(alloc, self.load, &with_fault(error, inserts))?;
+        assert!(rt; sink.bytes() == expected.as_slice() && status == Status::Errors);
+        Ok(error)
+    }
+}
+
+/// The reads and then the writes of these numbers fail, one in each run. A number that was not reached
+/// changes nothing, and a greater one is not reached then either.
+fn each_fails(rt: &impl Abort, alloc: Global, first: u64, last: u64) -> Result<(), AllocError> {
+    let trial = Trial::new(alloc, 2_560)?;
+    let mut reads = true;
+    let mut writes = true;
+    for call in first..=last {
+        reads = reads && trial.one_fault(rt, alloc, &[call], &[])?.is_some();
+        writes = writes && trial.one_fault(rt, alloc, &[], &[call])?.is_some();
+        if !reads && !writes {
+            return Ok(());
+        }
+    }
+    Ok(())
+}
+
+#[test]
+fn calls_1_to_8_of_the_main_device_fail(rt: HostRuntime) -> Result<(), Fail> {
+    each_fails(&rt, rt.alloc(), 1, 8)?;
+    Ok(())
+}
+
+#[test]
+fn calls_9_to_16_of_the_main_device_fail(rt: HostRuntime) -> Result<(), Fail> {
+    each_fails(&rt, rt.alloc(), 9, 16)?;
+    Ok(())
+}
+
+#[test]
+fn calls_17_to_24_of_the_main_device_fail(rt: HostRuntime) -> Result<(), Fail> {
+    each_fails(&rt, rt.alloc(), 17, 24)?;
+    Ok(())
+}
+
+#[test]
+fn calls_25_to_200_of_the_main_device_fail(rt: HostRuntime) -> Result<(), Fail> {
+    each_fails(&rt, rt.alloc(), 25, 200)?;
+    Ok(())
+}
+
+#[test]
+fn first_write_fails_under_4000_rows(rt: HostRuntime) -> Result<(), Fail> {
+    let alloc = rt.alloc();
+    let trial = Trial::new(alloc, 4_000)?;
+    assert!(rt; trial.one_fault(&rt, alloc, &[], &[1])?.is_some());
+    Ok(())
+}
+
+/// A page has 128 slots, and 63 pages are for tables: 8,064 versions. The INSERT of rows 8,041 to 8,100
+/// puts 24 of them before it is refused.
+#[test]
+fn main_file_fills_up(rt: HostRuntime) -> Result<(), Fail> {
+    let alloc = rt.alloc();
+    let load = Load {
+        rows: 8_220,
+        per: 60,
+    };
+    let (status, sink) = through_engine(alloc, script_of(alloc, load)?, device(alloc))?;
+    let expected = Expected {
+        first: 134,
+        behind: 137,
+        line: b"error 19 main full\n",
+        shown: ALL,
+        end: END,
+    };
+    assert_eq!(rt;
+        sink.bytes(),
+        replies_of(alloc, load, &expected)?.as_slice()
+    );
+    assert_eq!(rt; status, Status::Errors);
+    Ok(())
+}
+
+#[test]
+fn over_a_clean_device(rt: HostRuntime) -> Result<(), Fail> {
+    let alloc = rt.alloc();
+    let Ok(main) = CleanDevice::new(alloc, 64) else {
+        return Err(Fail::from(AllocError));
+    };
+    let script =
+        "CREATE TABLE t (a INTEGER, b INTEGER)\nINSERT INTO t VALUES (1, 2), (3, NULL)\nINSERT INTO t VALUES (-4, 0)\nSELECT * FROM t\n";
+    let (status, sink) = through_engine(alloc, Vec::from_slice(alloc, script.as_bytes())?, main)?;
+    assert_eq!(rt;
+        sink.bytes(),
+        "created\nrows 2\nrows 1\nrow * 1,2\nrow * 3,NULL\nrow * -4,0\nend *\n".as_bytes()
+    );
+    assert_eq!(rt; status, Status::Clean);
+    Ok(())
+}
+
+/// A comment of two dashes and so many letters, and a statement behind it.
+fn after_comment(alloc: Global, letters: usize) -> Result<MemSink, AllocError> {
+    let mut script = Vec::from_slice(alloc, b"--".as_slice())?;
+    for _letter in 0..letters {
+        script.push(b'x')?;
+    }
+    script.extend_from_slice(b"\nSELECT * FROM u\n".as_slice())?;
+    let (status, sink) = through_engine(alloc, script, device(alloc))?;
+    match status {
+        Status::Errors => Ok(sink),
+        _ => Err(AllocError),
+    }
+}
+
+#[test]
+fn long_comments(rt: HostRuntime) -> Result<(), Fail> {
+    let alloc = rt.alloc();
+    assert_eq!(rt;
+        after_comment(alloc, 4_094)?.bytes(),
+        b"error 3 unknown table u\n".as_slice()
+    );
+    assert_eq!(rt;
+        after_comment(alloc, 4_095)?.bytes(),
+        b"error 2 line too long\nerror 3 unknown table u\n".as_slice()
+    );
     Ok(())
 }
