@@ -19,7 +19,7 @@ mod statuses;
 mod top;
 
 pub use hg_engine::{Config, Devices, Engine};
-pub use serve::serve_lines;
+pub use serve::serve;
 pub use statuses::Status;
 pub use top::{Outcome, run};
 

@@ -32,7 +32,11 @@ fn read_some<S: Source>(source: &mut S, buffer: &mut [u8], room: usize) -> Resul
 
 /// Serves the script of the source to its end, to its limit, or until source or sink fails. The reply
 /// lines that wait are written before the source is asked for more.
-fn serve<E: Machine, S: Source, K: Sink>(engine: &mut E, source: &mut S, sink: &mut K) -> Status
+fn read_and_answer<E: Machine, S: Source, K: Sink>(
+    engine: &mut E,
+    source: &mut S,
+    sink: &mut K,
+) -> Status
     requires idle { E.pending engine.old ≡ false }
     requires stands { (s : State) × E.stands engine.old s }
     ensures ends { E.stands engine.old (first_state (E.setting engine.old).limit) → Ends (E.setting engine.old)
@@ -83,11 +87,7 @@ fn serve<E: Machine, S: Source, K: Sink>(engine: &mut E, source: &mut S, sink: &
 /// In the clauses, the outside is what source, sink and engine tell at one moment: the bytes left, the
 /// count of bytes given, the bytes written, and the devices' counts of faults. What is said of the
 /// replies holds where the engine stood for the first state of the machine, without a table.
-pub fn serve_lines<E: Machine, S: Source, K: Sink>(
-    engine: &mut E,
-    source: &mut S,
-    sink: &mut K,
-) -> Status
+pub fn serve<E: Machine, S: Source, K: Sink>(engine: &mut E, source: &mut S, sink: &mut K) -> Status
     requires idle { E.pending engine.old ≡ false }
     requires stands { (s : State) × E.stands engine.old s }
 
@@ -134,5 +134,5 @@ pub fn serve_lines<E: Machine, S: Source, K: Sink>(
     ensures source_later { S.faults source.old ≤ S.faults source.new }
     ensures sink_later { K.faults sink.old ≤ K.faults sink.new }
 {
-    serve(engine, source, sink)
+    read_and_answer(engine, source, sink)
 }

@@ -1,6 +1,6 @@
 //! Scripts with the replies that were worked out by hand, and one run for each fault. The rows of a
 //! SELECT come in any order; here they are listed in the order in which they were inserted.
-use crate::{Config, Engine, Outcome, Status, run, serve_lines};
+use crate::{Config, Engine, Outcome, Status, run, serve};
 use hg_io::{CleanDevice, MemDevice, MemSink, MemSource, PageDevice};
 use std::alloc::{AllocError, Global};
 use std::process::Abort;
@@ -19,7 +19,7 @@ fn words(alloc: Global, word: Option<&str>) -> Result<Vec<String>, AllocError> {
 }
 
 /// A run with the calls of source and sink that fail: its status and what was written.
-fn serve(
+fn run_with(
     alloc: Global,
     word: Option<&str>,
     script: &str,
@@ -53,7 +53,7 @@ fn gives(
     replies: &str,
     status: Status,
 ) -> Result<(), AllocError> {
-    let (ended, sink) = serve(alloc, None, script, &[], &[])?;
+    let (ended, sink) = run_with(alloc, None, script, &[], &[])?;
     assert_eq!(rt; sink.bytes(), replies.as_bytes());
     assert_eq!(rt; ended, status);
     Ok(())
@@ -138,17 +138,17 @@ fn refused_statements(rt: HostRuntime) -> Result<(), Fail> {
 #[test]
 fn faults(rt: HostRuntime) -> Result<(), Fail> {
     let alloc = rt.alloc();
-    let (status, sink) = serve(alloc, None, "CREATE TABLE t (a INTEGER)\nSEL", &[2], &[])?;
+    let (status, sink) = run_with(alloc, None, "CREATE TABLE t (a INTEGER)\nSEL", &[2], &[])?;
     assert_eq!(rt;
         (status, sink.bytes() == b"created\n".as_slice()),
         (Status::SourceFault, true)
     );
-    let (status, sink) = serve(alloc, None, "SELECT * FROM t", &[], &[1])?;
+    let (status, sink) = run_with(alloc, None, "SELECT * FROM t", &[], &[1])?;
     assert_eq!(rt;
         (status, sink.bytes().is_empty()),
         (Status::SinkFault, true)
     );
-    let (status, sink) = serve(alloc, Some("--max"), "SELEC\n", &[], &[])?;
+    let (status, sink) = run_with(alloc, Some("--max"), "SELEC\n", &[], &[])?;
     assert_eq!(rt; (status, sink.bytes().is_empty()), (Status::Usage, true));
     Ok(())
 }
@@ -253,7 +253,7 @@ fn through_engine<M: PageDevice + Drop>(
     let Ok(mut engine) = Engine::new(alloc, &config, main, device(alloc)) else {
         return Err(AllocError);
     };
-    let status = serve_lines(&mut engine, &mut source, &mut sink);
+    let status = serve(&mut engine, &mut source, &mut sink);
     let _ = engine.close();
     Ok((status, sink))
 }

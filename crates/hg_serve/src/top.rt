@@ -5,7 +5,7 @@ ghost use Rattle.hg_machine.specs.Outcome.{AnswersAll, AnswersWholeLines, Answer
 ghost use Rattle.hg_serve.specs.Ending.{outside};
 ghost use Rattle.hg_serve.specs.Run.{setting_over, faults_over};
 
-use crate::serve::serve_lines;
+use crate::serve::serve;
 use crate::statuses::Status;
 use hg_engine::{Config, Devices, Engine};
 use hg_io::{PageDevice, Sink, Source};
@@ -108,7 +108,7 @@ pub fn run<S: Source, K: Sink, M: PageDevice, T: PageDevice>(
             temp,
         },
         Ok(mut engine) => {
-            let status = serve_lines(&mut engine, source, sink);
+            let status = serve(&mut engine, source, sink);
             let Devices { main, temp } = engine.close();
             Outcome { status, main, temp }
         }
