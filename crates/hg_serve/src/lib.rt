@@ -13,13 +13,13 @@ mod lines;
 mod output;
 mod parse;
 mod scan;
-mod serve;
+mod serving;
 mod session;
 mod statuses;
 mod top;
 
 pub use hg_engine::{Config, Devices, Engine};
-pub use serve::serve;
+pub use serving::serve;
 pub use statuses::Status;
 pub use top::{Outcome, run};
 

@@ -5,7 +5,7 @@ ghost use Rattle.hg_machine.specs.Outcome.{AnswersAll, AnswersWholeLines, Answer
 ghost use Rattle.hg_serve.specs.Ending.{outside};
 ghost use Rattle.hg_serve.specs.Run.{setting_over, faults_over};
 
-use crate::serve::serve;
+use crate::serving::serve;
 use crate::statuses::Status;
 use hg_engine::{Config, Devices, Engine};
 use hg_io::{PageDevice, Sink, Source};

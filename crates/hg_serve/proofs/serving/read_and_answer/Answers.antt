@@ -6,7 +6,7 @@ use Rattle.hg_serve.proofs.Telling.{fell-none, fell-then}
 use Rattle.hg_serve.proofs.ServeLemmas.{serves-start, serves-flushed, serves-as, halts-as, closes-as}
 use Rattle.hg_serve.proofs.Closing.{breaks-serves}
 use Rattle.hg_serve.proofs.Endings.{took-none, took-more, took-same, took-end, breaks-off, closes, closes-so_many, source-breaks, limit-comes}
-use Rattle.hg_serve.proofs.serve.read_and_answer.Goals as goal
+use Rattle.hg_serve.proofs.serving.read_and_answer.Goals as goal
 
 pub loop-taken-init : goal.loop-taken-init
 loop-taken-init g c = record {

@@ -4,7 +4,7 @@ use Rattle.hg_machine.specs.State.{State}
 use Rattle.hg_serve.specs.Ending.{outside}
 use Rattle.hg_serve.specs.Output.{seen, NoneFell}
 use Rattle.hg_serve.specs.Serving.{Serves}
-use Rattle.hg_serve.proofs.serve.read_and_answer.Given as goal
+use Rattle.hg_serve.proofs.serving.read_and_answer.Given as goal
 
 abbrev pub invariant-loop-taken : goal.invariant-loop-taken
 invariant-loop-taken g l = record {

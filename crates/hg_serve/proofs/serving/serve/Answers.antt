@@ -1,5 +1,5 @@
 use Rattle.hg_serve.proofs.Endings.{comes-at-limit, never-usage, never-no_memory}
-use Rattle.hg_serve.proofs.serve.serve.Goals as goal
+use Rattle.hg_serve.proofs.serving.serve.Goals as goal
 
 pub returns-clause-clean : goal.returns-clause-clean
 returns-clause-clean g c = λ is stood. rw is at (c.read_and_answer.ensures.ends stood)
