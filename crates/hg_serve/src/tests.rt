@@ -153,39 +153,62 @@ fn faults(rt: HostRuntime) -> Result<(), Fail> {
     Ok(())
 }
 
-/// A table of one number, with rows 10001, 10002 and so on, `per` of them in each INSERT.
-#[derive(Clone, Copy)]
-struct Load {
-    rows: usize,
-    per: usize,
+/// The last five digits of a number.
+fn push_number(text: &mut Vec<u8>, number: usize) -> Result<(), AllocError> {
+    push_digit(text, number / 10_000)?;
+    push_digit(text, number / 1_000)?;
+    push_digit(text, number / 100)?;
+    push_pair(text, number)
 }
 
-fn push_digits(text: &mut Vec<u8>, number: usize, digits: usize) -> Result<(), AllocError> {
-    let mut unit = 1;
-    for _digit in 1..digits {
-        unit *= 10;
-    }
-    for _digit in 0..digits {
-        text.push(b'0' + (number / unit % 10) as u8)?;
-        unit /= 10;
-    }
+fn push_pair(text: &mut Vec<u8>, number: usize) -> Result<(), AllocError> {
+    push_digit(text, number / 10)?;
+    push_digit(text, number)
+}
+
+fn push_digit(text: &mut Vec<u8>, number: usize) -> Result<(), AllocError> {
+    text.push(((number % 10) as u8).wrapping_add(b'0'))?;
     Ok(())
 }
 
-/// The statements, and a SELECT of all rows at the end.
-fn script_of(alloc: Global, load: Load) -> Result<Vec<u8>, AllocError> {
-    let mut text = Vec::from_slice(alloc, b"CREATE TABLE t (a INTEGER)\n".as_slice())?;
-    for row in 0..load.rows {
-        if row % load.per == 0 {
-            text.extend_from_slice(b"INSERT INTO t VALUES (".as_slice())?;
-        } else {
+/// How many rows each INSERT has: so many times `per`, and then `last` where that is not 0.
+fn sizes_of(
+    alloc: Global,
+    inserts: usize,
+    per: usize,
+    last: usize,
+) -> Result<Vec<usize>, AllocError> {
+    let mut sizes = Vec::new(alloc);
+    for _insert in 0..inserts {
+        sizes.push(per)?;
+    }
+    if last > 0 {
+        sizes.push(last)?;
+    }
+    Ok(sizes)
+}
+
+/// An INSERT of so many rows, from `first` on.
+fn push_insert(text: &mut Vec<u8>, first: usize, count: usize) -> Result<(), AllocError> {
+    text.extend_from_slice(b"INSERT INTO t VALUES (".as_slice())?;
+    for row in 0..count {
+        if row > 0 {
             text.extend_from_slice(b", (".as_slice())?;
         }
-        push_digits(&mut text, 10_001 + row, 5)?;
+        push_number(text, first.wrapping_add(row))?;
         text.push(b')')?;
-        if row % load.per == load.per - 1 || row == load.rows - 1 {
-            text.push(b'\n')?;
-        }
+    }
+    text.push(b'\n')?;
+    Ok(())
+}
+
+/// A table of one number, its INSERTs with the rows 10001, 10002 and so on, and a SELECT of all.
+fn script_of(alloc: Global, sizes: &[usize]) -> Result<Vec<u8>, AllocError> {
+    let mut text = Vec::from_slice(alloc, b"CREATE TABLE t (a INTEGER)\n".as_slice())?;
+    let mut first: usize = 10_001;
+    for count in sizes {
+        push_insert(&mut text, first, *count)?;
+        first = first.wrapping_add(*count);
     }
     text.extend_from_slice(b"SELECT * FROM t\n".as_slice())?;
     Ok(text)
@@ -208,27 +231,33 @@ const END: &[u8] = b"end *\n";
 
 const FAULT: &[u8] = b"error 17 main device fault\n";
 
-fn replies_of(alloc: Global, load: Load, expected: &Expected) -> Result<Vec<u8>, AllocError> {
+fn push_rows(rows: &mut Vec<u8>, first: usize, count: usize) -> Result<(), AllocError> {
+    for row in 0..count {
+        rows.extend_from_slice(b"row * ".as_slice())?;
+        push_number(rows, first.wrapping_add(row))?;
+        rows.push(b'\n')?;
+    }
+    Ok(())
+}
+
+fn replies_of(alloc: Global, sizes: &[usize], expected: &Expected) -> Result<Vec<u8>, AllocError> {
     let mut text = Vec::from_slice(alloc, b"created\n".as_slice())?;
     let mut rows = Vec::new(alloc);
     let mut left = expected.shown;
-    for row in 0..load.rows {
-        let insert = row / load.per;
-        let refused = expected.first <= insert && insert < expected.behind;
-        if row % load.per == 0 && refused {
+    let mut first: usize = 10_001;
+    let mut insert: usize = 0;
+    for count in sizes {
+        if expected.first <= insert && insert < expected.behind {
             text.extend_from_slice(expected.line)?;
-        }
-        if row % load.per == 0 && !refused {
+        } else {
             text.extend_from_slice(b"rows ".as_slice())?;
-            push_digits(&mut text, load.per.min(load.rows - row), 2)?;
+            push_pair(&mut text, *count)?;
             text.push(b'\n')?;
+            push_rows(&mut rows, first, left.min(*count))?;
+            left = left.saturating_sub(*count);
         }
-        if left > 0 && !refused {
-            rows.extend_from_slice(b"row * ".as_slice())?;
-            push_digits(&mut rows, 10_001 + row, 5)?;
-            rows.push(b'\n')?;
-            left -= 1;
-        }
+        first = first.wrapping_add(*count);
+        insert = insert.wrapping_add(1);
     }
     text.extend_from_slice(rows.as_slice())?;
     text.extend_from_slice(expected.end)?;
@@ -241,6 +270,10 @@ fn through_engine<M: PageDevice + Drop>(
     script: Vec<u8>,
     main: M,
 ) -> Result<(Status, MemSink), AllocError> {
+    let temp = device(alloc);
+    if main.limit() < 64 || temp.limit() < 64 {
+        return Err(AllocError);
+    }
     let config = Config {
         max: 16,
         pool: 16,
@@ -250,7 +283,7 @@ fn through_engine<M: PageDevice + Drop>(
     };
     let mut source = MemSource::new(script, Vec::new(alloc));
     let mut sink = MemSink::new(alloc, Vec::new(alloc));
-    let Ok(mut engine) = Engine::new(alloc, &config, main, device(alloc)) else {
+    let Ok(mut engine) = Engine::new(alloc, &config, main, temp) else {
         return Err(AllocError);
     };
     let status = serve(&mut engine, &mut source, &mut sink);
@@ -260,14 +293,14 @@ fn through_engine<M: PageDevice + Drop>(
 
 /// On which line, from 0, the first error stands.
 fn first_error(text: &[u8]) -> Option<usize> {
-    let mut line = 0;
+    let mut line: usize = 0;
     for at in 0..text.len() {
         let (_, rest) = text.split_at(at);
         if rest.starts_with(b"error".as_slice()) {
             return Some(line);
         }
         if text[at] == b'\n' {
-            line += 1;
+            line = line.wrapping_add(1);
         }
     }
     None
@@ -286,33 +319,32 @@ fn with_fault(error: Option<usize>, inserts: usize) -> Expected<'static> {
     match error {
         None => all,
         Some(line) if line <= inserts => Expected {
-            first: line - 1,
+            first: line.saturating_sub(1),
             behind: line,
             ..all
         },
         Some(line) => Expected {
-            shown: line - 1 - inserts,
+            shown: line.saturating_sub(1).saturating_sub(inserts),
             end: b"error 17 main device fault\nclosed *\n",
             ..all
         },
     }
 }
 
-/// A load with its script and the replies without a fault.
+/// INSERTs with their script and the replies without a fault.
 #[derive(Drop)]
 struct Trial {
-    load: Load,
+    sizes: Vec<usize>,
     script: Vec<u8>,
     plain: Vec<u8>,
 }
 
 impl Trial {
-    fn new(alloc: Global, rows: usize) -> Result<Trial, AllocError> {
-        let load = Load { rows, per: 64 };
-        let script = script_of(alloc, load)?;
-        let plain = replies_of(alloc, load, &with_fault(None, 0))?;
+    fn new(alloc: Global, sizes: Vec<usize>) -> Result<Trial, AllocError> {
+        let script = script_of(alloc, &sizes)?;
+        let plain = replies_of(alloc, &sizes, &with_fault(None, 0))?;
         Ok(Trial {
-            load,
+            sizes,
             script,
             plain,
         })
@@ -336,8 +368,7 @@ impl Trial {
             return Ok(None);
         }
         let error = first_error(sink.bytes());
-        let inserts = self.load.rows.div_ceil(self.load.per);
-        let expected = replies_of(alloc, self.load, &with_fault(error, inserts))?;
+        let expected = replies_of(alloc, &self.sizes, &with_fault(error, self.sizes.len()))?;
         assert!(rt; sink.bytes() == expected.as_slice() && status == Status::Errors);
         Ok(error)
     }
@@ -346,10 +377,10 @@ impl Trial {
 /// The reads and then the writes of these numbers fail, one in each run. A number that was not reached
 /// changes nothing, and a greater one is not reached then either.
 fn each_fails(rt: &impl Abort, alloc: Global, first: u64, last: u64) -> Result<(), AllocError> {
-    let trial = Trial::new(alloc, 2_560)?;
+    let trial = Trial::new(alloc, sizes_of(alloc, 40, 64, 0)?)?;
     let mut reads = true;
     let mut writes = true;
-    for call in first..=last {
+    for call in first..last {
         reads = reads && trial.one_fault(rt, alloc, &[call], &[])?.is_some();
         writes = writes && trial.one_fault(rt, alloc, &[], &[call])?.is_some();
         if !reads && !writes {
@@ -361,32 +392,32 @@ fn each_fails(rt: &impl Abort, alloc: Global, first: u64, last: u64) -> Result<(
 
 #[test]
 fn calls_1_to_8_of_the_main_device_fail(rt: HostRuntime) -> Result<(), Fail> {
-    each_fails(&rt, rt.alloc(), 1, 8)?;
+    each_fails(&rt, rt.alloc(), 1, 9)?;
     Ok(())
 }
 
 #[test]
 fn calls_9_to_16_of_the_main_device_fail(rt: HostRuntime) -> Result<(), Fail> {
-    each_fails(&rt, rt.alloc(), 9, 16)?;
+    each_fails(&rt, rt.alloc(), 9, 17)?;
     Ok(())
 }
 
 #[test]
 fn calls_17_to_24_of_the_main_device_fail(rt: HostRuntime) -> Result<(), Fail> {
-    each_fails(&rt, rt.alloc(), 17, 24)?;
+    each_fails(&rt, rt.alloc(), 17, 25)?;
     Ok(())
 }
 
 #[test]
 fn calls_25_to_200_of_the_main_device_fail(rt: HostRuntime) -> Result<(), Fail> {
-    each_fails(&rt, rt.alloc(), 25, 200)?;
+    each_fails(&rt, rt.alloc(), 25, 201)?;
     Ok(())
 }
 
 #[test]
 fn first_write_fails_under_4000_rows(rt: HostRuntime) -> Result<(), Fail> {
     let alloc = rt.alloc();
-    let trial = Trial::new(alloc, 4_000)?;
+    let trial = Trial::new(alloc, sizes_of(alloc, 62, 64, 32)?)?;
     assert!(rt; trial.one_fault(&rt, alloc, &[], &[1])?.is_some());
     Ok(())
 }
@@ -396,11 +427,8 @@ fn first_write_fails_under_4000_rows(rt: HostRuntime) -> Result<(), Fail> {
 #[test]
 fn main_file_fills_up(rt: HostRuntime) -> Result<(), Fail> {
     let alloc = rt.alloc();
-    let load = Load {
-        rows: 8_220,
-        per: 60,
-    };
-    let (status, sink) = through_engine(alloc, script_of(alloc, load)?, device(alloc))?;
+    let sizes = sizes_of(alloc, 137, 60, 0)?;
+    let (status, sink) = through_engine(alloc, script_of(alloc, &sizes)?, device(alloc))?;
     let expected = Expected {
         first: 134,
         behind: 137,
@@ -408,10 +436,7 @@ fn main_file_fills_up(rt: HostRuntime) -> Result<(), Fail> {
         shown: ALL,
         end: END,
     };
-    assert_eq!(rt;
-        sink.bytes(),
-        replies_of(alloc, load, &expected)?.as_slice()
-    );
+    assert!(rt; sink.bytes() == replies_of(alloc, &sizes, &expected)?.as_slice());
     assert_eq!(rt; status, Status::Errors);
     Ok(())
 }
