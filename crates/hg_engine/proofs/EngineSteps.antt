@@ -1,23 +1,19 @@
 -- Steps of the tables of an engine are steps of the engine.
 use Rattle.std.specs.Prelude.{List}
-use Rattle.std.proofs.Common.{ap, refl, arith}
 use Rattle.hg_base.specs.Space.{Space}
-use Rattle.hg_base.specs.declared.File.TheVariants.{Main}
 use Rattle.hg_machine.specs.Reply.{Reply as Line}
 use Rattle.hg_reply.specs.Steps.{Says}
 use Rattle.hg_reply.specs.declared.reply.Reply.{Reply}
-use Rattle.hg_engine.specs.Shown.{faults_in, IsSameSetting}
+use Rattle.hg_engine.specs.Shown.{faults_in, IsLater}
 use Rattle.hg_engine.specs.Stepping.{Tells, Counted, IsSameSpace}
 
 pub says-so : (a b : Space) (reply : Reply) (lines : List Line) → Tells reply lines → Counted a b lines → Says reply (faults_in a) (faults_in b) lines
 says-so a b reply lines tells counted = record { text = tells.text; errors = tells.errors; main_faults = counted.main; temp_faults = counted.temp }
 
-pub same-setting : (a b : Space) → IsSameSpace a b → IsSameSetting a b
-same-setting a b same = record {
-  setting = λ i. record { told = same.told i; limit = (ap (λ l. l Main) same.limit) i };
+pub is-later : (a b : Space) → IsSameSpace a b → IsLater a b
+is-later a b same = record {
+  told = same.told;
   main = same.later.main_device;
   temp = same.later.temp_device;
+  full = same.later.main_full;
 }
-
-pub setting-stays : (a : Space) → IsSameSetting a a
-setting-stays a = record { setting = refl; main = omega arith; temp = omega arith }

@@ -11,7 +11,6 @@ use Rattle.std.proofs.lemmas.Bool.{false≢true}
 use Rattle.std.proofs.lemmas.Option.{none-some}
 use Rattle.hg_machine.specs.State.{first_state}
 use Rattle.hg_engine.specs.Opened.{TakesFirst}
-use Rattle.hg_engine.specs.Shown.{setting_in}
 use Rattle.hg_engine.specs.Standing.{Stands}
 use Rattle.hg_engine.specs.Stepping.{TablesAre}
 use Rattle.hg_engine.specs.declared.tables.Tables.{Tables}
@@ -71,7 +70,3 @@ opened a b x limit first none limit_is entries stamps scan =
     } in
     subst (λ c. Stands b x.entries.items x.stamps c (first_state limit)) (sym scan)
     (subst (λ m. Stands b x.entries.items m None (first_state limit)) (sym stamps) (subst (λ l. Stands b l [] None (first_state limit)) (sym entries) standing))
-
-pub setting-first : (a b : Space) (told : Bool) (limit : ℕ) → TakesFirst a b → a.told ≡ told → a.limit Main ≡ limit
-    → setting_in b ≡ record { told = told; limit = limit }
-setting-first a b told limit first ht hl = λ i. record { told = (first.told ∙ ht) i; limit = (ap (λ l. l Main) first.limit ∙ hl) i }

@@ -4,19 +4,20 @@ use Rattle.std.proofs.Common.{sym, ◌∙◌, ap, subst, refl, arith}
 use Rattle.std.proofs.lemmas.Bool.{false≢true}
 use Rattle.std.proofs.lemmas.List.{append-nil}
 use Rattle.hg_base.specs.Space.{Space, NoPins}
-use Rattle.hg_base.specs.Causes.{Later, MainFailed, TempFailed}
+use Rattle.hg_base.specs.Causes.{Later, Rose, MainFailed, TempFailed}
 use Rattle.hg_base.specs.Steadiness.{Mine, Steady}
 use Rattle.hg_base.specs.SteadyLaws.{Later_same}
 use Rattle.hg_base.specs.declared.pages.PageFault.{PageFault}
 use Rattle.hg_base.specs.declared.pages.PageFault.TheVariants as fault
 use Rattle.hg_base.specs.declared.File.TheVariants.{Main, Temp}
-use Rattle.hg_machine.specs.Reply.{Reply as Line, closed, reply_text, text_of, has_error, is_error, fault_lines, is_fault_of}
+use Rattle.hg_machine.specs.Reply.{Reply as Line, closed, reply_text, text_of, has_error, is_error, fault_lines, is_fault_of, is_main_full}
+use Rattle.hg_reply.specs.Steps.{FullOnlyWhereFull}
 use Rattle.hg_reply.specs.declared.reply.Reply.{Reply}
 use Rattle.hg_base.specs.declared.Check.{Check}
 use Rattle.hg_base.specs.declared.PageId.{PageId}
 use Rattle.hg_engine.specs.Putting.{PutFault}
 use Rattle.hg_engine.specs.Scanning.{ScanFault}
-use Rattle.hg_engine.specs.Stepping.{Tells, Counted, FullOnlyWhereFull, IsSameSpace, says_full, line_of}
+use Rattle.hg_engine.specs.Stepping.{Tells, Counted, IsSameSpace, line_of}
 
 text-one : (line : Line) → reply_text line ≡ text_of (line ∷ [])
 unfolding text_of
@@ -34,49 +35,50 @@ tells-one old new line empty clean text errors = record {
   errors = errors ∙ ap (λ b. b || is_error line) clean ∙ error-one line;
 }
 
--- lines of which none says that a device failed
-pub counted-none : (a b : Space) (lines : List Line) → Later a.counts b.counts → fault_lines Main lines ≡ 0 → fault_lines Temp lines ≡ 0
-    → Counted a b lines
-counted-none a b lines later none also = record { main = omega arith; temp = omega arith }
-
 pub same-space : (m : Mine) (a b : Space) → Steady m a b → IsSameSpace a b
 same-space m a b s = record { told = s.told; limit = s.limit; pins = s.pins_after; later = s.counts }
 
 pub same-here : (a : Space) → NoPins a → IsSameSpace a a
 same-here a pins = record { told = refl; limit = refl; pins = pins; later = Later_same a.counts }
 
--- a line that speaks of no device
-pub counted-plain : (a b : Space) (line : Line) → Later a.counts b.counts → is_fault_of Main line ≡ false → is_fault_of Temp line ≡ false → Counted a b (line ∷ [])
+not-full : (m n : ℕ) (line : Line) → is_main_full line ≡ false → FullOnlyWhereFull m n (line ∷ [])
+not-full m n line none = record { rose = λ yes. absurd (false≢true (sym (ap (λ b. b || false) none) ∙ yes)) }
+
+not-full-two : (m n : ℕ) (one other : Line) → is_main_full one ≡ false → is_main_full other ≡ false → FullOnlyWhereFull m n (one ∷ other ∷ [])
+not-full-two m n one other none also =
+    record { rose = λ yes. absurd (false≢true (sym (ap (λ b. b || (is_main_full other || false)) none ∙ ap (λ b. b || false) also) ∙ yes)) }
+
+-- a line that speaks of no device and of no full file
+pub counted-plain : (a b : Space) (line : Line) → Later a.counts b.counts → is_fault_of Main line ≡ false → is_fault_of Temp line ≡ false
+    → is_main_full line ≡ false → Counted a b (line ∷ [])
 unfolding fault_lines
-counted-plain a b line later main temp =
+counted-plain a b line later main temp full =
     let no_main : fault_lines Main (line ∷ []) ≡ 0 = ap (λ b. (if b then 1 else 0) + 0) main in
     let no_temp : fault_lines Temp (line ∷ []) ≡ 0 = ap (λ b. (if b then 1 else 0) + 0) temp in
-    record { main = let t = later.main_device in omega arith; temp = let t = later.temp_device in omega arith }
+    record { main = let t = later.main_device in omega arith; temp = let t = later.temp_device in omega arith; full = not-full _ _ line full }
 
-pub not-full : (a b : Space) (line : Line) → says_full line ≡ false → FullOnlyWhereFull a b (line ∷ [])
-not-full a b line none = record { rose = λ yes. absurd (false≢true (sym (ap (λ b. b || false) none) ∙ yes)) }
-
-pub full-fault : (a b : Space) (n : ℕ) (f : PageFault) → PutFault a b n f → FullOnlyWhereFull a b (line_of f ∷ [])
-full-fault a b n fault.MainFault h = not-full a b (line_of fault.MainFault) refl
-full-fault a b n fault.TempFault h = not-full a b (line_of fault.TempFault) refl
-full-fault a b n fault.MainFull h = record { rose = λ yes. h.1 }
-full-fault a b n fault.TempFull h = absurd h
-full-fault a b n (fault.Damaged page check) h = not-full a b (line_of (fault.Damaged page check)) refl
+-- the line of a full file
+full-counted : (a b : Space) → Later a.counts b.counts → Rose a.counts.main_full b.counts.main_full → Counted a b (line_of fault.MainFull ∷ [])
+unfolding fault_lines
+full-counted a b later h =
+    record { main = let t = later.main_device in omega arith; temp = let t = later.temp_device in omega arith; full = record { rose = λ yes. h } }
 
 main-counted : (a b : Space) → Later a.counts b.counts → MainFailed a.counts b.counts → Counted a b (line_of fault.MainFault ∷ [])
 unfolding fault_lines
-main-counted a b later h = record { main = let own = h.1 in omega arith; temp = let t = later.temp_device in omega arith }
+main-counted a b later h =
+    record { main = let own = h.1 in omega arith; temp = let t = later.temp_device in omega arith; full = not-full _ _ (line_of fault.MainFault) refl }
 
 temp-counted : (a b : Space) → Later a.counts b.counts → TempFailed a.counts b.counts → Counted a b (line_of fault.TempFault ∷ [])
 unfolding fault_lines
-temp-counted a b later h = record { main = let t = later.main_device in omega arith; temp = let own = h.1 in omega arith }
+temp-counted a b later h =
+    record { main = let t = later.main_device in omega arith; temp = let own = h.1 in omega arith; full = not-full _ _ (line_of fault.TempFault) refl }
 
 pub put-counted : (a b : Space) (n : ℕ) (f : PageFault) → Later a.counts b.counts → PutFault a b n f → Counted a b (line_of f ∷ [])
 put-counted a b n fault.MainFault later h = main-counted a b later h
 put-counted a b n fault.TempFault later h = temp-counted a b later h
-put-counted a b n fault.MainFull later h = counted-plain a b (line_of fault.MainFull) later refl refl
+put-counted a b n fault.MainFull later h = full-counted a b later h.1
 put-counted a b n fault.TempFull later h = absurd h
-put-counted a b n (fault.Damaged page check) later h = counted-plain a b (line_of (fault.Damaged page check)) later refl refl
+put-counted a b n (fault.Damaged page check) later h = counted-plain a b (line_of (fault.Damaged page check)) later refl refl refl
 
 pub put-known : (a b : Space) (n : ℕ) (f : PageFault) → PutFault a b n f → f ≡ fault.TempFull → ⊥
 put-known a b n f h e = subst (PutFault a b n) e h
@@ -87,7 +89,7 @@ tells-none reply empty clean = record { text = empty; errors = clean }
 
 pub counted-nothing : (a : Space) → Counted a a []
 unfolding fault_lines
-counted-nothing a = record { main = omega arith; temp = omega arith }
+counted-nothing a = record { main = omega arith; temp = omega arith; full = record { rose = λ yes. absurd (false≢true yes) } }
 
 text-two : (one other : Line) → reply_text one ++ reply_text other ≡ text_of (one ∷ other ∷ [])
 unfolding text_of
@@ -108,15 +110,21 @@ tells-two old mid new one other empty clean text errors more worse = record {
 
 main-closed : (a b : Space) → Later a.counts b.counts → MainFailed a.counts b.counts → Counted a b (line_of fault.MainFault ∷ closed ∷ [])
 unfolding fault_lines
-main-closed a b later h = record { main = let own = h.1 in omega arith; temp = let t = later.temp_device in omega arith }
+main-closed a b later h =
+    record { main = let own = h.1 in omega arith; temp = let t = later.temp_device in omega arith; full = not-full-two _ _ (line_of fault.MainFault) closed refl refl }
 
 temp-closed : (a b : Space) → Later a.counts b.counts → TempFailed a.counts b.counts → Counted a b (line_of fault.TempFault ∷ closed ∷ [])
 unfolding fault_lines
-temp-closed a b later h = record { main = let t = later.main_device in omega arith; temp = let own = h.1 in omega arith }
+temp-closed a b later h =
+    record { main = let t = later.main_device in omega arith; temp = let own = h.1 in omega arith; full = not-full-two _ _ (line_of fault.TempFault) closed refl refl }
 
 damaged-closed : (a b : Space) (page : PageId) (check : Check) → Later a.counts b.counts → Counted a b (line_of (fault.Damaged page check) ∷ closed ∷ [])
 unfolding fault_lines
-damaged-closed a b page check later = record { main = let t = later.main_device in omega arith; temp = let t = later.temp_device in omega arith }
+damaged-closed a b page check later = record {
+  main = let t = later.main_device in omega arith;
+  temp = let t = later.temp_device in omega arith;
+  full = not-full-two _ _ (line_of (fault.Damaged page check)) closed refl refl;
+}
 
 pub scan-counted : (a b : Space) (f : PageFault) → Later a.counts b.counts → ScanFault a b f → Counted a b (line_of f ∷ closed ∷ [])
 scan-counted a b fault.MainFault later h = main-closed a b later h

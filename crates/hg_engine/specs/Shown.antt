@@ -2,19 +2,14 @@
 -- stands for.
 use Rattle.std.specs.Prelude.{◌≡◌, ◌≤◌, ℕ, Bool, List, is_some}
 use Rattle.hg_base.specs.Space.{Space}
-use Rattle.hg_base.specs.declared.File.TheVariants.{Main}
 use Rattle.hg_io.specs.declared.device.PageDevice.{Ghosts}
-use Rattle.hg_machine.specs.Outcome.{Setting}
 use Rattle.hg_machine.specs.State.{State}
 use Rattle.hg_pool.specs.Shown.{state_of}
 use Rattle.hg_machine.specs.Reply.{Reply as Line}
-use Rattle.hg_reply.specs.Steps.{DeviceFaults, Says, Moves}
+use Rattle.hg_reply.specs.Steps.{DeviceFaults, Says, FullOnlyWhereFull, Moves}
 use Rattle.hg_reply.specs.declared.reply.Reply.{Reply}
 use Rattle.hg_engine.specs.Stepping.{TablesAre, looks_left}
 use Rattle.hg_engine.specs.declared.engine.Engine.{Engine}
-
-abbrev pub setting_in : Space → Setting
-setting_in s = record { told = s.told; limit = s.limit Main }
 
 abbrev pub faults_in : Space → DeviceFaults
 faults_in s = record { main = s.counts.main_device; temp = s.counts.temp_device }
@@ -28,11 +23,16 @@ module _ {M T : Type 0} where
   abbrev pub IsEngineOf : Ghosts M → Ghosts T → Engine M T → State → Type 0
   IsEngineOf m t e state = TablesAre (space_of m t e) e.tables state
 
-  abbrev pub setting_of : Ghosts M → Ghosts T → Engine M T → Setting
-  setting_of m t e = setting_in (space_of m t e)
+  -- whether both devices tell their pages
+  abbrev pub told_of : Ghosts M → Ghosts T → Engine M T → Bool
+  told_of m t e = (space_of m t e).told
 
   abbrev pub faults_of : Ghosts M → Ghosts T → Engine M T → DeviceFaults
   faults_of m t e = faults_in (space_of m t e)
+
+  -- how often all pages of the main file were taken when one more was asked for
+  abbrev pub fulls_of : Ghosts M → Ghosts T → Engine M T → ℕ
+  fulls_of m t e = (space_of m t e).counts.main_full
 
   -- a SELECT is at work
   abbrev pub is_pending : Engine M T → Bool
@@ -45,10 +45,12 @@ module _ {M T : Type 0} where
   pub record EngineSteps (m : Ghosts M) (t : Ghosts T) (old new : Engine M T) (reply : Reply) (Step : State → List Line → State → Type 0) : Type 0 where
     pub lines : List Line
     pub says : Says reply (faults_of m t old) (faults_of m t new) lines
+    pub full : FullOnlyWhereFull (fulls_of m t old) (fulls_of m t new) lines
     pub moves : Moves (IsEngineOf m t) (space_of m t old).told old new Step lines
 
--- what no step changes, and that no count of faults falls
-pub record IsSameSetting (a b : Space) : Type 0 where
-  pub setting : setting_in b ≡ setting_in a
+-- no step changes whether the devices tell their pages, and no count falls
+pub record IsLater (a b : Space) : Type 0 where
+  pub told : b.told ≡ a.told
   pub main : a.counts.main_device ≤ b.counts.main_device
   pub temp : a.counts.temp_device ≤ b.counts.temp_device
+  pub full : a.counts.main_full ≤ b.counts.main_full

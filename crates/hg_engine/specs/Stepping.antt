@@ -1,13 +1,13 @@
 -- What a step of an engine promises: it says lines, and is a step of the plain machine. Our own rule.
-use Rattle.std.specs.Prelude.{◌≡◌, ◌≢◌, ℕ, ◌<◌, ◌≤◌, true, List, length, All, ◌+◌, Option, None, Some, Result, MatchResult, slice_get, slice_set, Bool, false}
-use Rattle.std.specs.List.{list_any}
+use Rattle.std.specs.Prelude.{◌≡◌, ◌≢◌, ℕ, ◌<◌, ◌≤◌, true, List, length, All, ◌+◌, Option, None, Some, Result, MatchResult, slice_get, slice_set}
 use Rattle.hg_base.specs.Space.{Space, NoPins}
-use Rattle.hg_base.specs.Causes.{Later, Rose}
+use Rattle.hg_base.specs.Causes.{Later}
 use Rattle.hg_base.specs.declared.File.TheVariants.{Main, Temp}
 use Rattle.hg_io.specs.Count.{raised}
 use Rattle.hg_machine.specs.CreateTable.{AllDifferent}
-use Rattle.hg_machine.specs.Reply.{Reply as Line, text_of, has_error, fault_lines, created, inserted, row, at_end, closed, syntax_error, line_too_long, unknown_table, device_fault, main_full, damaged, stamps_used_up}
+use Rattle.hg_machine.specs.Reply.{Reply as Line, text_of, has_error, fault_lines, device_fault, main_full, damaged}
 use Rattle.hg_machine.specs.State.{State}
+use Rattle.hg_reply.specs.Steps.{FullOnlyWhereFull}
 use Rattle.hg_reply.specs.declared.reply.Reply.{Reply}
 use Rattle.hg_base.specs.declared.Table.{Table}
 use Rattle.hg_base.specs.declared.pages.PageFault.{PageFault}
@@ -29,10 +29,12 @@ pub record Tells (reply : Reply) (lines : List Line) : Type 0 where
   pub text : reply.text.items ≡ text_of lines
   pub errors : reply.has_error ≡ has_error lines
 
--- no more lines say that a device failed than that device's count rose
+-- no more lines say that a device failed than that device's count rose, and a line says that the main
+-- file is full only where the count of its full answers rose
 pub record Counted (a b : Space) (lines : List Line) : Type 0 where
   pub main : raised a.counts.main_device (fault_lines Main lines) ≤ b.counts.main_device
   pub temp : raised a.counts.temp_device (fault_lines Temp lines) ≤ b.counts.temp_device
+  pub full : FullOnlyWhereFull a.counts.main_full b.counts.main_full lines
 
 -- where the space tells, it is a step of the machine
 pub record StepsTo (a b : Space) (old new : Tables) (Step : State → List Line → State → Type 0) (lines : List Line) : Type 0 where
@@ -66,25 +68,6 @@ pub record PutsInto (a b : Space) (old new : List Entry) (k stamp : ℕ) (rows :
   pub after : new ≡ slice_set old k (with_ends e ends)
   pub put : (pages : List ℕ) (columns : ℕ) → IsChain a e.data pages → HaveColumns columns rows
       → MatchResult r (λ u. Puts a b e.data ends pages stamp columns rows) (λ f. PutsSome a b e.data ends pages stamp columns rows f)
-
--- whether a line says that the main file is full
-abbrev pub says_full : Line → Bool
-says_full created = false
-says_full (inserted count) = false
-says_full (row values) = false
-says_full at_end = false
-says_full closed = false
-says_full syntax_error = false
-says_full line_too_long = false
-says_full (unknown_table name) = false
-says_full (device_fault failed) = false
-says_full main_full = true
-says_full (damaged page check) = false
-says_full stamps_used_up = false
-
--- a line says that the main file is full only where the count of its full answers rose
-pub record FullOnlyWhereFull (a b : Space) (lines : List Line) : Type 0 where
-  pub rose : list_any says_full lines ≡ true → Rose a.counts.main_full b.counts.main_full
 
 -- what no step changes: whether the space tells, and how many pages it may have; and no count falls
 pub record IsSameSpace (a b : Space) : Type 0 where

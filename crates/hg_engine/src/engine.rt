@@ -24,18 +24,17 @@ pub struct Engine<M: PageDevice, T: PageDevice> {
 }
 
 impl<M: PageDevice, T: PageDevice> Engine<M, T> {
-    ghost use Rattle.std.specs.Prelude.{◌≡◌, ◌<◌, ◌≤◌, ◌↔◌, true, false, IfOk, IfErr, Some};
+    ghost use Rattle.std.specs.Prelude.{◌≡◌, ◌<◌, ◌≤◌, ◌↔◌, ◌&&◌, true, false, IfOk, IfErr, Some};
     ghost use Rattle.hg_base.specs.Space.{NoPins};
     ghost use Rattle.hg_machine.specs.State.{first_state};
     ghost use Rattle.hg_pool.specs.Opening.{IsPossible};
-    ghost use Rattle.hg_pool.specs.Disks.{disk_of, all_told};
     ghost use Rattle.hg_pool.specs.Shown.{main_device, temp_device};
     ghost use Rattle.hg_machine.specs.CreateTable.{CreatesTable};
     ghost use Rattle.hg_machine.specs.Insert.{Inserts};
     ghost use Rattle.hg_machine.specs.Run.{Turn};
     ghost use Rattle.hg_machine.specs.Select.{Selects};
     ghost use Rattle.hg_machine.specs.State.{State};
-    ghost use Rattle.hg_engine.specs.Shown.{space_of, IsEngineOf, faults_of, setting_of, is_pending, turns_left, EngineSteps, IsSameSetting};
+    ghost use Rattle.hg_engine.specs.Shown.{space_of, IsEngineOf, faults_of, told_of, is_pending, turns_left, EngineSteps, IsLater};
 
     /// An engine of no table over these devices. Page 0 of the main file is kept for the catalog. The only
     /// error is want of memory.
@@ -47,8 +46,7 @@ impl<M: PageDevice, T: PageDevice> Engine<M, T> {
     ) -> Result<Engine<M, T>, Devices<M, T>>
         requires { IsPossible config.now (M.pages main) (T.pages temp) }
         ensures start { IfOk result (λ e. IsEngineOf M.PageDevice T.PageDevice e (first_state config.now.main_pages)) }
-        ensures setting { IfOk result (λ e. setting_of M.PageDevice T.PageDevice e
-            ≡ record { told = all_told (record { main = disk_of M.PageDevice main; temp = disk_of T.PageDevice temp }); limit = config.now.main_pages }) }
+        ensures told { IfOk result (λ e. told_of M.PageDevice T.PageDevice e ≡ (M.told main && T.told temp)) }
         ensures idle { IfOk result (λ e. is_pending e ≡ false) }
         ensures main_later { IfOk result (λ e. M.faults main ≤ (faults_of M.PageDevice T.PageDevice e).main) }
         ensures temp_later { IfOk result (λ e. T.faults temp ≤ (faults_of M.PageDevice T.PageDevice e).temp) }
@@ -86,7 +84,7 @@ impl<M: PageDevice, T: PageDevice> Engine<M, T> {
         ensures step { EngineSteps M.PageDevice T.PageDevice self.old self.new reply.new
             (λ before lines after. CreatesTable before name columns.items lines after) }
         ensures idle { is_pending self.new ≡ false }
-        ensures same { IsSameSetting (space_of M.PageDevice T.PageDevice self.old) (space_of M.PageDevice T.PageDevice self.new) }
+        ensures later { IsLater (space_of M.PageDevice T.PageDevice self.old) (space_of M.PageDevice T.PageDevice self.new) }
     {
         reply.clear();
         self.tables.create_table(name, columns, reply);
@@ -99,7 +97,7 @@ impl<M: PageDevice, T: PageDevice> Engine<M, T> {
         ensures step { EngineSteps M.PageDevice T.PageDevice self.old self.new reply.new
             (λ before lines after. Inserts before table.now rows.now lines after) }
         ensures idle { is_pending self.new ≡ false }
-        ensures same { IsSameSetting (space_of M.PageDevice T.PageDevice self.old) (space_of M.PageDevice T.PageDevice self.new) }
+        ensures later { IsLater (space_of M.PageDevice T.PageDevice self.old) (space_of M.PageDevice T.PageDevice self.new) }
     {
         reply.clear();
         self.tables.insert(&mut self.pool, table, rows, reply);
@@ -110,7 +108,7 @@ impl<M: PageDevice, T: PageDevice> Engine<M, T> {
         requires idle { is_pending self.old ≡ false }
         ensures step { EngineSteps M.PageDevice T.PageDevice self.old self.new reply.new
             (λ before lines after. Selects before table.now lines after) }
-        ensures same { IsSameSetting (space_of M.PageDevice T.PageDevice self.old) (space_of M.PageDevice T.PageDevice self.new) }
+        ensures later { IsLater (space_of M.PageDevice T.PageDevice self.old) (space_of M.PageDevice T.PageDevice self.new) }
     {
         reply.clear();
         self.tables.select(&self.pool, table, reply);
@@ -122,7 +120,7 @@ impl<M: PageDevice, T: PageDevice> Engine<M, T> {
         requires stands { (state : State) × IsEngineOf M.PageDevice T.PageDevice self.old state }
         ensures step { EngineSteps M.PageDevice T.PageDevice self.old self.new reply.new Turn }
         ensures nearer { turns_left self.new < turns_left self.old }
-        ensures same { IsSameSetting (space_of M.PageDevice T.PageDevice self.old) (space_of M.PageDevice T.PageDevice self.new) }
+        ensures later { IsLater (space_of M.PageDevice T.PageDevice self.old) (space_of M.PageDevice T.PageDevice self.new) }
     {
         reply.clear();
         self.tables.turn(&mut self.pool, reply);
@@ -142,14 +140,16 @@ impl<M: PageDevice, T: PageDevice> Engine<M, T> {
 }
 
 impl<M: PageDevice, T: PageDevice> Machine for Engine<M, T> {
-    ghost use Rattle.hg_engine.specs.Shown.{IsEngineOf, faults_of, setting_of, is_pending, turns_left};
+    ghost use Rattle.hg_engine.specs.Shown.{IsEngineOf, faults_of, fulls_of, told_of, is_pending, turns_left};
     ghost use Rattle.hg_engine.specs.ShownLaws.{pends_of};
 
     ghost stands = { IsEngineOf M.PageDevice T.PageDevice };
 
-    ghost setting = { setting_of M.PageDevice T.PageDevice };
+    ghost told = { told_of M.PageDevice T.PageDevice };
 
     ghost faults = { faults_of M.PageDevice T.PageDevice };
+
+    ghost fulls = { fulls_of M.PageDevice T.PageDevice };
 
     ghost pending = { is_pending };
 

@@ -20,7 +20,7 @@ impl Tables {
     ghost use Rattle.hg_table.specs.Marks.{last, Draws};
     ghost use Rattle.hg_engine.specs.Putting.{HaveColumns};
     ghost use Rattle.hg_engine.specs.declared.entries.Entry.{Entry as EntryOf};
-    ghost use Rattle.hg_engine.specs.Stepping.{TablesAre, Tells, Counted, FullOnlyWhereFull, IsSameSpace, StepsTo, CanPutAt, PutsInto};
+    ghost use Rattle.hg_engine.specs.Stepping.{TablesAre, Tells, Counted, IsSameSpace, StepsTo, CanPutAt, PutsInto};
 
     /// Whether each row has a value for each column of the table.
     fn fit(&self, at: usize, rows: &[Tuple]) -> bool
@@ -76,7 +76,6 @@ impl Tables {
         requires empty { reply.old.text.items ≡ [] }
         requires no_error { reply.old.has_error ≡ false }
         ensures step { (lines : List Line) × Tells reply.new lines × Counted (S.state space.old) (S.state space.new) lines
-            × FullOnlyWhereFull (S.state space.old) (S.state space.new) lines
             × StepsTo (S.state space.old) (S.state space.new) self.old self.new (λ before lines after. Inserts before name.now rows.now lines after) lines }
         ensures idle { self.new.scan ≡ None }
         ensures same { IsSameSpace (S.state space.old) (S.state space.new) }

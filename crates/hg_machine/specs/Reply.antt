@@ -130,6 +130,21 @@ is_fault_of file main_full = false
 is_fault_of file (damaged page check) = false
 is_fault_of file stamps_used_up = false
 
+-- whether a line says that the main file is full
+abbrev pub is_main_full : Reply → Bool
+is_main_full created = false
+is_main_full (inserted count) = false
+is_main_full (row values) = false
+is_main_full at_end = false
+is_main_full closed = false
+is_main_full syntax_error = false
+is_main_full line_too_long = false
+is_main_full (unknown_table name) = false
+is_main_full (device_fault file) = false
+is_main_full main_full = true
+is_main_full (damaged page check) = false
+is_main_full stamps_used_up = false
+
 -- how many lines say that the device of this file failed
 unfoldable pub fault_lines : File → List Reply → ℕ
 fault_lines file [] = 0

@@ -1,8 +1,10 @@
 -- What one small step of an engine promises, in the words of the plain machine. Our own rule.
 use Rattle.std.specs.Prelude.{◌≡◌, ℕ, ◌≤◌, Bool, true, List}
+use Rattle.std.specs.List.{list_any}
 use Rattle.hg_base.specs.declared.File.TheVariants.{Main, Temp}
+use Rattle.hg_base.specs.Causes.{Rose}
 use Rattle.hg_io.specs.Count.{raised}
-use Rattle.hg_machine.specs.Reply.{Reply as Line, text_of, has_error, fault_lines}
+use Rattle.hg_machine.specs.Reply.{Reply as Line, text_of, has_error, fault_lines, is_main_full}
 use Rattle.hg_machine.specs.State.{State}
 use Rattle.hg_reply.specs.declared.reply.Reply.{Reply}
 
@@ -18,6 +20,10 @@ pub record Says (reply : Reply) (before after : DeviceFaults) (lines : List Line
   pub errors : reply.has_error ≡ has_error lines
   pub main_faults : raised before.main (fault_lines Main lines) ≤ after.main
   pub temp_faults : raised before.temp (fault_lines Temp lines) ≤ after.temp
+
+-- a line says that the main file is full only where the count of these answers rose in the step
+pub record FullOnlyWhereFull (before after : ℕ) (lines : List Line) : Type 0 where
+  pub rose : list_any is_main_full lines ≡ true → Rose before after
 
 -- The step is one of the machine: whatever state the engine stood for, it stands for a state that the
 -- machine reaches with these lines, where both devices tell their pages.

@@ -19,20 +19,22 @@ pub enum Next {
 /// device does not tell its pages, nothing is said of the rows.
 pub trait Machine {
     ghost use Rattle.std.specs.Prelude.{◌≡◌, ◌<◌, ◌≤◌, ◌↔◌, ℕ, List, Bool, true, false, IsSome, is_some};
-    ghost use Rattle.hg_machine.specs.Outcome.{Setting};
     ghost use Rattle.hg_machine.specs.Reply.{Reply as Line};
     ghost use Rattle.hg_machine.specs.Run.{Begins, Turn};
     ghost use Rattle.hg_machine.specs.State.{State};
-    ghost use Rattle.hg_reply.specs.Steps.{DeviceFaults, Says, Moves};
+    ghost use Rattle.hg_reply.specs.Steps.{DeviceFaults, Says, FullOnlyWhereFull, Moves};
 
     /// Which states of the plain machine the engine stands for.
     ghost stands: { Self → State → Type 0 };
 
-    /// Whether both devices tell their pages, and how many pages the main file may have.
-    ghost setting: { Self → Setting };
+    /// Whether both devices tell their pages.
+    ghost told: { Self → Bool };
 
     /// The devices' own counts of faults.
     ghost faults: { Self → DeviceFaults };
+
+    /// How often a page of the main file was asked for while all of them were taken.
+    ghost fulls: { Self → ℕ };
 
     /// Whether a statement at work has more to give.
     ghost pending: { Self → Bool };
@@ -45,21 +47,25 @@ pub trait Machine {
         requires idle { pending self.old ≡ false }
         requires stands { (s : State) × stands self.old s }
         ensures step { (lines : List Line) × Says reply.new (faults self.old) (faults self.new) lines
-            × Moves stands (setting self.old).told self.old self.new (λ before lines after. Begins before statement lines after) lines }
+            × Moves stands (told self.old) self.old self.new (λ before lines after. Begins before statement lines after) lines
+            × FullOnlyWhereFull (fulls self.old) (fulls self.new) lines }
         ensures more { (result ≡ Next.More) ↔ (pending self.new ≡ true) }
-        ensures setting { setting self.new ≡ setting self.old }
-        ensures later { ((faults self.old).main ≤ (faults self.new).main) × ((faults self.old).temp ≤ (faults self.new).temp) };
+        ensures told { told self.new ≡ told self.old }
+        ensures later { ((faults self.old).main ≤ (faults self.new).main) × ((faults self.old).temp ≤ (faults self.new).temp)
+            × (fulls self.old ≤ fulls self.new) };
 
     /// Gives one turn of the statement at work.
     fn more(&mut self, reply: &mut Reply) -> Next
         requires pending { pending self.old ≡ true }
         requires stands { (s : State) × stands self.old s }
         ensures step { (lines : List Line) × Says reply.new (faults self.old) (faults self.new) lines
-            × Moves stands (setting self.old).told self.old self.new Turn lines }
+            × Moves stands (told self.old) self.old self.new Turn lines
+            × FullOnlyWhereFull (fulls self.old) (fulls self.new) lines }
         ensures nearer { turns self.new < turns self.old }
         ensures more { (result ≡ Next.More) ↔ (pending self.new ≡ true) }
-        ensures setting { setting self.new ≡ setting self.old }
-        ensures later { ((faults self.old).main ≤ (faults self.new).main) × ((faults self.old).temp ≤ (faults self.new).temp) };
+        ensures told { told self.new ≡ told self.old }
+        ensures later { ((faults self.old).main ≤ (faults self.new).main) × ((faults self.old).temp ≤ (faults self.new).temp)
+            × (fulls self.old ≤ fulls self.new) };
 
     ghost pends: { (e : Self) (s : State) → stands e s → pending e ≡ is_some s.left };
 }

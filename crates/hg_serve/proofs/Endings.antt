@@ -3,9 +3,9 @@ use Rattle.std.proofs.Common.{◌≡◌, ◌≢◌, ℕ, ◌<◌, ◌+◌, ◌-�
 use Rattle.hg_io.specs.Bytes.{then, before, AtEnd, before-before}
 use Rattle.hg_io.specs.Count.{raised}
 use Rattle.hg_machine.specs.Script.{Line, last_part, unended, whole_lines, lines_of}
-use Rattle.hg_machine.specs.State.{State, first_state}
+use Rattle.hg_machine.specs.State.{State}
 use Rattle.hg_machine.specs.Reply.{Reply, text_of}
-use Rattle.hg_machine.specs.Outcome.{Setting, Outside, Took, Replies, AnswersAll, AnswersWholeLines, AnswersUpToLimit, AnswersInPart}
+use Rattle.hg_machine.specs.Outcome.{Outside, Took, Replies, AnswersAll, AnswersWholeLines, AnswersUpToLimit, AnswersInPart}
 use Rattle.hg_reply.specs.Steps.{Moves, DeviceFaults}
 use Rattle.hg_serve.specs.declared.session.Session.{Session}
 use Rattle.hg_serve.specs.declared.statuses.Status.{Status}
@@ -13,6 +13,7 @@ use Rattle.hg_serve.specs.declared.statuses.Status.TheVariants as status
 use Rattle.hg_serve.specs.Output.{Seen, seen, Counted}
 use Rattle.hg_serve.specs.Serving.{Serves, Halts, AllAnswered, Closes, Running}
 use Rattle.hg_serve.specs.Ending.{Ends, TakesSoMany, outside}
+use Rattle.hg_serve.specs.Run.{RunFrom}
 
 -- counts
 
@@ -81,24 +82,24 @@ never-no_memory n status.TooLong few is = cc
 
 -- how it ends
 
-module _ {E : Type 0} (Stands : E → State → Type 0) (setting : Setting) (first now : E) where
-  the-replies : (old new : Outside) (lines : List Line) (replies : List Reply) → Stands first (first_state setting.limit)
-      → Moves Stands setting.told first now (Running lines) replies
+module _ {E : Type 0} (Stands : E → State → Type 0) (told : Bool) (first now : E) (start : State) where
+  the-replies : (old new : Outside) (lines : List Line) (replies : List Reply) → Stands first start
+      → Moves Stands told first now (Running lines) replies
       → Counted (record { main = old.main_faults; temp = old.temp_faults }) (record { main = new.main_faults; temp = new.temp_faults }) replies
-      → Replies setting old new lines replies
+      → Replies (RunFrom Stands now told start) old new lines replies
   the-replies old new lines replies stood moves counted =
-      let there = moves.to (first_state setting.limit) stood in
+      let there = moves.to start stood in
       record {
-        run = λ is. record { last = there.0; runs = there.2 is };
+        run = λ is. record { last = there.0; stands = there.1; runs = there.2 is };
         main_faults = counted.main;
         temp_faults = counted.temp;
       }
 
   module _ (left0 left1 : Option (List ℕ)) (given0 given1 : ℕ) (w0 w1 : Option (List ℕ)) (f0 f1 : DeviceFaults) (taken : List ℕ)
-      (stood : Stands first (first_state setting.limit)) (took : Took (outside left0 given0 w0 f0) (outside left1 given1 w1 f1) taken) where
+      (stood : Stands first start) (took : Took (outside left0 given0 w0 f0) (outside left1 given1 w1 f1) taken) where
     ends-in-part : (later : List Line) → lines_of taken ≡ whole_lines taken ++ later
-        → Halts Stands setting.told first now (seen w0 f0) (seen w1 f1) (whole_lines taken)
-        → AnswersInPart setting (outside left0 given0 w0 f0) (outside left1 given1 w1 f1)
+        → Halts Stands told first now (seen w0 f0) (seen w1 f1) (whole_lines taken)
+        → AnswersInPart (RunFrom Stands now told start) (outside left0 given0 w0 f0) (outside left1 given1 w1 f1)
     ends-in-part later parts h = record {
       taken = taken;
       took = took;
@@ -113,14 +114,14 @@ module _ {E : Type 0} (Stands : E → State → Type 0) (setting : Setting) (fir
       text = h.tells.breaks.written;
     }
 
-    pub breaks-off : Halts Stands setting.told first now (seen w0 f0) (seen w1 f1) (whole_lines taken)
-        → AnswersInPart setting (outside left0 given0 w0 f0) (outside left1 given1 w1 f1)
+    pub breaks-off : Halts Stands told first now (seen w0 f0) (seen w1 f1) (whole_lines taken)
+        → AnswersInPart (RunFrom Stands now told start) (outside left0 given0 w0 f0) (outside left1 given1 w1 f1)
     unfolding lines_of
     breaks-off h = ends-in-part (unended (last_part [] taken)) refl h
 
     answers-all : (errors : Bool) → length taken < 2 ^ 32 → AtEnd left1
-        → AllAnswered Stands setting.told first now (seen w0 f0) (seen w1 f1) (lines_of taken) errors
-        → AnswersAll setting (outside left0 given0 w0 f0) (outside left1 given1 w1 f1) errors
+        → AllAnswered Stands told first now (seen w0 f0) (seen w1 f1) (lines_of taken) errors
+        → AnswersAll (RunFrom Stands now told start) (outside left0 given0 w0 f0) (outside left1 given1 w1 f1) errors
     answers-all errors few last a = record {
       taken = taken;
       took = took;
@@ -132,8 +133,8 @@ module _ {E : Type 0} (Stands : E → State → Type 0) (setting : Setting) (fir
     }
 
     pub closes : (s : Status) → length taken < 2 ^ 32 → AtEnd left1
-        → Closes Stands setting.told first now (seen w0 f0) (seen w1 f1) (lines_of taken) s
-        → Ends setting (outside left0 given0 w0 f0) (outside left1 given1 w1 f1) s
+        → Closes Stands told first now (seen w0 f0) (seen w1 f1) (lines_of taken) s
+        → Ends (RunFrom Stands now told start) (outside left0 given0 w0 f0) (outside left1 given1 w1 f1) s
     closes status.Clean few last a = answers-all _ few last a
     closes status.Errors few last a = answers-all _ few last a
     closes status.Usage few last never = absurd never
@@ -154,13 +155,13 @@ module _ {E : Type 0} (Stands : E → State → Type 0) (setting : Setting) (fir
     closes status.NoMemory few last never = absurd never
     closes status.TooLong few last never = absurd never
 
-    module _ (s : Session) (serves : Serves Stands setting.told first now (seen w0 f0) (seen w1 f1) s taken) (empty : s.output.bytes.items ≡ []) where
+    module _ (s : Session) (serves : Serves Stands told first now (seen w0 f0) (seen w1 f1) s taken) (empty : s.output.bytes.items ≡ []) where
       all_text : w1 ≡ then w0 (text_of serves.replies)
       all_text =
           serves.passes.written
           ∙ ap (then w0) (sym (serves.passes.parts ∙ ap (λ l. serves.passes.passed ++ l) empty ∙ append-nil serves.passes.passed))
 
-      pub source-breaks : length taken < 2 ^ 32 → AnswersWholeLines setting (outside left0 given0 w0 f0) (outside left1 given1 w1 f1)
+      pub source-breaks : length taken < 2 ^ 32 → AnswersWholeLines (RunFrom Stands now told start) (outside left0 given0 w0 f0) (outside left1 given1 w1 f1)
       source-breaks few = record {
         taken = taken;
         took = took;
@@ -169,7 +170,7 @@ module _ {E : Type 0} (Stands : E → State → Type 0) (setting : Setting) (fir
         answers = record { of_run = the-replies _ _ (whole_lines taken) serves.replies stood serves.moves serves.counted; text = all_text };
       }
 
-      pub limit-comes : length taken ≡ 2 ^ 32 → AnswersUpToLimit setting (outside left0 given0 w0 f0) (outside left1 given1 w1 f1)
+      pub limit-comes : length taken ≡ 2 ^ 32 → AnswersUpToLimit (RunFrom Stands now told start) (outside left0 given0 w0 f0) (outside left1 given1 w1 f1)
       limit-comes all = record {
         taken = taken;
         took = took;

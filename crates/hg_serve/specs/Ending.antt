@@ -1,7 +1,7 @@
 -- What each status says of the script and of what was written.
 use Rattle.std.specs.Prelude.{◌≡◌, ℕ, ◌<◌, ◌≤◌, ◌^◌, true, false, List, take, Option, Result, MatchResult}
 use Rattle.hg_io.specs.Bytes.{before, AtEnd}
-use Rattle.hg_machine.specs.Outcome.{Setting, Outside, AnswersAll, AnswersWholeLines, AnswersUpToLimit, AnswersInPart}
+use Rattle.hg_machine.specs.Outcome.{Runs, Outside, AnswersAll, AnswersWholeLines, AnswersUpToLimit, AnswersInPart}
 use Rattle.hg_reply.specs.Steps.{DeviceFaults}
 use Rattle.hg_serve.specs.declared.statuses.Status.{Status}
 use Rattle.hg_serve.specs.declared.statuses.Status.TheVariants as status
@@ -16,14 +16,14 @@ abbrev pub ReadsSome : {E : Type 0} → Option (List ℕ) → Option (List ℕ) 
 ReadsSome old new result buffer room =
     MatchResult result (λ n. (old ≡ before (take n buffer) new) × (n ≡ 0 → 0 < room → AtEnd new)) (λ _. new ≡ old)
 
-abbrev pub Ends : Setting → Outside → Outside → Status → Type 0
-Ends s old new status.Clean = AnswersAll s old new false
-Ends s old new status.Errors = AnswersAll s old new true
-Ends s old new status.Usage = ⊥
-Ends s old new status.SourceFault = AnswersWholeLines s old new
-Ends s old new status.SinkFault = AnswersInPart s old new
-Ends s old new status.NoMemory = ⊥
-Ends s old new status.TooLong = AnswersUpToLimit s old new
+abbrev pub Ends : Runs → Outside → Outside → Status → Type 0
+Ends Run old new status.Clean = AnswersAll Run old new false
+Ends Run old new status.Errors = AnswersAll Run old new true
+Ends Run old new status.Usage = ⊥
+Ends Run old new status.SourceFault = AnswersWholeLines Run old new
+Ends Run old new status.SinkFault = AnswersInPart Run old new
+Ends Run old new status.NoMemory = ⊥
+Ends Run old new status.TooLong = AnswersUpToLimit Run old new
 
 -- how many bytes of a script were taken
 abbrev pub TakesSoMany : Status → ℕ → Type 0

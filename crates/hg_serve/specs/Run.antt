@@ -1,13 +1,27 @@
--- What a run goes by: its two devices.
-use Rattle.std.specs.Prelude.{ℕ, ◌&&◌, min}
+-- What counts as a run: for an engine that stands for some state, and for two devices.
+use Rattle.std.specs.Prelude.{◌≡◌, ℕ, ◌&&◌, min, Bool, true, List}
 use Rattle.hg_io.specs.declared.device.PageDevice.{Ghosts}
-use Rattle.hg_machine.specs.Outcome.{Setting}
+use Rattle.hg_machine.specs.Outcome.{Runs}
+use Rattle.hg_machine.specs.Reply.{Reply}
+use Rattle.hg_machine.specs.Run.{IsRun, RunsLines}
+use Rattle.hg_machine.specs.Script.{Line}
+use Rattle.hg_machine.specs.State.{State}
 use Rattle.hg_reply.specs.Steps.{DeviceFaults}
 
+-- the machine answers these lines so, from this state to one that the engine stands for now
+pub record Reaches {E : Type 0} (Stands : E → State → Type 0) (now : E) (first : State) (lines : List Line) (replies : List Reply) : Type 0 where
+  pub last : State
+  pub stands : Stands now last
+  pub runs : RunsLines first lines replies last
+
+-- a run from a state that the engine stood for, where both devices tell their pages
+abbrev pub RunFrom : {E : Type 0} → (E → State → Type 0) → E → Bool → State → Runs
+RunFrom Stands now told first lines replies = told ≡ true → Reaches Stands now first lines replies
+
 module _ {M T : Type 0} where
-  -- whether both devices tell their pages, and how many pages the main file may have
-  abbrev pub setting_over : Ghosts M → Ghosts T → M → T → Setting
-  setting_over m t main temp = record { told = m.told main && t.told temp; limit = min (m.pages main) 65536 }
+  -- a run from no table, where both devices tell their pages
+  abbrev pub RunOver : Ghosts M → Ghosts T → M → T → Runs
+  RunOver m t main temp lines replies = (m.told main && t.told temp) ≡ true → IsRun (min (m.pages main) 65536) lines replies
 
   -- the devices' own counts of faults
   abbrev pub faults_over : Ghosts M → Ghosts T → M → T → DeviceFaults

@@ -2,10 +2,11 @@
 ghost use Rattle.std.specs.Prelude.{◌≡◌, ◌≢◌, ◌≤◌, ◌<◌, ◌+◌, ◌-◌, ◌^◌, ◌⊎◌, List, ℕ, true, false, IfOk, OnErr, length, take, min};
 ghost use Rattle.hg_io.specs.Count.{raised, Rose, HasCause};
 ghost use Rattle.hg_io.specs.Bytes.{Reads};
-ghost use Rattle.hg_machine.specs.State.{State, first_state};
+ghost use Rattle.hg_machine.specs.State.{State};
 ghost use Rattle.hg_machine.specs.Outcome.{Took, AnswersAll, AnswersWholeLines, AnswersUpToLimit, AnswersInPart};
 ghost use Rattle.hg_serve.specs.Output.{NoneFell};
 ghost use Rattle.hg_serve.specs.Ending.{Ends, ReadsSome, TakesSoMany, outside};
+ghost use Rattle.hg_serve.specs.Run.{RunFrom};
 
 use crate::session::Session;
 use crate::statuses::Status;
@@ -39,7 +40,7 @@ fn read_and_answer<E: Machine, S: Source, K: Sink>(
 ) -> Status
     requires idle { E.pending engine.old ≡ false }
     requires stands { (s : State) × E.stands engine.old s }
-    ensures ends { E.stands engine.old (first_state (E.setting engine.old).limit) → Ends (E.setting engine.old)
+    ensures ends { (first : State) → E.stands engine.old first → Ends (RunFrom E.stands engine.new (E.told engine.old) first)
         (outside (S.left source.old) (S.given source.old) (K.written sink.old) (E.faults engine.old))
         (outside (S.left source.new) (S.given source.new) (K.written sink.new) (E.faults engine.new)) result }
     ensures bytes { (taken : List ℕ) × TakesSoMany result (length taken)
@@ -49,7 +50,7 @@ fn read_and_answer<E: Machine, S: Source, K: Sink>(
     ensures sink_fault { result ≡ Status.SinkFault → Rose (K.faults sink.old) (K.faults sink.new) }
     ensures stands { (s : State) × E.stands engine.new s }
     ensures idle { E.pending engine.new ≡ false }
-    ensures setting { E.setting engine.new ≡ E.setting engine.old }
+    ensures told { E.told engine.new ≡ E.told engine.old }
     ensures later { NoneFell (E.faults engine.old) (E.faults engine.new) }
     ensures source_later { S.faults source.old ≤ S.faults source.new }
     ensures sink_later { K.faults sink.old ≤ K.faults sink.new }
@@ -85,39 +86,39 @@ fn read_and_answer<E: Machine, S: Source, K: Sink>(
 /// some state of the plain machine, as a new engine does. Nothing is pending in it, before and after.
 ///
 /// In the clauses, the outside is what source, sink and engine tell at one moment: the bytes left, the
-/// count of bytes given, the bytes written, and the devices' counts of faults. What is said of the
-/// replies holds where the engine stood for the first state of the machine, without a table.
+/// count of bytes given, the bytes written, and the devices' counts of faults. The replies are those of
+/// the machine from whatever state the engine stood for, to one that it stands for afterwards.
 pub fn serve<E: Machine, S: Source, K: Sink>(engine: &mut E, source: &mut S, sink: &mut K) -> Status
     requires idle { E.pending engine.old ≡ false }
     requires stands { (s : State) × E.stands engine.old s }
 
     // The script was read to its end, and what is written is the text of a run of the machine over all
     // its lines, with an error line exactly where the status is Errors.
-    ensures clean { result ≡ Status.Clean → E.stands engine.old (first_state (E.setting engine.old).limit)
-        → AnswersAll (E.setting engine.old)
+    ensures clean { result ≡ Status.Clean → (first : State) → E.stands engine.old first
+        → AnswersAll (RunFrom E.stands engine.new (E.told engine.old) first)
         (outside (S.left source.old) (S.given source.old) (K.written sink.old) (E.faults engine.old))
         (outside (S.left source.new) (S.given source.new) (K.written sink.new) (E.faults engine.new)) false }
-    ensures errors { result ≡ Status.Errors → E.stands engine.old (first_state (E.setting engine.old).limit)
-        → AnswersAll (E.setting engine.old)
+    ensures errors { result ≡ Status.Errors → (first : State) → E.stands engine.old first
+        → AnswersAll (RunFrom E.stands engine.new (E.told engine.old) first)
         (outside (S.left source.old) (S.given source.old) (K.written sink.old) (E.faults engine.old))
         (outside (S.left source.new) (S.given source.new) (K.written sink.new) (E.faults engine.new)) true }
 
     // A fault only where that count rose; after a source fault the lines read whole were answered, and
     // no part of a line was run; after a sink fault a front of such replies was written.
     ensures source_fault { result ≡ Status.SourceFault → Rose (S.faults source.old) (S.faults source.new) }
-    ensures source_fault_answers { result ≡ Status.SourceFault → E.stands engine.old (first_state (E.setting engine.old).limit)
-        → AnswersWholeLines (E.setting engine.old)
+    ensures source_fault_answers { result ≡ Status.SourceFault → (first : State) → E.stands engine.old first
+        → AnswersWholeLines (RunFrom E.stands engine.new (E.told engine.old) first)
         (outside (S.left source.old) (S.given source.old) (K.written sink.old) (E.faults engine.old))
         (outside (S.left source.new) (S.given source.new) (K.written sink.new) (E.faults engine.new)) }
     ensures sink_fault { result ≡ Status.SinkFault → Rose (K.faults sink.old) (K.faults sink.new) }
-    ensures sink_fault_answers { result ≡ Status.SinkFault → E.stands engine.old (first_state (E.setting engine.old).limit)
-        → AnswersInPart (E.setting engine.old)
+    ensures sink_fault_answers { result ≡ Status.SinkFault → (first : State) → E.stands engine.old first
+        → AnswersInPart (RunFrom E.stands engine.new (E.told engine.old) first)
         (outside (S.left source.old) (S.given source.old) (K.written sink.old) (E.faults engine.old))
         (outside (S.left source.new) (S.given source.new) (K.written sink.new) (E.faults engine.new)) }
 
     // The limit of 2^32 bytes, both ways: a sink fault alone comes before it.
-    ensures too_long { result ≡ Status.TooLong → E.stands engine.old (first_state (E.setting engine.old).limit)
-        → AnswersUpToLimit (E.setting engine.old)
+    ensures too_long { result ≡ Status.TooLong → (first : State) → E.stands engine.old first
+        → AnswersUpToLimit (RunFrom E.stands engine.new (E.told engine.old) first)
         (outside (S.left source.old) (S.given source.old) (K.written sink.old) (E.faults engine.old))
         (outside (S.left source.new) (S.given source.new) (K.written sink.new) (E.faults engine.new)) }
     ensures too_long_always { S.given source.new < 2 ^ 64 - 1 → S.given source.new ≡ S.given source.old + 2 ^ 32
@@ -129,7 +130,7 @@ pub fn serve<E: Machine, S: Source, K: Sink>(engine: &mut E, source: &mut S, sin
 
     ensures stands { (s : State) × E.stands engine.new s }
     ensures idle { E.pending engine.new ≡ false }
-    ensures setting { E.setting engine.new ≡ E.setting engine.old }
+    ensures told { E.told engine.new ≡ E.told engine.old }
     ensures later { NoneFell (E.faults engine.old) (E.faults engine.new) }
     ensures source_later { S.faults source.old ≤ S.faults source.new }
     ensures sink_later { K.faults sink.old ≤ K.faults sink.new }

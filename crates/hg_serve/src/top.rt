@@ -3,7 +3,7 @@ ghost use Rattle.std.specs.Prelude.{◌≡◌, ◌↔◌, ◌⊎◌, ◌<◌, �
 ghost use Rattle.hg_io.specs.Count.{Rose};
 ghost use Rattle.hg_machine.specs.Outcome.{AnswersAll, AnswersWholeLines, AnswersUpToLimit, AnswersInPart};
 ghost use Rattle.hg_serve.specs.Ending.{outside};
-ghost use Rattle.hg_serve.specs.Run.{setting_over, faults_over};
+ghost use Rattle.hg_serve.specs.Run.{RunOver, faults_over};
 
 use crate::serving::serve;
 use crate::statuses::Status;
@@ -53,10 +53,10 @@ pub fn run<S: Source, K: Sink, M: PageDevice, T: PageDevice>(
     // The headline: the script was read to its end, and what is written is the text of a run of the
     // machine over all its lines, with an error line exactly where the status is Errors; and no more of
     // its lines say that a device failed than that device's count rose.
-    ensures clean { result.status ≡ Status.Clean → AnswersAll (setting_over M.PageDevice T.PageDevice main temp)
+    ensures clean { result.status ≡ Status.Clean → AnswersAll (RunOver M.PageDevice T.PageDevice main temp)
         (outside (S.left source.old) (S.given source.old) (K.written sink.old) (faults_over M.PageDevice T.PageDevice main temp))
         (outside (S.left source.new) (S.given source.new) (K.written sink.new) (faults_over M.PageDevice T.PageDevice result.main result.temp)) false }
-    ensures errors { result.status ≡ Status.Errors → AnswersAll (setting_over M.PageDevice T.PageDevice main temp)
+    ensures errors { result.status ≡ Status.Errors → AnswersAll (RunOver M.PageDevice T.PageDevice main temp)
         (outside (S.left source.old) (S.given source.old) (K.written sink.old) (faults_over M.PageDevice T.PageDevice main temp))
         (outside (S.left source.new) (S.given source.new) (K.written sink.new) (faults_over M.PageDevice T.PageDevice result.main result.temp)) true }
 
@@ -68,16 +68,16 @@ pub fn run<S: Source, K: Sink, M: PageDevice, T: PageDevice>(
     // A fault only where that count rose; after a source fault the lines read whole were answered, and
     // no part of a line was run; after a sink fault a front of such replies was written.
     ensures source_fault { result.status ≡ Status.SourceFault → Rose (S.faults source.old) (S.faults source.new) }
-    ensures source_fault_answers { result.status ≡ Status.SourceFault → AnswersWholeLines (setting_over M.PageDevice T.PageDevice main temp)
+    ensures source_fault_answers { result.status ≡ Status.SourceFault → AnswersWholeLines (RunOver M.PageDevice T.PageDevice main temp)
         (outside (S.left source.old) (S.given source.old) (K.written sink.old) (faults_over M.PageDevice T.PageDevice main temp))
         (outside (S.left source.new) (S.given source.new) (K.written sink.new) (faults_over M.PageDevice T.PageDevice result.main result.temp)) }
     ensures sink_fault { result.status ≡ Status.SinkFault → Rose (K.faults sink.old) (K.faults sink.new) }
-    ensures sink_fault_answers { result.status ≡ Status.SinkFault → AnswersInPart (setting_over M.PageDevice T.PageDevice main temp)
+    ensures sink_fault_answers { result.status ≡ Status.SinkFault → AnswersInPart (RunOver M.PageDevice T.PageDevice main temp)
         (outside (S.left source.old) (S.given source.old) (K.written sink.old) (faults_over M.PageDevice T.PageDevice main temp))
         (outside (S.left source.new) (S.given source.new) (K.written sink.new) (faults_over M.PageDevice T.PageDevice result.main result.temp)) }
 
     // The limit of 2^32 bytes, both ways: a sink fault alone comes before it.
-    ensures too_long { result.status ≡ Status.TooLong → AnswersUpToLimit (setting_over M.PageDevice T.PageDevice main temp)
+    ensures too_long { result.status ≡ Status.TooLong → AnswersUpToLimit (RunOver M.PageDevice T.PageDevice main temp)
         (outside (S.left source.old) (S.given source.old) (K.written sink.old) (faults_over M.PageDevice T.PageDevice main temp))
         (outside (S.left source.new) (S.given source.new) (K.written sink.new) (faults_over M.PageDevice T.PageDevice result.main result.temp)) }
     ensures too_long_always { S.given source.new < 2 ^ 64 - 1 → S.given source.new ≡ S.given source.old + 2 ^ 32

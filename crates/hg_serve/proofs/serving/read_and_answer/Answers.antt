@@ -1,5 +1,4 @@
 use Rattle.std.proofs.Common.{◌<◌, [], ◌++◌, refl, sym, ap, ◌∙◌, arith, length-append}
-use Rattle.hg_machine.specs.Outcome.{Setting}
 use Rattle.hg_machine.specs.Script.{lines_of}
 use Rattle.hg_serve.specs.Ending.{outside}
 use Rattle.hg_serve.proofs.Telling.{fell-none, fell-then}
@@ -28,9 +27,9 @@ loop-taken-init g c = record {
 -- the sink failed before a read
 
 pub returns-in-Err-clause-ends : goal.returns-in-Err-clause-ends
-returns-in-Err-clause-ends g c = λ stood.
+returns-in-Err-clause-ends g c = λ first stood.
     let served = c.loop-taken.invariant.served in
-    breaks-off _ _ _ _ _ _ _ _ _ _ _ _ served.0 stood (took-same _ _ _ served.0 served.1 refl refl)
+    breaks-off _ _ _ _ first _ _ _ _ _ _ _ _ served.0 stood (took-same _ _ _ served.0 served.1 refl refl)
     (breaks-serves _ _ c.args.engine.now _ _ _ _ _ c.loop-taken.session served.0 served.3 (c.in-Err.ensures {u = tt}).part)
 
 pub returns-in-Err-clause-bytes : goal.returns-in-Err-clause-bytes
@@ -41,11 +40,11 @@ returns-in-Err-clause-bytes g c =
 -- the source failed
 
 pub returns-in-Err-read_some-clause-ends : goal.returns-in-Err-read_some-clause-ends
-returns-in-Err-read_some-clause-ends g c = λ stood.
+returns-in-Err-read_some-clause-ends g c = λ first stood.
     let served = c.loop-taken.invariant.served in
     let flushed = c.in_default.ensures {u = tt} in
     let failed = c.in-Err-read_some.ensures {u = tt} in
-    source-breaks _ _ _ _ _ _ _ _ _ _ _ _ served.0 stood (took-same _ _ _ served.0 served.1 failed.bytes failed.given_stays) c.flush.new.self
+    source-breaks _ _ _ _ first _ _ _ _ _ _ _ _ served.0 stood (took-same _ _ _ served.0 served.1 failed.bytes failed.given_stays) c.flush.new.self
     (serves-flushed _ _ c.args.engine.now _ _ _ _ _ c.loop-taken.session c.flush.new.self served.0 served.3 flushed.line flushed.ok flushed.empty flushed.errors) flushed.empty
     (omega (arith, served.2, c.loop-taken-test.true))
 
@@ -58,16 +57,16 @@ returns-in-Err-read_some-clause-bytes g c =
 -- the end of the script
 
 pub returns-then-count-eq0-clause-ends : goal.returns-then-count-eq0-clause-ends
-returns-then-count-eq0-clause-ends g c = λ stood.
+returns-then-count-eq0-clause-ends g c = λ first stood.
     let served = c.loop-taken.invariant.served in
-    let told = ap (λ (s : Setting). s.told) c.loop-taken.invariant.same in
+    let told = c.loop-taken.invariant.same in
     let flushed = c.in_default.ensures {u = tt} in
     let read = c.in-Ok.ensures {u = tt} in
     let some : 0 < c.min-room.result = omega (arith, c.loop-taken-test.true, c.min-room.ensures) in
     let serves =
     serves-flushed _ _ c.args.engine.now _ _ _ _ _ c.loop-taken.session c.flush.new.self served.0 served.3 flushed.line flushed.ok flushed.empty flushed.errors
     in
-    closes _ _ _ _ _ _ _ _ _ _ _ _ served.0 stood
+    closes _ _ _ _ first _ _ _ _ _ _ _ _ served.0 stood
     (took-end _ (outside (g.S.Source.left c.loop-taken.source) (g.S.Source.given c.loop-taken.source) (g.K.Sink.written c.loop-taken.sink) (g.E.Machine.faults c.loop-taken.engine)) _
     served.0 _ c.in-Ok.count served.1 read.bytes.0 c.if-count-eq0.true read.given (g.met.S.Source.given_ends c.loop-taken.source))
     c.end.result (omega (arith, served.2, c.loop-taken-test.true)) (read.bytes.1 c.if-count-eq0.true some)
@@ -77,7 +76,7 @@ returns-then-count-eq0-clause-ends g c = λ stood.
 pub returns-then-count-eq0-clause-bytes : goal.returns-then-count-eq0-clause-bytes
 returns-then-count-eq0-clause-bytes g c =
     let served = c.loop-taken.invariant.served in
-    let told = ap (λ (s : Setting). s.told) c.loop-taken.invariant.same in
+    let told = c.loop-taken.invariant.same in
     let flushed = c.in_default.ensures {u = tt} in
     let read = c.in-Ok.ensures {u = tt} in
     let serves =
@@ -93,7 +92,7 @@ returns-then-count-eq0-clause-bytes g c =
 pub returns-then-count-eq0-clause-source_fault : goal.returns-then-count-eq0-clause-source_fault
 returns-then-count-eq0-clause-source_fault g c = λ is.
     let served = c.loop-taken.invariant.served in
-    let told = ap (λ (s : Setting). s.told) c.loop-taken.invariant.same in
+    let told = c.loop-taken.invariant.same in
     let flushed = c.in_default.ensures {u = tt} in
     let serves =
     serves-flushed _ _ c.args.engine.now _ _ _ _ _ c.loop-taken.session c.flush.new.self served.0 served.3 flushed.line flushed.ok flushed.empty flushed.errors
@@ -104,16 +103,16 @@ returns-then-count-eq0-clause-source_fault g c = λ is.
 -- the sink failed within a line
 
 pub returns-in-Err-feed-clause-ends : goal.returns-in-Err-feed-clause-ends
-returns-in-Err-feed-clause-ends g c = λ stood.
+returns-in-Err-feed-clause-ends g c = λ first stood.
     let served = c.loop-taken.invariant.served in
-    let told = ap (λ (s : Setting). s.told) c.loop-taken.invariant.same in
+    let told = c.loop-taken.invariant.same in
     let flushed = c.in_default.ensures {u = tt} in
     let read = c.in-Ok.ensures {u = tt} in
     let bytes = c.split_at.result.0.now in
     let serves =
     serves-flushed _ _ c.args.engine.now _ _ _ _ _ c.loop-taken.session c.flush.new.self served.0 served.3 flushed.line flushed.ok flushed.empty flushed.errors
     in
-    breaks-off _ _ _ _ _ _ _ _ _ _ _ _ (served.0 ++ bytes) stood
+    breaks-off _ _ _ _ first _ _ _ _ _ _ _ _ (served.0 ++ bytes) stood
     (took-more _ (outside (g.S.Source.left c.loop-taken.source) (g.S.Source.given c.loop-taken.source) (g.K.Sink.written c.loop-taken.sink) (g.E.Machine.faults c.loop-taken.engine)) _
     served.0 bytes c.in-Ok.count served.1 (rw c.split_at.ensures.front read.bytes.0) c.split_at.ensures.front_len read.given)
     (halts-as _ _ _ told c.args.engine.now _ _ _ (served.0 ++ bytes) (served.0 ++ bytes) refl
@@ -134,7 +133,7 @@ pub loop-taken-preserved : goal.loop-taken-preserved
 loop-taken-preserved g c =
     let so_far = c.loop-taken.invariant in
     let served = so_far.served in
-    let told = ap (λ (s : Setting). s.told) so_far.same in
+    let told = so_far.same in
     let flushed = c.in_default.ensures {u = tt} in
     let read = c.in-Ok.ensures {u = tt} in
     let fed = c.in_default-feed.ensures {u = tt} in
@@ -154,7 +153,7 @@ loop-taken-preserved g c =
       );
       idle = c.feed.ensures.idle;
       stands = c.feed.ensures.stands;
-      same = c.feed.ensures.setting ∙ so_far.same;
+      same = c.feed.ensures.told ∙ so_far.same;
       within = omega (arith, c.loop-taken-test.true, c.min-room.ensures, read.bound);
       later = fell-then _ _ _ so_far.later c.feed.ensures.later;
       source_later = omega (arith, so_far.source_later, read.cause.later);
@@ -164,10 +163,10 @@ loop-taken-preserved g c =
 -- the limit
 
 pub returns-in-Ok-flush-clause-ends : goal.returns-in-Ok-flush-clause-ends
-returns-in-Ok-flush-clause-ends g c = λ stood.
+returns-in-Ok-flush-clause-ends g c = λ first stood.
     let served = c.loop-taken.invariant.served in
     let flushed = c.in-Ok-flush.ensures {u = tt} in
-    limit-comes _ _ _ _ _ _ _ _ _ _ _ _ served.0 stood (took-same _ _ _ served.0 served.1 refl refl) c.flush-2.new.self
+    limit-comes _ _ _ _ first _ _ _ _ _ _ _ _ served.0 stood (took-same _ _ _ served.0 served.1 refl refl) c.flush-2.new.self
     (serves-flushed _ _ c.args.engine.now _ _ _ _ _ c.loop-taken.session c.flush-2.new.self served.0 served.3 flushed.line flushed.ok flushed.empty flushed.errors) flushed.empty
     (omega (arith, served.2, c.loop-taken-test.false, c.loop-taken.invariant.within))
 
@@ -180,9 +179,9 @@ returns-in-Ok-flush-clause-bytes g c =
     )
 
 pub returns-in-Err-flush-clause-ends : goal.returns-in-Err-flush-clause-ends
-returns-in-Err-flush-clause-ends g c = λ stood.
+returns-in-Err-flush-clause-ends g c = λ first stood.
     let served = c.loop-taken.invariant.served in
-    breaks-off _ _ _ _ _ _ _ _ _ _ _ _ served.0 stood (took-same _ _ _ served.0 served.1 refl refl)
+    breaks-off _ _ _ _ first _ _ _ _ _ _ _ _ served.0 stood (took-same _ _ _ served.0 served.1 refl refl)
     (breaks-serves _ _ c.args.engine.now _ _ _ _ _ c.loop-taken.session served.0 served.3 (c.in-Err-flush.ensures {u = tt}).part)
 
 pub returns-in-Err-flush-clause-bytes : goal.returns-in-Err-flush-clause-bytes

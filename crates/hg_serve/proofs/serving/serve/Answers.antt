@@ -2,19 +2,19 @@ use Rattle.hg_serve.proofs.Endings.{comes-at-limit, never-usage, never-no_memory
 use Rattle.hg_serve.proofs.serving.serve.Goals as goal
 
 pub returns-clause-clean : goal.returns-clause-clean
-returns-clause-clean g c = λ is stood. rw is at (c.read_and_answer.ensures.ends stood)
+returns-clause-clean g c = λ is first stood. rw is at (c.read_and_answer.ensures.ends first stood)
 
 pub returns-clause-errors : goal.returns-clause-errors
-returns-clause-errors g c = λ is stood. rw is at (c.read_and_answer.ensures.ends stood)
+returns-clause-errors g c = λ is first stood. rw is at (c.read_and_answer.ensures.ends first stood)
 
 pub returns-clause-source_fault_answers : goal.returns-clause-source_fault_answers
-returns-clause-source_fault_answers g c = λ is stood. rw is at (c.read_and_answer.ensures.ends stood)
+returns-clause-source_fault_answers g c = λ is first stood. rw is at (c.read_and_answer.ensures.ends first stood)
 
 pub returns-clause-sink_fault_answers : goal.returns-clause-sink_fault_answers
-returns-clause-sink_fault_answers g c = λ is stood. rw is at (c.read_and_answer.ensures.ends stood)
+returns-clause-sink_fault_answers g c = λ is first stood. rw is at (c.read_and_answer.ensures.ends first stood)
 
 pub returns-clause-too_long : goal.returns-clause-too_long
-returns-clause-too_long g c = λ is stood. rw is at (c.read_and_answer.ensures.ends stood)
+returns-clause-too_long g c = λ is first stood. rw is at (c.read_and_answer.ensures.ends first stood)
 
 pub returns-clause-too_long_always : goal.returns-clause-too_long_always
 returns-clause-too_long_always g c =

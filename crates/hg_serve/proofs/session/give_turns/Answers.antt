@@ -1,5 +1,4 @@
 use Rattle.std.proofs.Common.{[], ◌++◌, refl, ap, ◌∙◌, arith}
-use Rattle.hg_machine.specs.Outcome.{Setting}
 use Rattle.hg_serve.proofs.Telling.{tells-none, tells-then, tells-put, part-then, part-put, part-more, fell-none, fell-then}
 use Rattle.hg_serve.proofs.Moving.{at-rest, stands-on, moves-no_turn, moves-turn, moves-turns, moves-ends}
 use Rattle.hg_serve.proofs.session.give_turns.Goals as goal
@@ -24,11 +23,11 @@ loop-left-preserved g c =
       given = (
         given.0 ++ step.0,
         tells-then _ _ _ _ c.loop-left.output _ given.0 step.0 given.1 (tells-put _ _ _ _ c.loop-left.output _ _ step.0 step.1 put.ok put.errors),
-        moves-turn _ _ _ _ _ _ given.0 step.0 (ap (λ (s : Setting). s.told) so_far.same) given.2 step.2,
+        moves-turn _ _ _ _ _ _ given.0 step.0 (so_far.same) given.2 step.2,
       );
       more = c.more-left.ensures.more;
       stands = stands-on _ _ _ _ _ step.0 so_far.stands step.2;
-      same = c.more-left.ensures.setting ∙ so_far.same;
+      same = c.more-left.ensures.told ∙ so_far.same;
       later = fell-then _ _ _ so_far.later (record { main = c.more-left.ensures.later.0; temp = c.more-left.ensures.later.1 });
       sink_later = omega (arith, so_far.sink_later, put.cause.later);
     }
@@ -43,8 +42,8 @@ returns-in-Err-clause-part g c =
       (given.0 ++ step.0) ++ left.0,
       part-more _ _ _ _ _ _ (given.0 ++ step.0) left.0
           (part-then _ _ _ c.args.output.now c.loop-left.output given.0 step.0 given.1 (part-put _ _ _ _ _ _ step.0 step.1 broke.part)) left.1,
-      moves-turns _ _ _ _ _ _ (given.0 ++ step.0) left.0 (ap (λ (s : Setting). s.told) (c.more-left.ensures.setting ∙ so_far.same))
-          (moves-turn _ _ _ _ _ _ given.0 step.0 (ap (λ (s : Setting). s.told) so_far.same) given.2 step.2) left.2,
+      moves-turns _ _ _ _ _ _ (given.0 ++ step.0) left.0 (c.more-left.ensures.told ∙ so_far.same)
+          (moves-turn _ _ _ _ _ _ given.0 step.0 (so_far.same) given.2 step.2) left.2,
     )
 
 pub returns-clause-ok : goal.returns-clause-ok

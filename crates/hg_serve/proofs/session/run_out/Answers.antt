@@ -1,5 +1,4 @@
 use Rattle.std.proofs.Common.{[], ◌++◌, refl, ap, ◌∙◌}
-use Rattle.hg_machine.specs.Outcome.{Setting}
 use Rattle.hg_serve.proofs.Telling.{counted-none, counted-then, counted-says, fell-none, fell-then}
 use Rattle.hg_serve.proofs.Moving.{at-rest, stands-on, moves-no_turn, moves-turn, moves-ends}
 use Rattle.hg_serve.proofs.session.run_out.Goals as goal
@@ -22,11 +21,11 @@ loop-left-preserved g c =
       given = (
         given.0 ++ step.0,
         counted-then _ _ _ given.0 step.0 given.1 (counted-says _ _ _ step.0 step.1),
-        moves-turn _ _ _ _ _ _ given.0 step.0 (ap (λ (s : Setting). s.told) so_far.same) given.2 step.2,
+        moves-turn _ _ _ _ _ _ given.0 step.0 (so_far.same) given.2 step.2,
       );
       more = c.more-left.ensures.more;
       stands = stands-on _ _ _ _ _ step.0 so_far.stands step.2;
-      same = c.more-left.ensures.setting ∙ so_far.same;
+      same = c.more-left.ensures.told ∙ so_far.same;
       later = fell-then _ _ _ so_far.later (record { main = c.more-left.ensures.later.0; temp = c.more-left.ensures.later.1 });
     }
 

@@ -13,6 +13,7 @@ returns-in-CreateTable-clause-step g c =
             let m = step.moves.to before st in
             (m.0, m.1, λ told. subst (λ s. Begins before s step.lines m.0) (sym c.in-CreateTable.is) (m.2 told));
       },
+      step.full,
     )
 
 pub returns-in-Insert-clause-step : goal.returns-in-Insert-clause-step
@@ -29,6 +30,7 @@ returns-in-Insert-clause-step g c =
                   (subst (λ rs. Inserts before c.in-Insert.table rs step.lines m.0) c.deref.ensures.0 (m.2 told)),
             );
       },
+      step.full,
     )
 
 pub returns-in-Select-clause-step : goal.returns-in-Select-clause-step
@@ -41,4 +43,5 @@ returns-in-Select-clause-step g c =
             let m = step.moves.to before st in
             (m.0, m.1, λ told. subst (λ s. Begins before s step.lines m.0) (sym c.in-Select.is) (m.2 told));
       },
+      step.full,
     )

@@ -12,7 +12,7 @@ returns-then-not-may_create-clause-step c =
     let cannot = rw (c.deref.ensures.value, c.deref-2.ensures.0) at (c.if-not-may_create.ensures {u = tt}) in (
       syntax_error ∷ [],
       tells-one c.args.reply.now c.say.new.self syntax_error c.requires.empty c.requires.no_error c.say.ensures.text c.say.ensures.errors,
-      λ s. counted-plain s s syntax_error (Later_same s.counts) refl refl,
+      λ s. counted-plain s s syntax_error (Later_same s.counts) refl refl refl,
       λ s. create-refused s c.args.self.now c.args.name c.args.columns.items (record { name = c.args.name; columns = c.args.columns; «data» = no_pages }) cannot,
     )
 
@@ -22,6 +22,6 @@ returns-clause-step c =
     let e : Entry = record { name = c.args.name; columns = c.args.columns; «data» = no_pages } in (
       created ∷ [],
       tells-one c.args.reply.now c.say-2.new.self created c.requires.empty c.requires.no_error c.say-2.ensures.text c.say-2.ensures.errors,
-      λ s. counted-plain s s created (Later_same s.counts) refl refl,
+      λ s. counted-plain s s created (Later_same s.counts) refl refl refl,
       λ s. create-made s c.args.self.now _ e c.requires.idle may refl c.push_reserved.ensures.items refl c.requires.idle,
     )

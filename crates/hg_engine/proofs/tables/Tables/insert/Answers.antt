@@ -7,7 +7,7 @@ use Rattle.hg_engine.specs.Named.{IsNamedAt}
 use Rattle.hg_engine.specs.Stepping.{line_of}
 use Rattle.hg_engine.specs.declared.entries.Entry.{Entry}
 use Rattle.hg_engine.proofs.Inserting.{insert-nowhere, insert-misfit, insert-late, insert-done, insert-faulted, can-put-at, done-same, failed-put, puts-over}
-use Rattle.hg_engine.proofs.Saying.{tells-one, counted-plain, not-full, full-fault, put-counted, put-known}
+use Rattle.hg_engine.proofs.Saying.{tells-one, counted-plain, put-counted, put-known}
 use Rattle.hg_engine.proofs.tables.Tables.insert.Goals as goal
 
 pub returns-in_default-clause-step : goal.returns-in_default-clause-step
@@ -17,8 +17,7 @@ returns-in_default-clause-step g c =
     let d : Entry = record { name = c.args.name.now; columns = record { items = [] }; «data» = no_pages } in (
       line ∷ [],
       tells-one c.args.reply.now c.say.new.self line c.requires.empty c.requires.no_error c.say.ensures.text c.say.ensures.errors,
-      counted-plain a a line (Later_same a.counts) refl refl,
-      not-full a a line refl,
+      counted-plain a a line (Later_same a.counts) refl refl refl,
       insert-nowhere a c.args.self.now c.args.self.now c.args.name.now c.args.rows.now d refl refl refl (rw c.deref.ensures.value at (c.in_default.ensures {u = tt}).unknown),
     )
 
@@ -28,8 +27,7 @@ returns-then-not-fit-clause-step g c =
     let d : Entry = record { name = c.args.name.now; columns = record { items = [] }; «data» = no_pages } in (
       syntax_error ∷ [],
       tells-one c.args.reply.now c.say-then-not-fit.new.self syntax_error c.requires.empty c.requires.no_error c.say-then-not-fit.ensures.text c.say-then-not-fit.ensures.errors,
-      counted-plain a a syntax_error (Later_same a.counts) refl refl,
-      not-full a a syntax_error refl,
+      counted-plain a a syntax_error (Later_same a.counts) refl refl refl,
       insert-misfit a c.args.self.now c.args.self.now c.args.name.now c.args.rows.now d refl refl refl c.in-Some.at
           (rw c.deref.ensures.value at (c.in-Some.ensures {u = tt}).found) (c.if-not-fit.ensures {u = tt}),
     )
@@ -41,8 +39,7 @@ returns-in_default-draw-clause-step g c =
     let d : Entry = record { name = c.args.name.now; columns = record { items = [] }; «data» = no_pages } in (
       stamps_used_up ∷ [],
       tells-one c.args.reply.now c.say-in_default-draw.new.self stamps_used_up c.requires.empty c.requires.no_error c.say-in_default-draw.ensures.text c.say-in_default-draw.ensures.errors,
-      counted-plain a a stamps_used_up (Later_same a.counts) refl refl,
-      not-full a a stamps_used_up refl,
+      counted-plain a a stamps_used_up (Later_same a.counts) refl refl refl,
       insert-late a c.args.self.now c.draw.new.self c.args.name.now c.args.rows.now d c.draw.ensures.entries drawn.1 c.draw.ensures.scan c.in-Some.at
           (rw c.deref.ensures.value at (c.in-Some.ensures {u = tt}).found) (c.if-not-fit.ensures {u = tt}) drawn.0,
     )
@@ -82,8 +79,7 @@ returns-in-Ok-clause-step g c =
     let still = c.put.ensures.scan ∙ c.draw.ensures.scan in (
       line ∷ [],
       tells-one c.args.reply.now c.say-in-Ok.new.self line c.requires.empty c.requires.no_error c.say-in-Ok.ensures.text c.say-in-Ok.ensures.errors,
-      counted-plain a b line same.later refl refl,
-      not-full a b line refl,
+      counted-plain a b line same.later refl refl refl,
       insert-done a b old _ c.draw.new.self.stamps [] c.args.name.now c.args.rows.now c.in-Some.at c.in-Some-draw.stamp.0 c.requires.idle still at d (c.if-not-fit.ensures {u = tt})
           drawn.0 drawn.1 puts (subst (λ m. Commits m c.commit.new.self c.in-Some-draw.stamp.0) c.put.ensures.stamps c.commit.ensures),
     )
@@ -117,7 +113,6 @@ returns-in-Err-clause-step g c =
       line ∷ [],
       tells-one c.args.reply.now c.say_fault.new.reply line c.requires.empty c.requires.no_error c.say_fault.ensures.text c.say_fault.ensures.errors,
       put-counted a b (length c.args.rows.now) c.in-Err.fault failed.same.later failed.cause,
-      full-fault a b (length c.args.rows.now) c.in-Err.fault failed.cause,
       insert-faulted a b old c.put.new.self c.draw.new.self.stamps [] c.args.name.now c.args.rows.now c.in-Some.at c.in-Some-draw.stamp.0 c.requires.idle still at d
           (c.if-not-fit.ensures {u = tt}) drawn.0 drawn.1 c.in-Err.fault puts c.put.ensures.stamps,
     )

@@ -16,7 +16,7 @@ returns-in_default g c =
       step = (
         line ∷ [],
         tells-one c.args.reply.now c.say.new.self line c.requires.empty c.requires.no_error c.say.ensures.text c.say.ensures.errors,
-        counted-plain a a line (Later_same a.counts) refl refl,
+        counted-plain a a line (Later_same a.counts) refl refl refl,
         select-nowhere a c.args.self.now c.args.name.now d (rw c.deref.ensures.value at (c.in_default.ensures {u = tt}).unknown),
       );
     }

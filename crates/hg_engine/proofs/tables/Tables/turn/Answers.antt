@@ -28,7 +28,7 @@ returns-in-Ok-Some-clause-step g c =
       line ∷ [],
       tells-one c.args.reply.now c.say_row.new.self line c.requires.empty c.requires.no_error
           (c.say_row.ensures.text ∙ ap (λ r. c.args.reply.now.text.items ++ reply_text (row r)) c.go_on.ensures.row) (c.say_row.ensures.errors ∙ or-false c.args.reply.now.has_error),
-      counted-plain a b line c.next.ensures.steady.counts refl refl,
+      counted-plain a b line c.next.ensures.steady.counts refl refl refl,
       turn-gives a b old new c.in-Some.scan c.in-Some.is (c.go_on.ensures.entries ∙ c.next.ensures.entries) (c.go_on.ensures.stamps ∙ c.next.ensures.stamps) d
           c.next.ensures.steady c.next.ensures.takes_none c.next.new.self.row c.in-Ok-Some.found
           (c.go_on.ensures.scan ∙ ap (λ (f : Found). Some (record { table = c.in-Some.scan.table; at = Some f.place; budget = f.budget })) c.in-Ok-Some.found-is)
@@ -44,7 +44,7 @@ returns-in-Ok-None-clause-step g c =
     let d : Entry = record { name = 97 ∷ []; columns = record { items = [] }; «data» = no_pages } in (
       at_end ∷ [],
       tells-one c.args.reply.now c.say.new.self at_end c.requires.empty c.requires.no_error c.say.ensures.text c.say.ensures.errors,
-      counted-plain a b at_end c.next.ensures.steady.counts refl refl,
+      counted-plain a b at_end c.next.ensures.steady.counts refl refl refl,
       turn-ends a b old _ c.in-Some.scan c.in-Some.is c.next.ensures.entries c.next.ensures.stamps d c.next.ensures.steady c.next.ensures.takes_none refl
           (λ e pages done rest he p few. at-none c.in-Ok-None.field-0 _ _ c.in-Ok-None.field-0-is ((c.in-Ok-None.ensures {u = tt}).finds e pages done rest he p few)),
     )

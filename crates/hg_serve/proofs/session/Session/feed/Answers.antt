@@ -1,6 +1,5 @@
 use Rattle.std.proofs.Common.{◌++◌, ◌∷◌, [], ◌+◌, take, drop, get_or, refl, sym, ap, ◌∙◌, arith, append-nil}
 use Rattle.std.proofs.lemmas.List.{take_all}
-use Rattle.hg_machine.specs.Outcome.{Setting}
 use Rattle.hg_serve.proofs.Telling.{fell-none, fell-then}
 use Rattle.hg_serve.proofs.ServeLemmas.{halts-later, parts-at, parts-more, serves-as, halts-as}
 use Rattle.hg_serve.proofs.session.Session.feed.Goals as goal
@@ -19,7 +18,7 @@ pub returns-in-Err-clause-part : goal.returns-in-Err-clause-part
 returns-in-Err-clause-part g c = λ first w taken serves.
     let i = c.loop-b.b-index in
     let bytes = c.args.bytes.now in
-    let told = ap (λ (s : Setting). s.told) c.loop-b.invariant.same in
+    let told = c.loop-b.invariant.same in
     let so_far = c.loop-b.invariant.serves first w taken serves in
     halts-as _ _ _ told first _ w _ _ _ (parts-at taken bytes i c.loop-b-test.true)
     (halts-later _ _ first _ w _ ((taken ++ take i bytes) ++ get_or bytes i 0 ∷ []) (drop (i + 1) bytes)
@@ -30,12 +29,12 @@ loop-b-preserved g c =
     let i = c.loop-b.b-index in
     let bytes = c.args.bytes.now in
     let so_far = c.loop-b.invariant in
-    let told = ap (λ (s : Setting). s.told) so_far.same in
+    let told = so_far.same in
     let fed = c.in_default.ensures {u = tt} in
     record {
       idle = c.take_byte.ensures.idle;
       stands = c.take_byte.ensures.stands;
-      same = c.take_byte.ensures.setting ∙ so_far.same;
+      same = c.take_byte.ensures.told ∙ so_far.same;
       serves = λ first w taken serves.
           serves-as _ _ _ told first _ w _ _ _ _ (parts-more taken bytes i c.loop-b-test.true)
           (fed.ok first w (taken ++ take i bytes) (serves-as _ _ _ (sym told) first _ w _ _ _ _ refl (so_far.serves first w taken serves)));
