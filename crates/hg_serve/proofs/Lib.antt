@@ -11,3 +11,4 @@ pub mod Scripts
 pub mod ServeLemmas
 pub mod Closing
 pub mod Endings
+pub mod Outcomes
