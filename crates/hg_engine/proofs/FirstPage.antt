@@ -1,12 +1,14 @@
 -- The first page.
-use Rattle.std.specs.Prelude.{◌≡◌, ℕ, zero, suc, ◌+◌, ◌-◌, ◌==◌, Bool, true, false, [], None, if◌then◌else◌}
+use Rattle.std.specs.Prelude.{◌≡◌, ℕ, zero, suc, ◌<◌, ◌+◌, ◌-◌, ◌==◌, Bool, true, false, [], None, if◌then◌else◌}
 use Rattle.std.proofs.Common.{sym, ◌∙◌, ap, subst, refl, arith, inl, inr}
 use Rattle.std.proofs.lemmas.Bool.Decides.{nat_tests, eqb_tells}
-use Rattle.hg_base.specs.Space.{Space, NoPins, IsMade, IsSame, key, at, key_in, without_pin, taken_in, taken_below}
-use Rattle.hg_base.specs.Causes.{Later}
+use Rattle.hg_base.specs.Space.{Space, NoPins, IsMade, key, at, key_in, without_pin, taken_in, taken_below}
+use Rattle.hg_base.specs.Causes.{FreshFault, full_fault}
 use Rattle.hg_base.specs.TakenLaws.{taken_in-made}
 use Rattle.hg_base.specs.declared.File.TheVariants.{Main}
 use Rattle.hg_base.specs.declared.PageId.{PageId}
+use Rattle.hg_base.specs.declared.pages.PageFault.{PageFault}
+use Rattle.hg_pool.specs.Work.{IsUnused}
 use Rattle.std.proofs.lemmas.Bool.{false≢true}
 use Rattle.std.proofs.lemmas.Option.{none-some}
 use Rattle.hg_machine.specs.State.{first_state}
@@ -21,8 +23,9 @@ at-twice f p q h = elim (eqb_tells q p) [
   | inr n ↦ ap (λ b. if b then false else at f p true q) n.0 ∙ ap (λ b. if b then true else f q) n.0 ∙ h
 ]
 
-pub takes-first : (a b c : Space) (page : PageId) → NoPins a → IsMade Main a b page → c ≡ without_pin b (key page) → Later a.counts b.counts → TakesFirst a c
-takes-first a b c page pins made after later =
+pub takes-first : (a b c : Space) (page : PageId) → NoPins a → IsMade Main a b page → c ≡ without_pin b (key page)
+    → b.counts.main_device ≡ a.counts.main_device → b.counts.temp_device ≡ a.counts.temp_device → TakesFirst a c
+takes-first a b c page pins made after main temp =
     subst (TakesFirst a) (sym after) (record {
       told = ap (λ (s : Space). s.told) made.after;
       limit = ap (λ (s : Space). s.limit) made.after;
@@ -31,14 +34,14 @@ takes-first a b c page pins made after later =
         not_pinned = λ q. ap (λ (s : Space). at s.pinned (key page) false q) made.after ∙ at-twice a.pinned (key page) q (pins.not_pinned q);
       };
       used = taken_in-made Main a b page made;
-      later = later;
+      main = main;
+      temp = temp;
     })
 
-pub none-first : (a b : Space) → NoPins a → IsSame a b → NoPins b
-none-first a b pins same = record {
-  none_out = ap (λ (s : Space). s.pins) same.after ∙ pins.none_out;
-  not_pinned = λ q. ap (λ (s : Space). s.pinned q) same.after ∙ pins.not_pinned q;
-}
+-- a space of some pages of which none is taken is not full
+pub not-full : (a b : Space) (f : PageFault) → IsUnused a → 0 < a.limit Main → f ≡ full_fault Main → FreshFault Main a b f → ⊥
+not-full a b f unused some is h =
+    let full = subst (FreshFault Main a b) is h in absurd (false≢true (sym (unused (key_in Main 0)) ∙ full.1 0 some))
 
 -- the page that was made is pinned
 pub made-pinned : (a b : Space) (page : PageId) → IsMade Main a b page → b.pinned (key page) ≡ true

@@ -37,7 +37,7 @@ impl<M: PageDevice, T: PageDevice> Engine<M, T> {
     ghost use Rattle.hg_engine.specs.Shown.{space_of, IsEngineOf, faults_of, told_of, is_pending, turns_left, EngineSteps, IsLater};
 
     /// An engine of no table over these devices. Page 0 of the main file is kept for the catalog. The only
-    /// error is want of memory.
+    /// error is want of memory; the devices are then handed back. No device is called.
     pub fn new(
         alloc: Global,
         config: &Config,
@@ -48,8 +48,8 @@ impl<M: PageDevice, T: PageDevice> Engine<M, T> {
         ensures start { IfOk result (λ e. IsEngineOf M.PageDevice T.PageDevice e (first_state config.now.main_pages)) }
         ensures told { IfOk result (λ e. told_of M.PageDevice T.PageDevice e ≡ (M.told main && T.told temp)) }
         ensures idle { IfOk result (λ e. is_pending e ≡ false) }
-        ensures main_later { IfOk result (λ e. M.faults main ≤ (faults_of M.PageDevice T.PageDevice e).main) }
-        ensures temp_later { IfOk result (λ e. T.faults temp ≤ (faults_of M.PageDevice T.PageDevice e).temp) }
+        ensures faults { IfOk result (λ e. faults_of M.PageDevice T.PageDevice e ≡ record { main = M.faults main; temp = T.faults temp }) }
+        ensures handed_back { IfErr result (λ devices. devices ≡ record { main = main; temp = temp }) }
     {
         let Ok(tables) = Tables::new(alloc) else {
             return Err(Devices { main, temp });
@@ -58,13 +58,8 @@ impl<M: PageDevice, T: PageDevice> Engine<M, T> {
             Ok(pool) => pool,
             Err((main, temp)) => return Err(Devices { main, temp }),
         };
-        match take_first(&mut pool) {
-            Ok(()) => Ok(Engine { tables, pool }),
-            Err(_) => {
-                let (main, temp) = pool.close();
-                Err(Devices { main, temp })
-            }
-        }
+        take_first(&mut pool);
+        Ok(Engine { tables, pool })
     }
 
     /// Whether a SELECT is at work.

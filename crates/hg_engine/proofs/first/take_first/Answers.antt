@@ -1,18 +1,20 @@
-use Rattle.hg_engine.proofs.FirstPage.{takes-first, none-first, made-pinned}
+use Rattle.std.proofs.Common.{ap}
+use Rattle.hg_io.specs.declared.device.PageDevice.{Ghosts}
+use Rattle.hg_pool.specs.Shown.{state_of}
+use Rattle.hg_engine.proofs.FirstPage.{takes-first, not-full, made-pinned}
 use Rattle.hg_engine.proofs.first.take_first.Goals as goal
 
 pub unpin-requires : goal.unpin-requires
-unpin-requires g c = made-pinned (g.S.Pages.state c.args.space.now) (g.S.Pages.state c.fresh.new.self) (g.S.Pages.pin_page c.in-Ok.pin) (c.in-Ok.ensures {u = tt}).ok
+unpin-requires g c =
+    made-pinned (state_of g.M.PageDevice g.T.PageDevice c.args.pool.now) (state_of g.M.PageDevice g.T.PageDevice c.fresh.new.self) c.in-Ok.pin.page (c.in-Ok.ensures {u = tt}).ok
 
 pub returns-in-Ok : goal.returns-in-Ok
-returns-in-Ok g c = record {
-  ok = takes-first (g.S.Pages.state c.args.space.now) (g.S.Pages.state c.fresh.new.self) (g.S.Pages.state c.unpin.new.self) (g.S.Pages.pin_page c.in-Ok.pin) c.requires
-      (c.in-Ok.ensures {u = tt}).ok c.unpin.ensures c.fresh.ensures.cause.later;
-  err = tt;
-}
+returns-in-Ok g c =
+    let none = c.fresh.ensures.unused c.requires.unused in
+    takes-first (state_of g.M.PageDevice g.T.PageDevice c.args.pool.now) (state_of g.M.PageDevice g.T.PageDevice c.fresh.new.self) (state_of g.M.PageDevice g.T.PageDevice c.unpin.new.self)
+    c.in-Ok.pin.page c.requires.out (c.in-Ok.ensures {u = tt}).ok c.unpin.ensures.after (ap g.M.PageDevice.faults none.main_same) (ap g.T.PageDevice.faults none.temp_same)
 
-pub returns-in-Err : goal.returns-in-Err
-returns-in-Err g c = record {
-  ok = tt;
-  err = none-first (g.S.Pages.state c.args.space.now) (g.S.Pages.state c.fresh.new.self) c.requires (c.in-Err.ensures {u = tt}).err;
-}
+pub unreachable-requires : goal.unreachable-requires
+unreachable-requires g c =
+    not-full (state_of g.M.PageDevice g.T.PageDevice c.args.pool.now) (state_of g.M.PageDevice g.T.PageDevice c.fresh.new.self) c.in-Err.fault
+    c.requires.unused c.requires.room ((c.in-Err.ensures {u = tt}).unused c.requires.unused).only_full (c.in-Err.ensures {u = tt}).fault

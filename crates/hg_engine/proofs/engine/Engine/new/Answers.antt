@@ -5,12 +5,12 @@ use Rattle.hg_pool.specs.Shown.{state_of}
 use Rattle.hg_engine.proofs.FirstPage.{opened}
 use Rattle.hg_engine.proofs.engine.Engine.new.Goals as goal
 
-pub returns-in-Ok-take_first-clause-start : goal.returns-in-Ok-take_first-clause-start
-returns-in-Ok-take_first-clause-start g c =
+pub returns-clause-start : goal.returns-clause-start
+returns-clause-start g c =
     let a = state_of g.M.PageDevice g.T.PageDevice c.in-Ok-new.pool in
-    let b = state_of g.M.PageDevice g.T.PageDevice c.take_first.new.space in
-    opened a b c.in-Ok.tables c.args.config.now.main_pages (c.in-Ok-take_first.ensures {u = tt}).ok (λ q. ap (λ (s : Space). s.taken q) (c.in-Ok-new.ensures {u = tt}).start)
+    let b = state_of g.M.PageDevice g.T.PageDevice c.take_first.new.pool in
+    opened a b c.in-Ok.tables c.args.config.now.main_pages c.take_first.ensures (λ q. ap (λ (s : Space). s.taken q) (c.in-Ok-new.ensures {u = tt}).start)
     (ap (λ (s : Space). s.limit Main) (c.in-Ok-new.ensures {u = tt}).start) (c.in-Ok.ensures {u = tt}).entries (c.in-Ok.ensures {u = tt}).stamps (c.in-Ok.ensures {u = tt}).scan
 
-pub returns-in-Ok-take_first-clause-told : goal.returns-in-Ok-take_first-clause-told
-returns-in-Ok-take_first-clause-told g c = (c.in-Ok-take_first.ensures {u = tt}).ok.told ∙ ap (λ (s : Space). s.told) (c.in-Ok-new.ensures {u = tt}).start
+pub returns-clause-told : goal.returns-clause-told
+returns-clause-told g c = c.take_first.ensures.told ∙ ap (λ (s : Space). s.told) (c.in-Ok-new.ensures {u = tt}).start
