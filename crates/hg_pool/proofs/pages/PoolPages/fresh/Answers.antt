@@ -5,7 +5,7 @@ use Rattle.hg_base.specs.Causes.{FreshFault, full_fault}
 use Rattle.hg_base.specs.declared.PageId.{PageId}
 use Rattle.hg_base.specs.declared.pages.PageFault.{PageFault}
 use Rattle.hg_pool.specs.Round.{ComesIn, PassesNext}
-use Rattle.hg_pool.specs.Shown.{state_of, frame_of, round_of, main_device, temp_device}
+use Rattle.hg_pool.specs.Shown.{state_of, frame_of, counts_of_pool, round_of, main_device, temp_device}
 use Rattle.hg_pool.specs.Work.{IsUnused, CallsNone}
 use Rattle.hg_pool.specs.declared.parts.Parts.{Parts}
 use Rattle.hg_pool.specs.declared.pages.PoolPin.{PoolPin}
@@ -33,6 +33,11 @@ returns-in_err-page-clause-fault g c =
     let P : Parts g.row.M.Denot g.row.T.Denot → Type 0 = λ s. FreshFault c.args.file (state_of g.M.PageDevice g.T.PageDevice s) (state_of g.M.PageDevice g.T.PageDevice new) f in
     let Q : Result PoolPin PageFault → Type 0 = λ r. IfErr r (FreshFault c.args.file (state_of g.M.PageDevice g.T.PageDevice c.args.self.now) (state_of g.M.PageDevice g.T.PageDevice new)) in
     subst Q (sym is) (subst P c.self.view_is c.in_err-page.ensures.fault)
+
+pub returns-in_err-page-clause-full_work : goal.returns-in_err-page-clause-full_work
+returns-in_err-page-clause-full_work g c =
+    let P : Parts g.row.M.Denot g.row.T.Denot → Type 0 = λ s. IsFull (state_of g.M.PageDevice g.T.PageDevice s) c.args.file → counts_of_pool c.fresh.new.self ≡ counts_of_pool s in
+    subst P c.self.view_is c.in_err-page.ensures.full_work
 
 pub returns-in_err-page-clause-full_round : goal.returns-in_err-page-clause-full_round
 returns-in_err-page-clause-full_round g c =
