@@ -25,7 +25,8 @@ use Rattle.hg_pool.specs.declared.maps.Maps.{Maps}
 use Rattle.hg_pool.specs.declared.store.Store.{Store}
 use Rattle.hg_pool.specs.declared.PoolCounts.{PoolCounts}
 use Rattle.hg_pool.proofs.Steps.{Pinned, Made, Becomes, held, settled, unpinned, released, dropped, linked, pinned-found, bytes-found, or-true}
-use Rattle.hg_pool.proofs.Counting.{pins-same, pins-more, pins-less, places-limit}
+use Rattle.hg_pool.proofs.Counting.{pins-same, pins-more, pins-less}
+use Rattle.hg_pool.proofs.Ranges.{free-place}
 use Rattle.hg_pool.proofs.Passing.{shape-kept, place-set, main-places, temp-places}
 
 -- A pool is sound where its picture is one that is sound, and its devices are as they were.
@@ -150,7 +151,7 @@ makes-page file d s m f n h room takes few =
     let a : Picture = picture_of d s in
     let b : Picture = record a { frame = at (frame_at s.frames.items) f y; place = at (place_at s.places) (key p) f; taken = at (taken_at s.maps) (key p) true; next = at (next_at s.maps) (key p) None; pins = s.pins + 1 } in
     let step : Made a b p = settled a f p h.coherent room.none takes.free in
-    let in_range : n < places_in s.places file = (let l = takes.below in let k = places-limit s file h.shape in omega arith) in
+    let in_range : n < places_in s.places file = free-place s m file n h.shape takes in
     let same : picture_of d z ≡ b = λ i. record (picture_of d z) {
       limit = takes.after.limit i;
       taken = takes.after.taken i;

@@ -1,5 +1,5 @@
 -- A pool that is opened.
-use Rattle.std.specs.Prelude.{◌≡◌, ℕ, ◌/◌, ◌%◌, ◌==◌, ◌⊎◌, ◌<◌, ◌≤◌, ◌&&◌, ◌||◌, Bool, true, false, List, length, Option, None, Some, if◌then◌else◌, replicate}
+use Rattle.std.specs.Prelude.{◌≡◌, ℕ, ◌/◌, ◌%◌, ◌==◌, ◌&&◌, ◌||◌, Bool, true, false, List, length, Option, None, Some, if◌then◌else◌, replicate}
 use Rattle.std.proofs.Common.{sym, ◌∙◌, ap, subst, refl, arith, inl, inr}
 use Rattle.std.proofs.lemmas.List.{get_or-replicate, length-replicate}
 use Rattle.std.proofs.Math.ListN.{get_or-eq_default}
@@ -15,14 +15,13 @@ use Rattle.hg_pool.specs.Disks.{Disks}
 use Rattle.hg_pool.specs.Picture.{Picture, picture_of, shown, frame_at, place_at, taken_at, limit_of, no_heaps, no_frame, is_in, is_pinned, is_key_of, held_in, counts_of}
 use Rattle.hg_pool.specs.Sound.{IsSound, pins_of, pinned_in}
 use Rattle.hg_pool.specs.Opening.{IsPossible, IsNewStore, new_space, limit_in, empty_frame}
+use Rattle.hg_pool.specs.Round.{first_round, round_in}
 use Rattle.hg_pool.specs.declared.Config.{Config}
 use Rattle.hg_pool.specs.declared.frames.Frame.{Frame}
 use Rattle.hg_pool.specs.declared.store.Answers.{Answers}
 use Rattle.hg_pool.specs.declared.store.Store.{Store}
 use Rattle.hg_pool.proofs.Steps.{none-apart}
-
-le_or_lt : (n f : ℕ) → (n ≤ f) ⊎ (f < n)
-le_or_lt n f = grind arith
+use Rattle.hg_pool.proofs.Rounds.{le_or_lt}
 
 same-choice : {X : Type 0} (t : Bool) (x y z : X) → x ≡ z → y ≡ z → (if t then x else y) ≡ z
 same-choice true x y z h k = h
@@ -32,13 +31,20 @@ limits : (c : Config) (s : Store) (file : File) → IsNewStore c s → limit_of 
 limits c s Main h = ap (λ (m : map.PageMap). m.limit) h.main_map
 limits c s Temp h = ap (λ (m : map.PageMap). m.limit) h.temp_map
 
--- no frame of a new store has a page
-no-page-in : (frames : List Frame) (n f : ℕ) → frames ≡ replicate n empty_frame → (frame_at frames f).page ≡ None
-no-page-in frames n f e =
-    ap (λ l. (frame_at l f).page) e ∙ elim (le_or_lt n f) [
-      | inl behind ↦ ap (λ (x : Frame). x.page) (get_or-eq_default (replicate n empty_frame) no_frame (let l = length-replicate {A = Frame} n empty_frame in omega arith))
-      | inr there ↦ ap (λ (x : Frame). x.page) (get_or-replicate n f empty_frame no_frame there)
+-- what is the same of an empty frame and of one that is not there holds of each frame of a new store
+of-each : {X : Type 0} (g : Frame → X) (x : X) (frames : List Frame) (n f : ℕ) → g no_frame ≡ x → g empty_frame ≡ x → frames ≡ replicate n empty_frame → g (frame_at frames f) ≡ x
+of-each g x frames n f none empty e =
+    ap (λ l. g (frame_at l f)) e ∙ elim (le_or_lt n f) [
+      | inl behind ↦ ap g (get_or-eq_default (replicate n empty_frame) no_frame (let l = length-replicate {A = Frame} n empty_frame in omega arith)) ∙ none
+      | inr there ↦ ap g (get_or-replicate n f empty_frame no_frame there) ∙ empty
     ]
+
+-- no frame of a new store has a page, and no pin holds one
+no-page-in : (frames : List Frame) (n f : ℕ) → frames ≡ replicate n empty_frame → (frame_at frames f).page ≡ None
+no-page-in frames n f e = of-each (λ x. x.page) None frames n f refl refl e
+
+no-pin-of : (frames : List Frame) (n f : ℕ) → frames ≡ replicate n empty_frame → (frame_at frames f).pinned ≡ false
+no-pin-of frames n f e = of-each (λ x. x.pinned) false frames n f refl refl e
 
 by_key-same : {X : Type 0} (a b : ℕ → X) (x : X) (q : ℕ) → ((n : ℕ) → a n ≡ x) → ((n : ℕ) → b n ≡ x) → by_key a b q ≡ x
 by_key-same a b x q h k = same-choice (q % 2 == 0) (a (q / 2)) (b (q / 2)) x (h (q / 2)) (k (q / 2))
@@ -89,3 +95,11 @@ new-shown c d s h =
 
 pub new-no_pins : (c : Config) (d : Disks) (v : Space) → v ≡ new_space c d → NoPins v
 new-no_pins c d v e = let P : Space → Type 0 = λ w. NoPins w in subst P (sym e) (record { none_out = refl; not_pinned = λ q. refl })
+
+-- no pin holds a frame of a new store, and the hand stands at the first one
+pub new-round : (c : Config) (s : Store) → IsNewStore c s → round_in s ≡ first_round c.pool
+new-round c s h = λ i. record (round_in s) {
+  current = (ap length h.frames ∙ length-replicate {A = Frame} c.pool empty_frame) i;
+  hand = h.hand i;
+  out = λ f. no-pin-of s.frames.items c.pool f h.frames i;
+}

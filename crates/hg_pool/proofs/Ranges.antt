@@ -9,7 +9,7 @@ use Rattle.hg_space.specs.Shown.{pages_of}
 use Rattle.hg_pool.specs.Disks.{Disks, pages_in}
 use Rattle.hg_pool.specs.Picture.{frame_at, taken_at, limit_of}
 use Rattle.hg_pool.specs.Sound.{IsSound, IsShaped, AreSound}
-use Rattle.hg_pool.specs.Keeping.{places_in}
+use Rattle.hg_pool.specs.Keeping.{places_in, TakesLowest}
 use Rattle.hg_pool.specs.Keys.{by_key-main, by_key-temp}
 use Rattle.hg_pool.specs.declared.maps.Maps.{Maps}
 use Rattle.hg_pool.specs.declared.store.Store.{Store}
@@ -23,6 +23,10 @@ taken-below m Temp n h e = h.temp.within n (sym (by_key-temp (pages_of m.main).u
 pub has-place : (s : Store) (p : PageId) → IsShaped s → taken_at s.maps (key p) ≡ true → p.no < places_in s.places p.file
 has-place s p h e = let l = taken-below s.maps p.file p.no h.maps e in let k = places-limit s p.file h in omega arith
 
+-- so has a page that is taken as the lowest one
+pub free-place : (s : Store) (m : Maps) (file : File) (n : ℕ) → IsShaped s → TakesLowest file s.maps m n → n < places_in s.places file
+free-place s m file n h takes = let l = takes.below in let k = places-limit s file h in omega arith
+
 limit-fits : (d : Disks) (s : Store) (file : File) → IsSound d s → limit_of s.maps file ≤ pages_in d file
 limit-fits d s Main h = h.main_fits
 limit-fits d s Temp h = h.temp_fits
@@ -30,6 +34,6 @@ limit-fits d s Temp h = h.temp_fits
 pub on-device : (d : Disks) (s : Store) (p : PageId) → IsSound d s → taken_at s.maps (key p) ≡ true → p.no < pages_in d p.file
 on-device d s p h e = let l = taken-below s.maps p.file p.no h.shape.maps e in let k = limit-fits d s p.file h in omega arith
 
--- so has a page that is in a frame
+-- a page that is in a frame is on its device
 pub held-on-device : (d : Disks) (s : Store) (f : ℕ) (p : PageId) → IsSound d s → (frame_at s.frames.items f).page ≡ Some p → p.no < pages_in d p.file
 held-on-device d s f p h e = on-device d s p h ((h.coherent f).taken p e)

@@ -6,6 +6,7 @@ pub mod Keeping
 pub mod Keys
 pub mod Views
 pub mod Opening
+pub mod Round
 pub mod Shown
 pub mod Passing
 pub mod Work

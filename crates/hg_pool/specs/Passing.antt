@@ -9,6 +9,7 @@ use Rattle.hg_pool.specs.Disks.{Disks}
 use Rattle.hg_pool.specs.Picture.{shown, picture_of, counts_of, frame_at}
 use Rattle.hg_pool.specs.Sound.{IsSound}
 use Rattle.hg_pool.specs.Keeping.{is_inside}
+use Rattle.hg_pool.specs.Round.{Round, IsNext, behind}
 use Rattle.hg_pool.specs.Shown.{disks_of}
 use Rattle.hg_pool.specs.declared.frames.Frame.{Frame}
 use Rattle.hg_pool.specs.declared.store.Answers.{Answers}
@@ -51,3 +52,12 @@ pub record IsRoom (s : Store) (f : ℕ) : Type 0 where
   pub there : f < length s.frames.items
   pub none : (frame_at s.frames.items f).page ≡ None
   pub free : (frame_at s.frames.items f).pinned ≡ false
+
+-- no frame has a page
+abbrev pub AreEmpty : Store → Type 0
+AreEmpty s = (f : ℕ) → (frame_at s.frames.items f).page ≡ None
+
+-- the hand came to f next, and stands behind it
+pub record Reaches (a b : Round) (f : ℕ) : Type 0 where
+  pub next : IsNext a f
+  pub after : b ≡ behind a f

@@ -5,6 +5,7 @@ use Rattle.hg_base.specs.Space.{Space, key}
 use Rattle.hg_base.specs.declared.PageId.{PageId}
 use Rattle.hg_pool.specs.Disks.{Disks, disks_in}
 use Rattle.hg_pool.specs.Picture.{shown, picture_of, is_in, frame_at, place_at}
+use Rattle.hg_pool.specs.Round.{Round, round_in}
 use Rattle.hg_pool.specs.Sound.{IsSound}
 use Rattle.hg_pool.specs.declared.PoolCounts.{PoolCounts}
 use Rattle.hg_pool.specs.declared.parts.Parts.{Parts}
@@ -31,9 +32,17 @@ module _ {M T : Type 0} where
   abbrev pub in_frame : Parts M T → PageId → Bool
   in_frame s page = is_in (frame_at s.store.frames.items) (place_at s.store.places) (key page)
 
+  -- the frame of a page that is in one
+  abbrev pub frame_of : Parts M T → PageId → ℕ
+  frame_of s page = place_at s.store.places (key page)
+
   -- how many frames are in use
   abbrev pub current_of : Parts M T → ℕ
   current_of s = length s.store.frames.items
 
   abbrev pub counts_of_pool : Parts M T → PoolCounts
   counts_of_pool s = s.store.counts
+
+  -- the round over the frames
+  abbrev pub round_of : Parts M T → Round
+  round_of s = round_in s.store

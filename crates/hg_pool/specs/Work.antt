@@ -1,5 +1,5 @@
 -- How much a call of a pool asks of its devices. Our own rule: a count stops at 2^64 - 1.
-use Rattle.std.specs.Prelude.{◌≡◌, ℕ, ◌+◌, ◌<◌, ◌≤◌, Bool, true, false, Result, OnOk}
+use Rattle.std.specs.Prelude.{◌≡◌, ℕ, ◌+◌, ◌<◌, ◌≤◌, Bool, true, false, Result, OnOk, IfErr}
 use Rattle.hg_io.specs.Count.{raised}
 use Rattle.hg_base.specs.Space.{Space, key_in}
 use Rattle.hg_base.specs.declared.PageId.{PageId}
@@ -29,3 +29,13 @@ pub record FreshWork (a b : PoolCounts) : Type 0 where
 -- each page of its file below it is taken
 abbrev pub IsLowest : Space → PageId → Type 0
 IsLowest s page = (n : ℕ) → n < page.no → s.taken (key_in page.file n) ≡ true
+
+-- no page is taken
+abbrev pub IsUnused : Space → Type 0
+IsUnused s = (q : ℕ) → s.taken q ≡ false
+
+-- a call on a space in which no page was taken calls no device, so that no device fails in it
+pub record CallsNone {M T X E : Type 0} (main now_main : M) (temp now_temp : T) (r : Result X E) (full : E) : Type 0 where
+  pub main_same : now_main ≡ main
+  pub temp_same : now_temp ≡ temp
+  pub only_full : IfErr r (λ e. e ≡ full)

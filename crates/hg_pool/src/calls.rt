@@ -9,8 +9,9 @@ impl<M: PageDevice, T: PageDevice> Parts<M, T> {
     ghost use Rattle.hg_base.specs.Space.{key, IsPinned, IsMade, IsSame, IsFull, without_pin, without_page, with_next};
     ghost use Rattle.hg_base.specs.Causes.{HasCause, Later, Licensed, NoneFull, PinFault, FreshFault, full_fault};
     ghost use Rattle.hg_pool.specs.Picture.{frame_at, place_at, taken_at, is_pinned};
-    ghost use Rattle.hg_pool.specs.Shown.{state_of, IsWhole, in_frame};
-    ghost use Rattle.hg_pool.specs.Work.{PinWork, FreshWork, IsLowest};
+    ghost use Rattle.hg_pool.specs.Round.{Stays, ComesIn, PassesNext, without_out};
+    ghost use Rattle.hg_pool.specs.Shown.{state_of, IsWhole, in_frame, frame_of, round_of};
+    ghost use Rattle.hg_pool.specs.Work.{PinWork, FreshWork, IsLowest, IsUnused, CallsNone};
 
     pub(crate) fn pin(&mut self, page: PageId) -> Result<(), PageFault>
         requires whole { IsWhole M.PageDevice T.PageDevice self.old }
@@ -25,6 +26,10 @@ impl<M: PageDevice, T: PageDevice> Parts<M, T> {
         ensures none_full { NoneFull (state_of M.PageDevice T.PageDevice self.old).counts (state_of M.PageDevice T.PageDevice self.new).counts }
         ensures in_frame { OnOk result (in_frame self.new page ≡ true) }
         ensures work { PinWork (in_frame self.old page) self.old.store.counts self.new.store.counts result }
+        ensures stays { OnOk result (in_frame self.old page ≡ true → Stays (round_of self.old) (round_of self.new)
+            (frame_of self.old page) (frame_of self.new page)) }
+        ensures comes { OnOk result (in_frame self.old page ≡ false → ComesIn (round_of self.old) (round_of self.new) (frame_of self.new page)) }
+        ensures passes_next { OnErr result (PassesNext (round_of self.old) (round_of self.new)) }
     {
         let at = self.bring(page)?;
         self.store.hold(at);
@@ -46,6 +51,11 @@ impl<M: PageDevice, T: PageDevice> Parts<M, T> {
         ensures in_frame { IfOk result (λ page. in_frame self.new page ≡ true) }
         ensures work { FreshWork self.old.store.counts self.new.store.counts }
         ensures full_work { IsFull (state_of M.PageDevice T.PageDevice self.old) file → self.new.store.counts ≡ self.old.store.counts }
+        ensures full_round { IsFull (state_of M.PageDevice T.PageDevice self.old) file → round_of self.new ≡ round_of self.old }
+        ensures comes { IfOk result (λ page. ComesIn (round_of self.old) (round_of self.new) (frame_of self.new page)) }
+        ensures passes_next { OnErr result ((IsFull (state_of M.PageDevice T.PageDevice self.old) file → ⊥) → PassesNext (round_of self.old) (round_of self.new)) }
+        ensures unused { IsUnused (state_of M.PageDevice T.PageDevice self.old) → CallsNone self.old.devices.main self.new.devices.main
+            self.old.devices.temp self.new.devices.temp result (full_fault file) }
     {
         if self.store.is_full(file) {
             return Err(self.full(file));
@@ -72,6 +82,8 @@ impl<M: PageDevice, T: PageDevice> Parts<M, T> {
         ensures licensed { Licensed (state_of M.PageDevice T.PageDevice self.old) (state_of M.PageDevice T.PageDevice self.new) result }
         ensures fault { FreshFault file (state_of M.PageDevice T.PageDevice self.old) (state_of M.PageDevice T.PageDevice self.new) result }
         ensures counts { self.new.store.counts ≡ self.old.store.counts }
+        ensures round { round_of self.new ≡ round_of self.old }
+        ensures no_call { self.new.devices ≡ self.old.devices }
     {
         match file {
             File::Main => {
@@ -100,6 +112,7 @@ impl<M: PageDevice, T: PageDevice> Parts<M, T> {
         requires pinned { (state_of M.PageDevice T.PageDevice self.old).pinned (key page) ≡ true }
         ensures whole { IsWhole M.PageDevice T.PageDevice self.new }
         ensures after { state_of M.PageDevice T.PageDevice self.new ≡ without_pin (state_of M.PageDevice T.PageDevice self.old) (key page) }
+        ensures round { round_of self.new ≡ without_out (round_of self.old) (frame_of self.old page) }
     {
         let at = self.store.places.at(page);
         self.store.let_go(at);
@@ -111,6 +124,7 @@ impl<M: PageDevice, T: PageDevice> Parts<M, T> {
         requires not_pinned { (state_of M.PageDevice T.PageDevice self.old).pinned (key page) ≡ false }
         ensures whole { IsWhole M.PageDevice T.PageDevice self.new }
         ensures after { state_of M.PageDevice T.PageDevice self.new ≡ without_page (state_of M.PageDevice T.PageDevice self.old) (key page) }
+        ensures round { round_of self.new ≡ round_of self.old }
     {
         match self.store.find(page) {
             Some(at) => {
@@ -126,6 +140,7 @@ impl<M: PageDevice, T: PageDevice> Parts<M, T> {
         requires taken { (state_of M.PageDevice T.PageDevice self.old).taken (key page) ≡ true }
         ensures whole { IsWhole M.PageDevice T.PageDevice self.new }
         ensures after { state_of M.PageDevice T.PageDevice self.new ≡ with_next (state_of M.PageDevice T.PageDevice self.old) (key page) next }
+        ensures round { round_of self.new ≡ round_of self.old }
     {
         self.store.maps.set_next(page, next);
     }

@@ -1,9 +1,10 @@
 //! A pool is a space of pages.
 ghost use Rattle.std.specs.Prelude.{◌≡◌, ◌<◌, true, false, IfOk, IfErr, OnOk, OnErr, IsErrOf};
-ghost use Rattle.hg_base.specs.Space.{key, IsPinned, IsMade, IsSame, IsFull};
+ghost use Rattle.hg_base.specs.Space.{key, IsPinned, IsMade, IsSame, IsFull, without_pin, without_page, with_next};
 ghost use Rattle.hg_base.specs.Causes.{HasCause, NoneFull, PinFault, FreshFault, full_fault};
-ghost use Rattle.hg_pool.specs.Shown.{state_of, in_frame, counts_of_pool};
-ghost use Rattle.hg_pool.specs.Work.{PinWork, FreshWork, IsLowest};
+ghost use Rattle.hg_pool.specs.Round.{Stays, ComesIn, PassesNext, without_out};
+ghost use Rattle.hg_pool.specs.Shown.{state_of, in_frame, frame_of, counts_of_pool, round_of, main_device, temp_device};
+ghost use Rattle.hg_pool.specs.Work.{PinWork, FreshWork, IsLowest, IsUnused, CallsNone};
 
 use crate::Pool;
 use hg_base::{File, PageFault, PageId, Pages};
@@ -47,6 +48,10 @@ impl<M: PageDevice, T: PageDevice> Pages for Pool<M, T> {
             (state_of M.PageDevice T.PageDevice self.new).counts }
         ensures in_frame { OnOk result (in_frame self.new page ≡ true) }
         ensures work { PinWork (in_frame self.old page) (counts_of_pool self.old) (counts_of_pool self.new) result }
+        ensures stays { OnOk result (in_frame self.old page ≡ true → Stays (round_of self.old) (round_of self.new)
+            (frame_of self.old page) (frame_of self.new page)) }
+        ensures comes { OnOk result (in_frame self.old page ≡ false → ComesIn (round_of self.old) (round_of self.new) (frame_of self.new page)) }
+        ensures passes_next { OnErr result (PassesNext (round_of self.old) (round_of self.new)) }
     {
         self.parts.pin(page)?;
         Ok(PoolPin { page })
@@ -71,6 +76,11 @@ impl<M: PageDevice, T: PageDevice> Pages for Pool<M, T> {
         ensures in_frame { IfOk result (λ pin. in_frame self.new pin.page ≡ true) }
         ensures work { FreshWork (counts_of_pool self.old) (counts_of_pool self.new) }
         ensures full_work { IsFull (state_of M.PageDevice T.PageDevice self.old) file → counts_of_pool self.new ≡ counts_of_pool self.old }
+        ensures full_round { IsFull (state_of M.PageDevice T.PageDevice self.old) file → round_of self.new ≡ round_of self.old }
+        ensures comes { IfOk result (λ pin. ComesIn (round_of self.old) (round_of self.new) (frame_of self.new pin.page)) }
+        ensures passes_next { OnErr result ((IsFull (state_of M.PageDevice T.PageDevice self.old) file → ⊥) → PassesNext (round_of self.old) (round_of self.new)) }
+        ensures unused { IsUnused (state_of M.PageDevice T.PageDevice self.old) → CallsNone (main_device self.old) (main_device self.new)
+            (temp_device self.old) (temp_device self.new) result (full_fault file) }
     {
         let page = self.parts.fresh(file)?;
         Ok(PoolPin { page })
@@ -92,12 +102,22 @@ impl<M: PageDevice, T: PageDevice> Pages for Pool<M, T> {
         frame.bytes.bytes_mut()
     }
 
-    fn unpin(&mut self, pin: PoolPin) {
+    fn unpin(&mut self, pin: PoolPin)
+        requires { (state_of M.PageDevice T.PageDevice self.old).pinned (key pin.page) ≡ true }
+        ensures after { state_of M.PageDevice T.PageDevice self.new ≡ without_pin (state_of M.PageDevice T.PageDevice self.old) (key pin.page) }
+        ensures round { round_of self.new ≡ without_out (round_of self.old) (frame_of self.old pin.page) }
+    {
         let PoolPin { page } = pin;
         self.parts.unpin(page);
     }
 
-    fn release(&mut self, page: PageId) {
+    fn release(&mut self, page: PageId)
+        requires taken { (state_of M.PageDevice T.PageDevice self.old).taken (key page) ≡ true }
+        requires not_pinned { (state_of M.PageDevice T.PageDevice self.old).pinned (key page) ≡ false }
+        requires no_heap { (state_of M.PageDevice T.PageDevice self.old).of_heap (key page) ≡ false }
+        ensures after { state_of M.PageDevice T.PageDevice self.new ≡ without_page (state_of M.PageDevice T.PageDevice self.old) (key page) }
+        ensures round { round_of self.new ≡ round_of self.old }
+    {
         self.parts.release(page);
     }
 
@@ -105,7 +125,12 @@ impl<M: PageDevice, T: PageDevice> Pages for Pool<M, T> {
         self.parts.store.maps.next(page)
     }
 
-    fn set_next(&mut self, page: PageId, next: Option<u32>) {
+    fn set_next(&mut self, page: PageId, next: Option<u32>)
+        requires taken { (state_of M.PageDevice T.PageDevice self.old).taken (key page) ≡ true }
+        requires no_heap { (state_of M.PageDevice T.PageDevice self.old).of_heap (key page) ≡ false }
+        ensures after { state_of M.PageDevice T.PageDevice self.new ≡ with_next (state_of M.PageDevice T.PageDevice self.old) (key page) next }
+        ensures round { round_of self.new ≡ round_of self.old }
+    {
         self.parts.set_next(page, next);
     }
 

@@ -12,13 +12,14 @@ pub(crate) struct Parts<M, T> {
 }
 
 impl<M: PageDevice, T: PageDevice> Parts<M, T> {
-    ghost use Rattle.std.specs.Prelude.{◌≡◌, ◌<◌, true, false, Ok, Some, OnOk, IfOk, length};
+    ghost use Rattle.std.specs.Prelude.{◌≡◌, ◌<◌, true, false, Ok, None, Some, OnOk, OnErr, IfOk, length};
     ghost use Rattle.hg_io.specs.Count.{raised};
     ghost use Rattle.hg_base.specs.Space.{key};
-    ghost use Rattle.hg_pool.specs.Picture.{frame_at, taken_at};
+    ghost use Rattle.hg_pool.specs.Picture.{frame_at, place_at, taken_at};
     ghost use Rattle.hg_pool.specs.Keeping.{is_inside, IsFoundAt};
     ghost use Rattle.hg_pool.specs.Shown.{IsWhole};
-    ghost use Rattle.hg_pool.specs.Passing.{PassesParts, Clears, IsClean, IsRoom};
+    ghost use Rattle.hg_pool.specs.Passing.{PassesParts, Clears, IsClean, IsRoom, AreEmpty, Reaches};
+    ghost use Rattle.hg_pool.specs.Round.{PassesNext, round_in};
     ghost use Rattle.hg_pool.specs.Work.{RoseOnce, PinWork};
 
     /// Writes the frame's page to its device.
@@ -31,6 +32,7 @@ impl<M: PageDevice, T: PageDevice> Parts<M, T> {
         ensures clears { Clears self.old.store self.new.store }
         ensures clean { OnOk result ((frame_at self.new.store.frames.items at).dirty ≡ false) }
         ensures pinned { (frame_at self.new.store.frames.items at).pinned ≡ (frame_at self.old.store.frames.items at).pinned }
+        ensures round { round_in self.new.store ≡ round_in self.old.store }
         ensures writes { RoseOnce self.old.store.counts.writes self.new.store.counts.writes }
         ensures evictions { self.new.store.counts.evictions ≡ self.old.store.counts.evictions }
     {
@@ -58,6 +60,9 @@ impl<M: PageDevice, T: PageDevice> Parts<M, T> {
         ensures clears { Clears self.old.store self.new.store }
         ensures clean { OnOk result (IsClean (frame_at self.new.store.frames.items at)) }
         ensures pinned { (frame_at self.new.store.frames.items at).pinned ≡ (frame_at self.old.store.frames.items at).pinned }
+        ensures round { round_in self.new.store ≡ round_in self.old.store }
+        ensures no_call { (frame_at self.old.store.frames.items at).page ≡ None → self.new.devices ≡ self.old.devices }
+        ensures no_fault { OnErr result ((frame_at self.old.store.frames.items at).page ≡ None → ⊥) }
         ensures writes { RoseOnce self.old.store.counts.writes self.new.store.counts.writes }
         ensures evictions { self.new.store.counts.evictions ≡ self.old.store.counts.evictions }
     {
@@ -76,6 +81,8 @@ impl<M: PageDevice, T: PageDevice> Parts<M, T> {
         ensures passes { PassesParts M.PageDevice T.PageDevice self.old self.new (Ok (tt {0})) }
         ensures clears { Clears self.old.store self.new.store }
         ensures room { IsRoom self.new.store at }
+        ensures round { round_in self.new.store ≡ round_in self.old.store }
+        ensures no_call { self.new.devices ≡ self.old.devices }
         ensures writes { self.new.store.counts.writes ≡ self.old.store.counts.writes }
         ensures evictions { RoseOnce self.old.store.counts.evictions self.new.store.counts.evictions }
     {
@@ -93,6 +100,10 @@ impl<M: PageDevice, T: PageDevice> Parts<M, T> {
         ensures passes { PassesParts M.PageDevice T.PageDevice self.old self.new result }
         ensures clears { Clears self.old.store self.new.store }
         ensures room { IfOk result (λ f. IsRoom self.new.store f) }
+        ensures reaches { IfOk result (Reaches (round_in self.old.store) (round_in self.new.store)) }
+        ensures passes_next { OnErr result (PassesNext (round_in self.old.store) (round_in self.new.store)) }
+        ensures no_call { AreEmpty self.old.store → self.new.devices ≡ self.old.devices }
+        ensures no_fault { OnErr result (AreEmpty self.old.store → ⊥) }
         ensures writes { RoseOnce self.old.store.counts.writes self.new.store.counts.writes }
         ensures evictions { RoseOnce self.old.store.counts.evictions self.new.store.counts.evictions }
     {
@@ -112,6 +123,7 @@ impl<M: PageDevice, T: PageDevice> Parts<M, T> {
         ensures found { OnOk result (IsFoundAt self.new.store page at) }
         ensures free { (frame_at self.new.store.frames.items at).pinned ≡ false }
         ensures pins { self.new.store.pins ≡ self.old.store.pins }
+        ensures round { round_in self.new.store ≡ round_in self.old.store }
         ensures read { self.new.store.counts ≡ record self.old.store.counts { reads = raised self.old.store.counts.reads 1 } }
         ensures once { RoseOnce self.old.store.counts.reads self.new.store.counts.reads }
     {
@@ -139,6 +151,11 @@ impl<M: PageDevice, T: PageDevice> Parts<M, T> {
         ensures passes { PassesParts M.PageDevice T.PageDevice self.old self.new result }
         ensures found { IfOk result (λ f. IsFoundAt self.new.store page f) }
         ensures pins { self.new.store.pins ≡ self.old.store.pins }
+        ensures stays { IfOk result (λ f. is_inside self.old.store (key page) ≡ true → f ≡ place_at self.old.store.places (key page)) }
+        ensures keeps_round { is_inside self.old.store (key page) ≡ true → round_in self.new.store ≡ round_in self.old.store }
+        ensures reaches { IfOk result (λ f. is_inside self.old.store (key page) ≡ false
+            → Reaches (round_in self.old.store) (round_in self.new.store) f) }
+        ensures passes_next { OnErr result (PassesNext (round_in self.old.store) (round_in self.new.store)) }
         ensures work { PinWork (is_inside self.old.store (key page)) self.old.store.counts self.new.store.counts result }
     {
         if let Some(at) = self.store.find(page) {

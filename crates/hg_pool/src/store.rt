@@ -5,6 +5,7 @@ ghost use Rattle.hg_pool.specs.Picture.{frame_at, place_at, taken_at, is_pinned}
 ghost use Rattle.hg_pool.specs.Sound.{IsShaped};
 ghost use Rattle.hg_pool.specs.Keeping.{places_in, with_place, with_frame, IsFoundAt, IsFullIn, is_inside, new_frame};
 ghost use Rattle.hg_pool.specs.Passing.{IsClean};
+ghost use Rattle.hg_pool.specs.Round.{IsNext, round_in};
 ghost use Rattle.hg_pool.specs.Work.{RoseOnce};
 ghost use Rattle.hg_io.specs.Count.{raised};
 
@@ -115,8 +116,10 @@ impl Store {
 
     /// The first frame from `from` on that no pin holds.
     fn unpinned_from(&self, from: usize) -> Option<usize>
+        ensures from { IfSome result (λ f. from ≤ f) }
         ensures there { IfSome result (λ f. f < length self.now.frames.items) }
         ensures free { IfSome result (λ f. (frame_at self.now.frames.items f).pinned ≡ false) }
+        ensures first { IfSome result (λ f. (k : ℕ) → from ≤ k → k < f → (frame_at self.now.frames.items k).pinned ≡ true) }
         ensures none { IfNone result ((k : ℕ) → from ≤ k → k < length self.now.frames.items
             → (frame_at self.now.frames.items k).pinned ≡ true) }
     {
@@ -134,6 +137,7 @@ impl Store {
         requires few { self.now.pins < 8 }
         ensures there { result < length self.now.frames.items }
         ensures free { (frame_at self.now.frames.items result).pinned ≡ false }
+        ensures first { (k : ℕ) → 0 ≤ k → k < result → (frame_at self.now.frames.items k).pinned ≡ true }
     {
         match self.unpinned_from(0) {
             Some(at) => at,
@@ -141,18 +145,26 @@ impl Store {
         }
     }
 
+    /// The next frame in the round that no pin holds.
+    fn next_unpinned(&self) -> usize
+        requires shaped { IsShaped self.now }
+        requires few { self.now.pins < 8 }
+        ensures { IsNext (round_in self.now) result }
+    {
+        match self.unpinned_from(self.hand) {
+            Some(at) => at,
+            None => self.first_unpinned(),
+        }
+    }
+
     /// The next frame in the round that no pin holds. The hand then stands behind it.
     pub(crate) fn victim(&mut self) -> usize
         requires shaped { IsShaped self.old }
         requires few { self.old.pins < 8 }
-        ensures there { result < length self.old.frames.items }
-        ensures free { (frame_at self.old.frames.items result).pinned ≡ false }
+        ensures next { IsNext (round_in self.old) result }
         ensures hand { self.new ≡ record self.old { hand = result + 1 } }
     {
-        let at = match self.unpinned_from(self.hand) {
-            Some(at) => at,
-            None => self.first_unpinned(),
-        };
+        let at = self.next_unpinned();
         self.hand = at + 1;
         at
     }

@@ -1,10 +1,15 @@
-use Rattle.std.proofs.Common.{sym, subst, OnErr, Result}
+use Rattle.std.proofs.Common.{◌≡◌, ◌∙◌, ap, sym, subst, IfErr, OnErr, Result, Ok, Err}
 use Rattle.std.proofs.lemmas.Result.{err_from_is_err_and}
-use Rattle.hg_base.specs.Space.{IsSame, IsMade}
+use Rattle.hg_base.specs.Space.{IsSame, IsMade, IsFull}
+use Rattle.hg_base.specs.Causes.{FreshFault, full_fault}
+use Rattle.hg_base.specs.declared.PageId.{PageId}
 use Rattle.hg_base.specs.declared.pages.PageFault.{PageFault}
-use Rattle.hg_pool.specs.Shown.{state_of}
+use Rattle.hg_pool.specs.Round.{ComesIn, PassesNext}
+use Rattle.hg_pool.specs.Shown.{state_of, frame_of, counts_of_pool, round_of, main_device, temp_device}
+use Rattle.hg_pool.specs.Work.{IsUnused, CallsNone}
 use Rattle.hg_pool.specs.declared.parts.Parts.{Parts}
 use Rattle.hg_pool.specs.declared.pages.PoolPin.{PoolPin}
+use Rattle.hg_pool.proofs.Rounds.{calls-none-ok, calls-none-err}
 use Rattle.hg_pool.proofs.pages.PoolPages.fresh.Goals as goal
 
 pub returns-in_err-page-clause-err : goal.returns-in_err-page-clause-err
@@ -18,3 +23,57 @@ pub returns-clause-ok : goal.returns-clause-ok
 returns-clause-ok g c =
     let P : Parts g.row.M.Denot g.row.T.Denot → Type 0 = λ s. IsMade c.args.file (state_of g.M.PageDevice g.T.PageDevice s) (state_of g.M.PageDevice g.T.PageDevice c.fresh.new.self) c.in_ok-page.page in
     subst P c.self.view_is c.in_ok-page.ensures.ok
+
+pub returns-in_err-page-clause-fault : goal.returns-in_err-page-clause-fault
+returns-in_err-page-clause-fault g c =
+    let new : Parts g.row.M.Denot g.row.T.Denot = c.fresh.new.self in
+    let p = err_from_is_err_and c.from_residual.result c.from_residual.ensures.1 in
+    let f : PageFault = c.in_err-page.field-0.0 in
+    let is : c.from_residual.result ≡ Err f = p.1 ∙ ap Err p.2 in
+    let P : Parts g.row.M.Denot g.row.T.Denot → Type 0 = λ s. FreshFault c.args.file (state_of g.M.PageDevice g.T.PageDevice s) (state_of g.M.PageDevice g.T.PageDevice new) f in
+    let Q : Result PoolPin PageFault → Type 0 = λ r. IfErr r (FreshFault c.args.file (state_of g.M.PageDevice g.T.PageDevice c.args.self.now) (state_of g.M.PageDevice g.T.PageDevice new)) in
+    subst Q (sym is) (subst P c.self.view_is c.in_err-page.ensures.fault)
+
+pub returns-in_err-page-clause-full_work : goal.returns-in_err-page-clause-full_work
+returns-in_err-page-clause-full_work g c =
+    let P : Parts g.row.M.Denot g.row.T.Denot → Type 0 = λ s. IsFull (state_of g.M.PageDevice g.T.PageDevice s) c.args.file → counts_of_pool c.fresh.new.self ≡ counts_of_pool s in
+    subst P c.self.view_is c.in_err-page.ensures.full_work
+
+pub returns-in_err-page-clause-full_round : goal.returns-in_err-page-clause-full_round
+returns-in_err-page-clause-full_round g c =
+    let P : Parts g.row.M.Denot g.row.T.Denot → Type 0 = λ s. IsFull (state_of g.M.PageDevice g.T.PageDevice s) c.args.file → round_of c.fresh.new.self ≡ round_of s in
+    subst P c.self.view_is c.in_err-page.ensures.full_round
+
+pub returns-in_err-page-clause-passes_next : goal.returns-in_err-page-clause-passes_next
+returns-in_err-page-clause-passes_next g c =
+    let p = err_from_is_err_and c.from_residual.result c.from_residual.ensures.1 in
+    let P : Parts g.row.M.Denot g.row.T.Denot → Type 0 = λ s. (IsFull (state_of g.M.PageDevice g.T.PageDevice s) c.args.file → ⊥) → PassesNext (round_of s) (round_of c.fresh.new.self) in
+    let Q : Result PoolPin PageFault → Type 0 = λ r. OnErr r (P c.args.self.now) in
+    subst Q (sym p.1) (subst P c.self.view_is c.in_err-page.ensures.passes_next)
+
+pub returns-in_err-page-clause-unused : goal.returns-in_err-page-clause-unused
+returns-in_err-page-clause-unused g c =
+    let new : Parts g.row.M.Denot g.row.T.Denot = c.fresh.new.self in
+    let p = err_from_is_err_and c.from_residual.result c.from_residual.ensures.1 in
+    let f : PageFault = c.in_err-page.field-0.0 in
+    let is : c.from_residual.result ≡ Err f = p.1 ∙ ap Err p.2 in
+    let P : Parts g.row.M.Denot g.row.T.Denot → Type 0 = λ s. IsUnused (state_of g.M.PageDevice g.T.PageDevice s)
+    → CallsNone {X = PageId} (main_device s) (main_device new) (temp_device s) (temp_device new) (Err f) (full_fault c.args.file) in
+    let Q : Result PoolPin PageFault → Type 0 = λ r. CallsNone (main_device c.args.self.now) (main_device new) (temp_device c.args.self.now) (temp_device new) r (full_fault c.args.file) in
+    λ unused. subst Q (sym is) (calls-none-err (main_device c.args.self.now) (main_device new) (temp_device c.args.self.now) (temp_device new) f (full_fault c.args.file)
+    (subst P c.self.view_is c.in_err-page.ensures.unused unused))
+
+pub returns-clause-comes : goal.returns-clause-comes
+returns-clause-comes g c =
+    let P : Parts g.row.M.Denot g.row.T.Denot → Type 0 = λ s. ComesIn (round_of s) (round_of c.fresh.new.self) (frame_of c.fresh.new.self c.in_ok-page.page) in
+    subst P c.self.view_is c.in_ok-page.ensures.comes
+
+pub returns-clause-unused : goal.returns-clause-unused
+returns-clause-unused g c =
+    let new : Parts g.row.M.Denot g.row.T.Denot = c.fresh.new.self in
+    let page : PageId = c.in_ok-page.page in
+    let pin : PoolPin = record { page = page } in
+    let P : Parts g.row.M.Denot g.row.T.Denot → Type 0 = λ s. IsUnused (state_of g.M.PageDevice g.T.PageDevice s)
+    → CallsNone (main_device s) (main_device new) (temp_device s) (temp_device new) (Ok page) (full_fault c.args.file) in
+    λ unused. calls-none-ok (main_device c.args.self.now) (main_device new) (temp_device c.args.self.now) (temp_device new) page pin (full_fault c.args.file)
+    (subst P c.self.view_is c.in_ok-page.ensures.unused unused)

@@ -1,10 +1,12 @@
-use Rattle.std.proofs.Common.{◌≡◌, ℕ, ◌∙◌, ap, sym, subst, Ok, None}
+use Rattle.std.proofs.Common.{◌≡◌, ℕ, ◌∙◌, ap, sym, subst, refl, Ok, None}
 use Rattle.hg_pool.specs.Disks.{Disks, disks_in}
 use Rattle.hg_pool.specs.Picture.{frame_at}
 use Rattle.hg_pool.specs.Keeping.{with_frame}
 use Rattle.hg_pool.specs.Passing.{Passes}
 use Rattle.hg_pool.specs.declared.store.Store.{Store}
 use Rattle.hg_pool.proofs.Passing.{cleared, recounted}
+use Rattle.hg_pool.specs.Round.{round_in}
+use Rattle.hg_pool.proofs.Rounds.{round-same}
 use Rattle.hg_pool.proofs.parts.Parts.empty.Goals as goal
 
 pub returns-clause-passes : goal.returns-clause-passes
@@ -17,3 +19,10 @@ returns-clause-passes g c =
     recounted z c.set_empty.new.self _ c.count_eviction.ensures.counted ∙ ap (λ (y : Store). record y { counts = z.counts }) c.set_empty.ensures in
     let P : Store → Type 0 = λ y. Passes {X = Unit {0}} d s d y (Ok tt) in
     subst P (sym after) (cleared d s z.counts i tt c.requires.whole c.requires.there c.requires.clean c.requires.free)
+
+pub returns-clause-round : goal.returns-clause-round
+returns-clause-round g c =
+    let s : Store = c.args.self.now.store in
+    let i : ℕ = c.args.at in
+    ap round_in c.count_eviction.ensures.counted ∙ ap round_in c.set_empty.ensures
+    ∙ round-same s i (record (frame_at s.frames.items i) { page = None }) c.requires.there refl

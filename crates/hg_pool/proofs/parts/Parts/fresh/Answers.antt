@@ -1,14 +1,19 @@
-use Rattle.std.proofs.Common.{◌≡◌, ◌+◌, ◌<◌, ◌∙◌, ap, sym, subst, refl, arith}
-use Rattle.hg_base.specs.Space.{key, IsMade}
+use Rattle.std.proofs.Common.{◌≡◌, ℕ, ◌+◌, ◌<◌, ◌∙◌, ap, sym, subst, refl, arith, Result, OnErr}
+use Rattle.hg_base.specs.Space.{key, IsMade, IsFull}
 use Rattle.hg_base.specs.declared.PageId.{PageId}
+use Rattle.hg_base.specs.declared.pages.PageFault.{PageFault}
 use Rattle.hg_pool.specs.Disks.{Disks, disks_in}
-use Rattle.hg_pool.specs.Picture.{shown, picture_of}
+use Rattle.hg_pool.specs.Picture.{shown, picture_of, place_at}
 use Rattle.hg_pool.specs.Sound.{IsSound}
-use Rattle.hg_pool.specs.Keeping.{with_frame, with_place, new_frame, IsFullIn, is_inside}
+use Rattle.hg_pool.specs.Keeping.{places_in, with_frame, with_place, new_frame, IsFullIn, is_inside}
 use Rattle.hg_pool.specs.declared.maps.Maps.{Maps}
 use Rattle.hg_pool.specs.declared.store.Store.{Store}
 use Rattle.std.proofs.lemmas.Bool.{false≢true}
+use Rattle.std.proofs.lemmas.Result.{err_from_is_err_and}
 use Rattle.hg_pool.proofs.Calling.{makes-page, made-behind}
+use Rattle.hg_pool.specs.Round.{PassesNext, with_out, round_in}
+use Rattle.hg_pool.proofs.Ranges.{free-place}
+use Rattle.hg_pool.proofs.Rounds.{round-held, comes-in, noted-place, all-empty}
 use Rattle.hg_pool.proofs.parts.Parts.fresh.Goals as goal
 
 pub unreachable-requires : goal.unreachable-requires
@@ -57,3 +62,38 @@ returns-clause-in_frame g c =
     let made : Store = record (with_frame z c.in_ok-at.at (new_frame page)) { places = with_place z.places page c.in_ok-at.at; pins = z.pins + 1; maps = c.take.new.self } in
     let after : c.set_new.new.self ≡ made = c.set_new.ensures in
     ap (λ (y : Store). is_inside y (key page)) after ∙ makes.inside
+
+pub returns-clause-comes : goal.returns-clause-comes
+returns-clause-comes g c =
+    let s : Store = c.args.self.now.store in
+    let z : Store = c.room.new.self.store in
+    let i : ℕ = c.in_ok-at.at in
+    let page : PageId = record { file = c.args.file; no = c.in-Some.no } in
+    let in_range : c.in-Some.no < places_in z.places c.args.file = free-place z c.take.new.self c.args.file c.in-Some.no c.in_ok-at.ensures.passes.whole.shape c.in-Some.ensures.some in
+    let held : round_in c.set_new.new.self ≡ with_out (round_in z) i = ap round_in c.set_new.ensures ∙ round-held z i (new_frame page) c.in_ok-at.ensures.room.there refl in
+    let place : place_at c.set_new.new.self.places (key page) ≡ i = ap (λ (y : Store). place_at y.places (key page)) c.set_new.ensures ∙ noted-place z page i in_range in
+    comes-in (round_in s) (round_in z) (round_in c.set_new.new.self) i _ c.in_ok-at.ensures.reaches held place
+
+pub returns-in_err-at-clause-passes_next : goal.returns-in_err-at-clause-passes_next
+returns-in_err-at-clause-passes_next g c =
+    let s : Store = c.args.self.now.store in
+    let d : Disks = disks_in g.M.PageDevice g.T.PageDevice c.args.self.now.devices in
+    let p = err_from_is_err_and c.from_residual.result c.from_residual.ensures.1 in
+    let P : Result PageId PageFault → Type 0 = λ r. OnErr r ((IsFull (shown (picture_of d s)) c.args.file → ⊥) → PassesNext (round_in s) (round_in c.room.new.self.store)) in
+    subst P (sym p.1) (λ _. c.in_err-at.ensures.passes_next)
+
+pub returns-clause-unused : goal.returns-clause-unused
+returns-clause-unused g c =
+    let s : Store = c.args.self.now.store in
+    let d : Disks = disks_in g.M.PageDevice g.T.PageDevice c.args.self.now.devices in
+    λ unused. let same = c.in_ok-at.ensures.no_call (all-empty d s c.requires.whole unused) in record {
+      main_same = ap (λ e. e.main) same;
+      temp_same = ap (λ e. e.temp) same;
+      only_full = tt;
+    }
+
+pub returns-in_err-at-clause-unused : goal.returns-in_err-at-clause-unused
+returns-in_err-at-clause-unused g c =
+    let s : Store = c.args.self.now.store in
+    let d : Disks = disks_in g.M.PageDevice g.T.PageDevice c.args.self.now.devices in
+    λ unused. absurd (c.in_err-at.ensures.no_fault (all-empty d s c.requires.whole unused))

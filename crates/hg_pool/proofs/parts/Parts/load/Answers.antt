@@ -1,4 +1,4 @@
-use Rattle.std.proofs.Common.{◌≡◌, ℕ, ◌∙◌, ap, sym, subst, Ok, Err, Some, false, slice_index_or}
+use Rattle.std.proofs.Common.{◌≡◌, ℕ, ◌<◌, ◌∙◌, ap, sym, subst, length, Ok, Err, Some, false, slice_index_or}
 use Rattle.hg_base.specs.declared.PageId.{PageId}
 use Rattle.hg_pool.specs.Disks.{Disks, disks_in}
 use Rattle.hg_pool.specs.Picture.{frame_at}
@@ -10,6 +10,8 @@ use Rattle.hg_pool.specs.declared.store.Store.{Store}
 use Rattle.hg_pool.proofs.Counting.{frame-here}
 use Rattle.hg_pool.proofs.Passing.{read-not, read-in, recounted, counted-later}
 use Rattle.hg_pool.proofs.Ranges.{has-place}
+use Rattle.hg_pool.specs.Round.{round_in}
+use Rattle.hg_pool.proofs.Rounds.{round-same}
 use Rattle.hg_pool.proofs.parts.Parts.load.Goals as goal
 
 pub returns-in-Err-clause-passes : goal.returns-in-Err-clause-passes
@@ -55,3 +57,25 @@ returns-in-Ok-clause-passes g c =
     let P : Store → Type 0 = λ z. Passes {X = Unit {0}} d s e z (Ok tt) in
     subst P (sym after) (read-in d e s w.counts i y.bytes p tt c.requires.whole c.requires.room
     c.fill.ensures.keeps c.in-Ok.ensures.cause c.fill.ensures.whole c.in-Ok.ensures.gives c.requires.taken c.requires.out (has-place s p c.requires.whole.shape c.requires.taken))
+
+pub returns-in-Err-clause-round : goal.returns-in-Err-clause-round
+returns-in-Err-clause-round g c =
+    let w : Store = c.count_read.new.self in
+    let i : ℕ = c.args.at in
+    let P : Store → Type 0 = λ z. i < length z.frames.items in
+    let there : i < length w.frames.items = subst P (sym c.count_read.ensures.counted) c.requires.room.there in
+    round-same w i c.fill.new.frame there
+    (ap (λ (y : Frame). y.pinned) (c.fill.ensures.rest ∙ ap (λ (y : Frame). record y { bytes = c.fill.new.frame.bytes })
+    (frame-here w.frames.items i c.index_mut-frame.result.now there c.index_mut-frame.ensures.value)))
+    ∙ ap round_in c.count_read.ensures.counted
+
+pub returns-in-Ok-clause-round : goal.returns-in-Ok-clause-round
+returns-in-Ok-clause-round g c =
+    let w : Store = c.count_read.new.self in
+    let i : ℕ = c.args.at in
+    let P : Store → Type 0 = λ z. i < length z.frames.items in
+    let there : i < length w.frames.items = subst P (sym c.count_read.ensures.counted) c.requires.room.there in
+    round-same w i (record c.fill.new.frame { page = Some c.args.page; dirty = false }) there
+    (ap (λ (y : Frame). y.pinned) (c.fill.ensures.rest ∙ ap (λ (y : Frame). record y { bytes = c.fill.new.frame.bytes })
+    (frame-here w.frames.items i c.index_mut-frame.result.now there c.index_mut-frame.ensures.value)))
+    ∙ ap round_in c.count_read.ensures.counted

@@ -1,4 +1,4 @@
-use Rattle.std.proofs.Common.{◌≡◌, ◌∙◌, ap, sym, subst, None, false}
+use Rattle.std.proofs.Common.{◌≡◌, ◌∙◌, ap, sym, subst, refl, None, false}
 use Rattle.hg_base.specs.Space.{key, at}
 use Rattle.hg_pool.specs.Disks.{Disks, disks_in}
 use Rattle.hg_pool.specs.Picture.{shown, picture_of, frame_at, taken_at, next_at}
@@ -7,6 +7,8 @@ use Rattle.hg_pool.specs.Keeping.{with_frame, MapsAfter}
 use Rattle.hg_pool.specs.declared.maps.Maps.{Maps}
 use Rattle.hg_pool.specs.declared.store.Store.{Store}
 use Rattle.hg_pool.proofs.Calling.{gives-back, gives-back-out}
+use Rattle.hg_pool.specs.Round.{round_in}
+use Rattle.hg_pool.proofs.Rounds.{round-same}
 use Rattle.hg_pool.proofs.parts.Parts.release.Goals as goal
 
 pub returns-in-Some-clause-whole : goal.returns-in-Some-clause-whole
@@ -46,3 +48,8 @@ returns-in-None-clause-after g c =
     let d : Disks = disks_in g.M.PageDevice g.T.PageDevice c.args.self.now.devices in
     let ends = gives-back-out d s c.release-in-None.new.self c.args.page c.requires.whole c.in-None.ensures.none c.release-in-None.ensures in
     ends.after
+
+pub returns-in-Some-clause-round : goal.returns-in-Some-clause-round
+returns-in-Some-clause-round g c =
+    let s : Store = c.args.self.now.store in
+    ap round_in c.set_empty.ensures ∙ round-same s c.in-Some.at (record (frame_at s.frames.items c.in-Some.at) { page = None }) c.in-Some.ensures.found.there refl

@@ -1,10 +1,12 @@
-use Rattle.std.proofs.Common.{◌≡◌, ℕ, ◌+◌, ◌∙◌, ap, sym, subst, Ok, Err, arith, Result}
+use Rattle.std.proofs.Common.{◌≡◌, ℕ, ◌+◌, ◌∙◌, ap, sym, subst, None, Ok, Err, OnErr, arith, Result}
 use Rattle.hg_base.specs.declared.pages.PageFault.{PageFault}
 use Rattle.hg_pool.specs.Disks.{Disks, disks_in}
-use Rattle.hg_pool.specs.Passing.{Passes}
+use Rattle.hg_pool.specs.Passing.{Passes, AreEmpty}
 use Rattle.hg_pool.specs.declared.store.Store.{Store}
 use Rattle.std.proofs.lemmas.Result.{err_from_is_err_and}
 use Rattle.hg_pool.proofs.Passing.{moved-hand, passes-then, passes-err, passes-ok}
+use Rattle.hg_pool.specs.Picture.{frame_at}
+use Rattle.hg_pool.specs.Round.{PassesNext, round_in}
 use Rattle.hg_pool.proofs.parts.Parts.room.Goals as goal
 
 pub returns-in_err-clean-clause-passes : goal.returns-in_err-clean-clause-passes
@@ -32,3 +34,40 @@ returns-clause-passes g c =
     let second = passes-then d d e s c.victim-at.new.self c.clean.new.self.store (Ok u) (Ok u) first c.in_ok-clean.ensures.passes in
     passes-ok d k s c.empty.new.self.store u c.victim-at.result
     (passes-then d e k s c.clean.new.self.store c.empty.new.self.store (Ok u) (Ok u) second c.empty.ensures.passes)
+
+pub returns-in_err-clean-clause-passes_next : goal.returns-in_err-clean-clause-passes_next
+returns-in_err-clean-clause-passes_next g c =
+    let s : Store = c.args.self.now.store in
+    let p = err_from_is_err_and c.from_residual.result c.from_residual.ensures.1 in
+    let P : Result ℕ PageFault → Type 0 = λ r. OnErr r (PassesNext (round_in s) (round_in c.clean.new.self.store)) in
+    subst P (sym p.1) (record {
+      frame = c.victim-at.result;
+      next = c.victim-at.ensures.next;
+      after = c.in_err-clean.ensures.round ∙ ap round_in c.victim-at.ensures.hand;
+    })
+
+-- where no frame has a page, the victim has none
+victim-empty : (s z : Store) (hand f : ℕ) → z ≡ record s { hand = hand } → AreEmpty s → (frame_at z.frames.items f).page ≡ None
+victim-empty s z hand f e h = ap (λ (y : Store). (frame_at y.frames.items f).page) e ∙ h f
+
+pub returns-in_err-clean-clause-no_call : goal.returns-in_err-clean-clause-no_call
+returns-in_err-clean-clause-no_call g c =
+    λ h. c.in_err-clean.ensures.no_call (victim-empty c.args.self.now.store c.victim-at.new.self (c.victim-at.result + 1) c.victim-at.result c.victim-at.ensures.hand h)
+
+pub returns-in_err-clean-clause-no_fault : goal.returns-in_err-clean-clause-no_fault
+returns-in_err-clean-clause-no_fault g c =
+    let s : Store = c.args.self.now.store in
+    let p = err_from_is_err_and c.from_residual.result c.from_residual.ensures.1 in
+    let P : Result ℕ PageFault → Type 0 = λ r. OnErr r (AreEmpty s → ⊥) in
+    subst P (sym p.1) (λ h. c.in_err-clean.ensures.no_fault (victim-empty s c.victim-at.new.self (c.victim-at.result + 1) c.victim-at.result c.victim-at.ensures.hand h))
+
+pub returns-clause-reaches : goal.returns-clause-reaches
+returns-clause-reaches g c = record {
+  next = c.victim-at.ensures.next;
+  after = c.empty.ensures.round ∙ c.in_ok-clean.ensures.round ∙ ap round_in c.victim-at.ensures.hand;
+}
+
+pub returns-clause-no_call : goal.returns-clause-no_call
+returns-clause-no_call g c =
+    λ h. c.empty.ensures.no_call
+    ∙ c.in_ok-clean.ensures.no_call (victim-empty c.args.self.now.store c.victim-at.new.self (c.victim-at.result + 1) c.victim-at.result c.victim-at.ensures.hand h)

@@ -1,11 +1,14 @@
-use Rattle.std.proofs.Common.{◌≡◌, ℕ, ◌-◌, ◌∙◌, ap, sym, subst, false}
+use Rattle.std.proofs.Common.{◌≡◌, ℕ, ◌-◌, ◌<◌, ◌∙◌, ap, sym, subst, refl, length, false}
 use Rattle.hg_base.specs.Space.{key}
 use Rattle.hg_pool.specs.Disks.{Disks, disks_in}
 use Rattle.hg_pool.specs.Picture.{shown, picture_of, frame_at, place_at}
 use Rattle.hg_pool.specs.Sound.{IsSound}
-use Rattle.hg_pool.specs.Keeping.{with_frame}
+use Rattle.hg_pool.specs.Keeping.{with_frame, is_inside}
+use Rattle.hg_pool.specs.Loans.{frame-in, and-left}
 use Rattle.hg_pool.specs.declared.store.Store.{Store}
 use Rattle.hg_pool.proofs.Calling.{lets-go}
+use Rattle.hg_pool.specs.Round.{round_in}
+use Rattle.hg_pool.proofs.Rounds.{round-let_go}
 use Rattle.hg_pool.proofs.parts.Parts.unpin.Goals as goal
 
 pub returns-clause-whole : goal.returns-clause-whole
@@ -26,3 +29,12 @@ returns-clause-after g c =
     let after : c.let_go.new.self ≡ record (with_frame s (place_at s.places (key c.args.page)) (record (frame_at s.frames.items (place_at s.places (key c.args.page))) { pinned = false })) { pins = s.pins - 1 } =
     c.let_go.ensures ∙ ap (λ (i : ℕ). record (with_frame s i (record (frame_at s.frames.items i) { pinned = false })) { pins = s.pins - 1 }) at_is in
     ap (λ (z : Store). shown (picture_of d z)) after ∙ (lets-go d s c.args.page c.requires.whole c.requires.pinned).after
+
+pub returns-clause-round : goal.returns-clause-round
+returns-clause-round g c =
+    let s : Store = c.args.self.now.store in
+    let i : ℕ = place_at s.places (key c.args.page) in
+    let there : i < length s.frames.items = frame-in s.frames.items i (key c.args.page) (and-left (is_inside s (key c.args.page)) (frame_at s.frames.items i).pinned c.requires.pinned) in
+    ap round_in c.let_go.ensures
+    ∙ ap (λ (k : ℕ). round_in (with_frame s k (record (frame_at s.frames.items k) { pinned = false }))) c.at-at.ensures
+    ∙ round-let_go s i (record (frame_at s.frames.items i) { pinned = false }) there refl

@@ -1,4 +1,4 @@
-use Rattle.std.proofs.Common.{◌≡◌, ℕ, ◌∙◌, ap, sym, subst, Ok, Err, false, slice_index_or}
+use Rattle.std.proofs.Common.{◌≡◌, ℕ, ◌<◌, ◌∙◌, ap, sym, subst, refl, length, Ok, Err, false, slice_index_or}
 use Rattle.hg_pool.specs.Disks.{Disks, disks_in}
 use Rattle.hg_pool.specs.Picture.{frame_at}
 use Rattle.hg_pool.specs.Keeping.{with_frame}
@@ -11,6 +11,8 @@ use Rattle.hg_pool.specs.declared.store.Store.{Store}
 use Rattle.hg_pool.proofs.Counting.{frame-here}
 use Rattle.hg_pool.proofs.Ranges.{held-on-device}
 use Rattle.hg_pool.proofs.Passing.{wrote, wrote-not, counted-later}
+use Rattle.hg_pool.specs.Round.{round_in}
+use Rattle.hg_pool.proofs.Rounds.{round-same}
 use Rattle.hg_pool.proofs.parts.Parts.write_back.Goals as goal
 
 pub write-requires-clause-in_range : goal.write-requires-clause-in_range
@@ -46,3 +48,14 @@ returns-in-Ok-clause-passes g c =
     (c.index.ensures ∙ ap (λ (z : Store). slice_index_or z.frames.items i c.index.result.now) moved)) in
     subst P (sym after) (wrote d e s w.counts i c.args.page tt c.requires.whole c.requires.there c.requires.page c.write.ensures.keeps c.in-Ok.ensures.cause
     (λ t. c.in-Ok.ensures.puts t ∙ bytes))
+
+pub returns-in-Err-clause-round : goal.returns-in-Err-clause-round
+returns-in-Err-clause-round g c = ap round_in c.count_write.ensures.counted
+
+pub returns-in-Ok-clause-round : goal.returns-in-Ok-clause-round
+returns-in-Ok-clause-round g c =
+    let w : Store = c.count_write.new.self in
+    let i : ℕ = c.args.at in
+    let P : Store → Type 0 = λ z. i < length z.frames.items in
+    let there : i < length w.frames.items = subst P (sym c.count_write.ensures.counted) c.requires.there in
+    ap round_in c.set_clean.ensures ∙ round-same w i (record (frame_at w.frames.items i) { dirty = false }) there refl ∙ ap round_in c.count_write.ensures.counted
