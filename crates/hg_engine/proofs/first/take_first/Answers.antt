@@ -1,5 +1,4 @@
 use Rattle.std.proofs.Common.{ap}
-use Rattle.hg_io.specs.declared.device.PageDevice.{Ghosts}
 use Rattle.hg_pool.specs.Shown.{state_of}
 use Rattle.hg_engine.proofs.FirstPage.{takes-first, not-full, made-pinned}
 use Rattle.hg_engine.proofs.first.take_first.Goals as goal
@@ -8,13 +7,13 @@ pub unpin-requires : goal.unpin-requires
 unpin-requires g c =
     made-pinned (state_of g.M.PageDevice g.T.PageDevice c.args.pool.now) (state_of g.M.PageDevice g.T.PageDevice c.fresh.new.self) c.in-Ok.pin.page (c.in-Ok.ensures {u = tt}).ok
 
-pub returns-in-Ok : goal.returns-in-Ok
-returns-in-Ok g c =
+pub returns : goal.returns
+returns g c =
     let none = c.fresh.ensures.unused c.requires.unused in
     takes-first (state_of g.M.PageDevice g.T.PageDevice c.args.pool.now) (state_of g.M.PageDevice g.T.PageDevice c.fresh.new.self) (state_of g.M.PageDevice g.T.PageDevice c.unpin.new.self)
     c.in-Ok.pin.page c.requires.out (c.in-Ok.ensures {u = tt}).ok c.unpin.ensures.after (ap g.M.PageDevice.faults none.main_same) (ap g.T.PageDevice.faults none.temp_same)
 
 pub unreachable-requires : goal.unreachable-requires
 unreachable-requires g c =
-    not-full (state_of g.M.PageDevice g.T.PageDevice c.args.pool.now) (state_of g.M.PageDevice g.T.PageDevice c.fresh.new.self) c.in-Err.fault
+    not-full (state_of g.M.PageDevice g.T.PageDevice c.args.pool.now) (state_of g.M.PageDevice g.T.PageDevice c.fresh.new.self) c.in-Err.field-0
     c.requires.unused c.requires.room ((c.in-Err.ensures {u = tt}).unused c.requires.unused).only_full (c.in-Err.ensures {u = tt}).fault

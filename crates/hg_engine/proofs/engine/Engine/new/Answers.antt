@@ -1,9 +1,16 @@
-use Rattle.std.proofs.Common.{ap, ◌∙◌}
+use Rattle.std.proofs.Common.{ap, ◌∙◌, arith}
 use Rattle.hg_base.specs.Space.{Space}
 use Rattle.hg_base.specs.declared.File.TheVariants.{Main}
 use Rattle.hg_pool.specs.Shown.{state_of}
 use Rattle.hg_engine.proofs.FirstPage.{opened}
 use Rattle.hg_engine.proofs.engine.Engine.new.Goals as goal
+
+pub take_first-requires-clause-unused : goal.take_first-requires-clause-unused
+take_first-requires-clause-unused g c q = ap (λ (s : Space). s.taken q) (c.in-Ok-new.ensures {u = tt}).start
+
+pub take_first-requires-clause-room : goal.take_first-requires-clause-room
+take_first-requires-clause-room g c =
+    let limit = ap (λ (s : Space). s.limit Main) (c.in-Ok-new.ensures {u = tt}).start in omega (arith, limit, c.requires.main_least)
 
 pub returns-clause-start : goal.returns-clause-start
 returns-clause-start g c =
