@@ -60,10 +60,11 @@ pub fn run<S: Source, K: Sink, M: PageDevice, T: PageDevice>(
         (outside (S.left source.old) (S.given source.old) (K.written sink.old) (faults_over M.PageDevice T.PageDevice main temp))
         (outside (S.left source.new) (S.given source.new) (K.written sink.new) (faults_over M.PageDevice T.PageDevice result.main result.temp)) true }
 
-    // Usage exactly where there is a word; nothing is read or written then.
+    // Usage exactly where there is a word; nothing is read or written then, and no device is called.
     ensures usage { (result.status ≡ Status.Usage) ↔ (0 < vec_len words.now) }
     ensures usage_reads_nothing { result.status ≡ Status.Usage → source.new ≡ source.old }
     ensures usage_writes_nothing { result.status ≡ Status.Usage → sink.new ≡ sink.old }
+    ensures usage_calls_no_device { result.status ≡ Status.Usage → (result.main ≡ main) × (result.temp ≡ temp) }
 
     // A fault only where that count rose; after a source fault the lines read whole were answered, and
     // no part of a line was run; after a sink fault a front of such replies was written.
@@ -83,9 +84,10 @@ pub fn run<S: Source, K: Sink, M: PageDevice, T: PageDevice>(
     ensures too_long_always { S.given source.new < 2 ^ 64 - 1 → S.given source.new ≡ S.given source.old + 2 ^ 32
         → (result.status ≡ Status.TooLong) ⊎ (result.status ≡ Status.SinkFault) }
 
-    // Want of memory comes at opening alone; nothing is read or written then.
+    // Want of memory comes at opening alone; nothing is read or written then, and no device is called.
     ensures no_memory_reads_nothing { result.status ≡ Status.NoMemory → source.new ≡ source.old }
     ensures no_memory_writes_nothing { result.status ≡ Status.NoMemory → sink.new ≡ sink.old }
+    ensures no_memory_calls_no_device { result.status ≡ Status.NoMemory → (result.main ≡ main) × (result.temp ≡ temp) }
 {
     if !words.is_empty() {
         return Outcome {
