@@ -1,7 +1,7 @@
 //! Runs a script: reads its lines from a source, answers each by an engine, and writes the replies to
 //! a sink. It stands on the traits of the outside (`hg_io`), on the plain machine (`hg_machine`), on the
-//! seam to an engine (`hg_reply`) and, for the top call alone, on the engine (`hg_engine`). Memory is taken
-//! at opening alone.
+//! seam to an engine (`hg_reply`) and, for its two public calls, on the engine (`hg_engine`). Memory is
+//! taken at opening alone.
 //!
 //! The contract used above is that of `run`: for any bytes of a script and any faults of
 //! source, sink and devices, what is written is the text of a run of the plain machine over the lines

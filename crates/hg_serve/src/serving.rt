@@ -4,13 +4,15 @@ ghost use Rattle.hg_io.specs.Count.{raised, Rose, HasCause};
 ghost use Rattle.hg_io.specs.Bytes.{Reads};
 ghost use Rattle.hg_machine.specs.State.{State};
 ghost use Rattle.hg_machine.specs.Outcome.{Took, AnswersAll, AnswersWholeLines, AnswersUpToLimit, AnswersInPart};
+ghost use Rattle.hg_engine.specs.Shown.{IsEngineOf, told_of, faults_of, is_pending};
 ghost use Rattle.hg_serve.specs.Output.{NoneFell};
 ghost use Rattle.hg_serve.specs.Ending.{Ends, ReadsSome, TakesSoMany, outside};
 ghost use Rattle.hg_serve.specs.Run.{RunFrom};
 
 use crate::session::Session;
 use crate::statuses::Status;
-use hg_io::{Failed, Sink, Source};
+use hg_engine::Engine;
+use hg_io::{Failed, PageDevice, Sink, Source};
 use hg_reply::Machine;
 
 /// How many bytes of a script are taken at most.
@@ -88,39 +90,43 @@ fn read_and_answer<E: Machine, S: Source, K: Sink>(
 /// In the clauses, the outside is what source, sink and engine tell at one moment: the bytes left, the
 /// count of bytes given, the bytes written, and the devices' counts of faults. The replies are those of
 /// the machine from whatever state the engine stood for, to one that it stands for afterwards.
-pub fn serve<E: Machine, S: Source, K: Sink>(engine: &mut E, source: &mut S, sink: &mut K) -> Status
-    requires idle { E.pending engine.old ≡ false }
-    requires stands { (s : State) × E.stands engine.old s }
+pub fn serve<S: Source, K: Sink, M: PageDevice, T: PageDevice>(
+    engine: &mut Engine<M, T>,
+    source: &mut S,
+    sink: &mut K,
+) -> Status
+    requires idle { is_pending engine.old ≡ false }
+    requires stands { (s : State) × IsEngineOf M.PageDevice T.PageDevice engine.old s }
 
     // The script was read to its end, and what is written is the text of a run of the machine over all
     // its lines, with an error line exactly where the status is Errors.
-    ensures clean { result ≡ Status.Clean → (first : State) → E.stands engine.old first
-        → AnswersAll (RunFrom E.stands engine.new (E.told engine.old) first)
-        (outside (S.left source.old) (S.given source.old) (K.written sink.old) (E.faults engine.old))
-        (outside (S.left source.new) (S.given source.new) (K.written sink.new) (E.faults engine.new)) false }
-    ensures errors { result ≡ Status.Errors → (first : State) → E.stands engine.old first
-        → AnswersAll (RunFrom E.stands engine.new (E.told engine.old) first)
-        (outside (S.left source.old) (S.given source.old) (K.written sink.old) (E.faults engine.old))
-        (outside (S.left source.new) (S.given source.new) (K.written sink.new) (E.faults engine.new)) true }
+    ensures clean { result ≡ Status.Clean → (first : State) → IsEngineOf M.PageDevice T.PageDevice engine.old first
+        → AnswersAll (RunFrom (IsEngineOf M.PageDevice T.PageDevice) engine.new (told_of M.PageDevice T.PageDevice engine.old) first)
+        (outside (S.left source.old) (S.given source.old) (K.written sink.old) (faults_of M.PageDevice T.PageDevice engine.old))
+        (outside (S.left source.new) (S.given source.new) (K.written sink.new) (faults_of M.PageDevice T.PageDevice engine.new)) false }
+    ensures errors { result ≡ Status.Errors → (first : State) → IsEngineOf M.PageDevice T.PageDevice engine.old first
+        → AnswersAll (RunFrom (IsEngineOf M.PageDevice T.PageDevice) engine.new (told_of M.PageDevice T.PageDevice engine.old) first)
+        (outside (S.left source.old) (S.given source.old) (K.written sink.old) (faults_of M.PageDevice T.PageDevice engine.old))
+        (outside (S.left source.new) (S.given source.new) (K.written sink.new) (faults_of M.PageDevice T.PageDevice engine.new)) true }
 
     // A fault only where that count rose; after a source fault the lines read whole were answered, and
     // no part of a line was run; after a sink fault a front of such replies was written.
     ensures source_fault { result ≡ Status.SourceFault → Rose (S.faults source.old) (S.faults source.new) }
-    ensures source_fault_answers { result ≡ Status.SourceFault → (first : State) → E.stands engine.old first
-        → AnswersWholeLines (RunFrom E.stands engine.new (E.told engine.old) first)
-        (outside (S.left source.old) (S.given source.old) (K.written sink.old) (E.faults engine.old))
-        (outside (S.left source.new) (S.given source.new) (K.written sink.new) (E.faults engine.new)) }
+    ensures source_fault_answers { result ≡ Status.SourceFault → (first : State) → IsEngineOf M.PageDevice T.PageDevice engine.old first
+        → AnswersWholeLines (RunFrom (IsEngineOf M.PageDevice T.PageDevice) engine.new (told_of M.PageDevice T.PageDevice engine.old) first)
+        (outside (S.left source.old) (S.given source.old) (K.written sink.old) (faults_of M.PageDevice T.PageDevice engine.old))
+        (outside (S.left source.new) (S.given source.new) (K.written sink.new) (faults_of M.PageDevice T.PageDevice engine.new)) }
     ensures sink_fault { result ≡ Status.SinkFault → Rose (K.faults sink.old) (K.faults sink.new) }
-    ensures sink_fault_answers { result ≡ Status.SinkFault → (first : State) → E.stands engine.old first
-        → AnswersInPart (RunFrom E.stands engine.new (E.told engine.old) first)
-        (outside (S.left source.old) (S.given source.old) (K.written sink.old) (E.faults engine.old))
-        (outside (S.left source.new) (S.given source.new) (K.written sink.new) (E.faults engine.new)) }
+    ensures sink_fault_answers { result ≡ Status.SinkFault → (first : State) → IsEngineOf M.PageDevice T.PageDevice engine.old first
+        → AnswersInPart (RunFrom (IsEngineOf M.PageDevice T.PageDevice) engine.new (told_of M.PageDevice T.PageDevice engine.old) first)
+        (outside (S.left source.old) (S.given source.old) (K.written sink.old) (faults_of M.PageDevice T.PageDevice engine.old))
+        (outside (S.left source.new) (S.given source.new) (K.written sink.new) (faults_of M.PageDevice T.PageDevice engine.new)) }
 
     // The limit of 2^32 bytes, both ways: a sink fault alone comes before it.
-    ensures too_long { result ≡ Status.TooLong → (first : State) → E.stands engine.old first
-        → AnswersUpToLimit (RunFrom E.stands engine.new (E.told engine.old) first)
-        (outside (S.left source.old) (S.given source.old) (K.written sink.old) (E.faults engine.old))
-        (outside (S.left source.new) (S.given source.new) (K.written sink.new) (E.faults engine.new)) }
+    ensures too_long { result ≡ Status.TooLong → (first : State) → IsEngineOf M.PageDevice T.PageDevice engine.old first
+        → AnswersUpToLimit (RunFrom (IsEngineOf M.PageDevice T.PageDevice) engine.new (told_of M.PageDevice T.PageDevice engine.old) first)
+        (outside (S.left source.old) (S.given source.old) (K.written sink.old) (faults_of M.PageDevice T.PageDevice engine.old))
+        (outside (S.left source.new) (S.given source.new) (K.written sink.new) (faults_of M.PageDevice T.PageDevice engine.new)) }
     ensures too_long_always { S.given source.new < 2 ^ 64 - 1 → S.given source.new ≡ S.given source.old + 2 ^ 32
         → (result ≡ Status.TooLong) ⊎ (result ≡ Status.SinkFault) }
 
@@ -128,10 +134,10 @@ pub fn serve<E: Machine, S: Source, K: Sink>(engine: &mut E, source: &mut S, sin
     ensures no_usage { result ≢ Status.Usage }
     ensures no_memory { result ≢ Status.NoMemory }
 
-    ensures stands { (s : State) × E.stands engine.new s }
-    ensures idle { E.pending engine.new ≡ false }
-    ensures told { E.told engine.new ≡ E.told engine.old }
-    ensures later { NoneFell (E.faults engine.old) (E.faults engine.new) }
+    ensures stands { (s : State) × IsEngineOf M.PageDevice T.PageDevice engine.new s }
+    ensures idle { is_pending engine.new ≡ false }
+    ensures told { told_of M.PageDevice T.PageDevice engine.new ≡ told_of M.PageDevice T.PageDevice engine.old }
+    ensures later { NoneFell (faults_of M.PageDevice T.PageDevice engine.old) (faults_of M.PageDevice T.PageDevice engine.new) }
     ensures source_later { S.faults source.old ≤ S.faults source.new }
     ensures sink_later { K.faults sink.old ≤ K.faults sink.new }
 {
