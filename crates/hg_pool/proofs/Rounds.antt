@@ -13,6 +13,7 @@ use Rattle.hg_pool.specs.Keeping.{places_in, with_place, with_frame}
 use Rattle.hg_pool.specs.Keys.{at-here}
 use Rattle.hg_pool.specs.Loans.{frames-set}
 use Rattle.hg_pool.specs.Passing.{AreEmpty, Reaches}
+use Rattle.hg_pool.specs.RoundLaws.{round-held, round-let_go, round-same}
 use Rattle.hg_pool.specs.Round.{Round, IsNext, Stays, ComesIn, way_to, with_out, without_out, round_in}
 use Rattle.hg_pool.specs.Work.{IsUnused, CallsNone}
 use Rattle.hg_pool.specs.declared.frames.Frame.{Frame}
@@ -61,23 +62,6 @@ next-behind r f there free first none =
           let l = not-before r.out 0 f k first (omega arith) free' in
           omega (arith, way-behind r f (before f there free), way-behind r k (before k there' free'));
     }
-
--- What a change of one frame leaves of the round.
-
-pub round-frame : (s : Store) (f : ℕ) (x : Frame) → f < length s.frames.items → round_in (with_frame s f x) ≡ record (round_in s) { out = at (round_in s).out f x.pinned }
-round-frame s f x there =
-    let outs : (λ k. (frame_at (slice_set s.frames.items f x) k).pinned) ≡ at (round_in s).out f x.pinned =
-    ap (λ (g : ℕ → Frame). λ k. (g k).pinned) (frames-set s.frames.items f x there) ∙ after-at (λ _ (y : Frame). y.pinned) (frame_at s.frames.items) f x in
-    λ i. record (round_in (with_frame s f x)) { current = length-set s.frames.items f x i; out = outs i }
-
-pub round-held : (s : Store) (f : ℕ) (x : Frame) → f < length s.frames.items → x.pinned ≡ true → round_in (with_frame s f x) ≡ with_out (round_in s) f
-round-held s f x there held = round-frame s f x there ∙ ap (λ b. record (round_in s) { out = at (round_in s).out f b }) held
-
-pub round-let_go : (s : Store) (f : ℕ) (x : Frame) → f < length s.frames.items → x.pinned ≡ false → round_in (with_frame s f x) ≡ without_out (round_in s) f
-round-let_go s f x there free = round-frame s f x there ∙ ap (λ b. record (round_in s) { out = at (round_in s).out f b }) free
-
-pub round-same : (s : Store) (f : ℕ) (x : Frame) → f < length s.frames.items → x.pinned ≡ (frame_at s.frames.items f).pinned → round_in (with_frame s f x) ≡ round_in s
-round-same s f x there same = round-frame s f x there ∙ ap (λ o. record (round_in s) { out = o }) (at-same (round_in s).out f x.pinned (sym same))
 
 -- Pages and frames.
 

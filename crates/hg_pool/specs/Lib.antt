@@ -11,3 +11,4 @@ pub mod Shown
 pub mod Passing
 pub mod Work
 pub mod Loans
+pub mod RoundLaws

@@ -6,7 +6,7 @@ use Rattle.hg_pool.specs.Passing.{Passes}
 use Rattle.hg_pool.specs.declared.store.Store.{Store}
 use Rattle.hg_pool.proofs.Passing.{cleared, recounted}
 use Rattle.hg_pool.specs.Round.{round_in}
-use Rattle.hg_pool.proofs.Rounds.{round-same}
+use Rattle.hg_pool.specs.RoundLaws.{round-same}
 use Rattle.hg_pool.proofs.parts.Parts.empty.Goals as goal
 
 pub returns-clause-passes : goal.returns-clause-passes

@@ -13,7 +13,8 @@ use Rattle.std.proofs.lemmas.Result.{err_from_is_err_and}
 use Rattle.hg_pool.proofs.Calling.{makes-page, made-behind}
 use Rattle.hg_pool.specs.Round.{PassesNext, with_out, round_in}
 use Rattle.hg_pool.proofs.Ranges.{free-place}
-use Rattle.hg_pool.proofs.Rounds.{round-held, comes-in, noted-place, all-empty}
+use Rattle.hg_pool.specs.RoundLaws.{round-held}
+use Rattle.hg_pool.proofs.Rounds.{comes-in, noted-place, all-empty}
 use Rattle.hg_pool.proofs.parts.Parts.fresh.Goals as goal
 
 pub unreachable-requires : goal.unreachable-requires

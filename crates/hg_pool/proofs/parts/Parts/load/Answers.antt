@@ -11,7 +11,7 @@ use Rattle.hg_pool.proofs.Counting.{frame-here}
 use Rattle.hg_pool.proofs.Passing.{read-not, read-in, recounted, counted-later}
 use Rattle.hg_pool.proofs.Ranges.{has-place}
 use Rattle.hg_pool.specs.Round.{round_in}
-use Rattle.hg_pool.proofs.Rounds.{round-same}
+use Rattle.hg_pool.specs.RoundLaws.{round-same}
 use Rattle.hg_pool.proofs.parts.Parts.load.Goals as goal
 
 pub returns-in-Err-clause-passes : goal.returns-in-Err-clause-passes

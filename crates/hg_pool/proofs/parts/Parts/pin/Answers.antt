@@ -8,7 +8,8 @@ use Rattle.hg_pool.specs.declared.store.Store.{Store}
 use Rattle.hg_pool.specs.Keeping.{is_inside}
 use Rattle.hg_pool.proofs.Calling.{holds-pin, still-free, pinned-behind}
 use Rattle.hg_pool.specs.Round.{with_out, round_in}
-use Rattle.hg_pool.proofs.Rounds.{round-held, comes-in, stays-in}
+use Rattle.hg_pool.specs.RoundLaws.{round-held}
+use Rattle.hg_pool.proofs.Rounds.{comes-in, stays-in}
 use Rattle.hg_pool.proofs.parts.Parts.pin.Goals as goal
 
 pub returns-clause-whole : goal.returns-clause-whole

@@ -8,7 +8,7 @@ use Rattle.hg_pool.specs.declared.maps.Maps.{Maps}
 use Rattle.hg_pool.specs.declared.store.Store.{Store}
 use Rattle.hg_pool.proofs.Calling.{gives-back, gives-back-out}
 use Rattle.hg_pool.specs.Round.{round_in}
-use Rattle.hg_pool.proofs.Rounds.{round-same}
+use Rattle.hg_pool.specs.RoundLaws.{round-same}
 use Rattle.hg_pool.proofs.parts.Parts.release.Goals as goal
 
 pub returns-in-Some-clause-whole : goal.returns-in-Some-clause-whole

@@ -8,7 +8,7 @@ use Rattle.hg_pool.specs.Loans.{frame-in, and-left}
 use Rattle.hg_pool.specs.declared.store.Store.{Store}
 use Rattle.hg_pool.proofs.Calling.{lets-go}
 use Rattle.hg_pool.specs.Round.{round_in}
-use Rattle.hg_pool.proofs.Rounds.{round-let_go}
+use Rattle.hg_pool.specs.RoundLaws.{round-let_go}
 use Rattle.hg_pool.proofs.parts.Parts.unpin.Goals as goal
 
 pub returns-clause-whole : goal.returns-clause-whole

@@ -12,7 +12,7 @@ use Rattle.hg_pool.proofs.Counting.{frame-here}
 use Rattle.hg_pool.proofs.Ranges.{held-on-device}
 use Rattle.hg_pool.proofs.Passing.{wrote, wrote-not, counted-later}
 use Rattle.hg_pool.specs.Round.{round_in}
-use Rattle.hg_pool.proofs.Rounds.{round-same}
+use Rattle.hg_pool.specs.RoundLaws.{round-same}
 use Rattle.hg_pool.proofs.parts.Parts.write_back.Goals as goal
 
 pub write-requires-clause-in_range : goal.write-requires-clause-in_range
