@@ -5,7 +5,7 @@ ghost use Rattle.hg_slot.specs.Writing.{WritesNumber, WritesSlot, WritesBytes, W
 
 use hg_base::{get_u16, put_u16};
 
-/// Where the number of slots, the lowest byte of the records, and the slots stand.
+/// Where the number of slots, the place below which no record begins, and the slots stand.
 pub const COUNT: usize = 2;
 
 pub const LOWEST: usize = 4;

@@ -2,7 +2,7 @@
 //! that [`verify`] takes is a slotted page, and each call leaves it one.
 ghost use Rattle.std.specs.Prelude.{◌≡◌, ◌≢◌, ℕ, ◌+◌, ◌≤◌, ◌↔◌, List, Some, None, MatchOption, IfSome, IfOk, IfErr, OnErr, IsOk, length, take, drop, slice_index};
 ghost use Rattle.std.specs.Borrow.{sem, LendsIf, Array, u8};
-ghost use Rattle.hg_slot.specs.Slotted.{slots, record_at, offset, IsSlotted, IsClean, IsRecord, Fits};
+ghost use Rattle.hg_slot.specs.Slotted.{slots, lowest, record_at, offset, IsSlotted, IsClean, IsRecord, Fits};
 ghost use Rattle.hg_slot.specs.Changing.{Empties, IsInserted, Overwrites, Replaces, with_record, IsWrong, Verified};
 
 use crate::change::{empty, fill, start};
@@ -19,6 +19,7 @@ pub fn init(page: &mut [u8])
     requires { length page.old ≡ 4096 }
     ensures slotted { IsSlotted page.new }
     ensures none { slots page.new ≡ 0 }
+    ensures lowest { lowest page.new ≡ 4096 }
     ensures clean { IsClean page.new }
     ensures room { (n : ℕ) → n ≤ 4076 → Fits page.new n }
 {

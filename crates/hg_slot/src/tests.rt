@@ -30,7 +30,7 @@ fn peeked(front: &[u8], slot: u16) -> Result<Option<usize>, Check> {
 
 #[test]
 fn damaged_pages(rt: HostRuntime) -> Result<(), Fail> {
-    // no slots, and the lowest byte 4,096
+    // no slots, and the place below which no record begins is 4,096
     assert_eq!(rt; wrong(&[0x53, 0, 0, 0, 0, 0x10]), None);
     // another kind of page, and a page of zeros
     assert_eq!(rt; wrong(&[0x4C, 0, 0, 0, 0, 0x10]), Some(Check::Kind));
@@ -39,10 +39,10 @@ fn damaged_pages(rt: HostRuntime) -> Result<(), Fail> {
     assert_eq!(rt; wrong(&[0x53, 0, 129, 0, 0x14, 2]), Some(Check::Size));
     // 128 slots, that end at 528 = 0x0210
     assert_eq!(rt; wrong(&[0x53, 0, 128, 0, 0x10, 2]), None);
-    // the lowest byte among the slots, and behind the page
+    // that place among the slots, and behind the page
     assert_eq!(rt; wrong(&[0x53, 0, 128, 0, 0x0F, 2]), Some(Check::Size));
     assert_eq!(rt; wrong(&[0x53, 0, 0, 0, 1, 0x10]), Some(Check::Size));
-    // one record of 8 bytes at 4088 = 0x0FF8, the same with 9 bytes, and one below the lowest byte
+    // one record of 8 bytes at 4088 = 0x0FF8, the same with 9 bytes, and one below that place
     let one = [
         0x53, 0, 1, 0, 0xF8, 0x0F, 0, 0, 0, 0, 0, 0, 0, 0, 0, 0, 0xF8, 0x0F, 8, 0,
     ];
