@@ -1,9 +1,10 @@
 //! The calls on a slotted page. A page is 4,096 bytes; a slot is named by its number from 0. A page
 //! that [`verify`] takes is a slotted page, and each call leaves it one.
 ghost use Rattle.std.specs.Prelude.{◌≡◌, ◌≢◌, ℕ, ◌+◌, ◌≤◌, ◌↔◌, List, Some, None, MatchOption, IfSome, IfOk, IfErr, OnErr, IsOk, length, take, drop, slice_index};
+ghost use Rattle.std.specs.Result.{result_err};
 ghost use Rattle.std.specs.Borrow.{sem, LendsIf, Array, u8};
 ghost use Rattle.hg_slot.specs.Slotted.{slots, lowest, record_at, offset, IsSlotted, IsClean, IsRecord, Fits};
-ghost use Rattle.hg_slot.specs.Changing.{Empties, IsInserted, Overwrites, Replaces, with_record, IsWrong, Verified};
+ghost use Rattle.hg_slot.specs.Changing.{Empties, IsInserted, Overwrites, Replaces, with_record, IsWrong, Verified, fault_at};
 
 use crate::change::{empty, fill, start};
 use crate::close::{fits, have_slot, head_with, make_room};
@@ -48,7 +49,9 @@ pub fn get(page: &[u8], slot: u16) -> Option<&[u8]>
 
 /// The record of a slot of a page whose bytes may be any, in constant time: it looks at the first
 /// byte, the number of slots and this slot's entry alone. On a slotted page it answers what [`get`]
-/// does. Of a damaged page it may show what the entry names, or answer an error.
+/// does. Of any page it answers Kind exactly where byte 0 is another one, and else Size exactly where
+/// there are more than 128 slots or the slot's record would end behind the page; in all other cases it
+/// shows what the entry names, damaged or not, or None where the slot is empty or there is no such slot.
 #[tactic(auto, using(crate::proofs::Peeking::peeking))]
 pub fn peek(page: &[u8], slot: u16) -> Result<Option<&[u8]>, Check>
     requires { length page.now ≡ 4096 }
@@ -57,6 +60,7 @@ pub fn peek(page: &[u8], slot: u16) -> Result<Option<&[u8]>, Check>
         (λ r. record_at page.now slot ≡ Some r.now)) }
     ensures wrong { IfErr result (IsWrong page.now) }
     ensures kind { slice_index page.now 0 ≢ 83 → result ≡ Err Check.Kind }
+    ensures fault { result_err result ≡ fault_at page.now slot }
 {
     if page[0] != KIND {
         return Err(Check::Kind);
