@@ -59,6 +59,14 @@ pub fn entry_at(page: &[u8], slot: usize) -> Entry
     }
 }
 
+/// Where a record lies on its page: it begins at the byte `offset`, counted from 0, and has `size`
+/// bytes, all of them in the page.
+#[derive(Clone, Copy, Debug, PartialEq, Eq)]
+pub struct Bounds {
+    pub offset: u16,
+    pub size: u16,
+}
+
 /// Writes the entry of a slot.
 #[tactic(auto, using(crate::proofs::Numbers::writes_slot))]
 pub fn set_entry(page: &mut [u8], slot: usize, offset: u16, size: u16)

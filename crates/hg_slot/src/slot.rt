@@ -8,7 +8,7 @@ ghost use Rattle.hg_slot.specs.Changing.{Empties, IsInserted, Overwrites, Replac
 
 use crate::change::{empty, fill, start};
 use crate::close::{fits, have_slot, head_with, make_room};
-use crate::entry::{COUNT, KIND, MAX_SLOTS, PAGE, entry_at, number_at, set_bytes};
+use crate::entry::{Bounds, COUNT, KIND, MAX_SLOTS, PAGE, entry_at, number_at, set_bytes};
 use crate::find::{find, first_empty, located};
 use crate::verify::{are_right, has_right_head};
 use hg_base::{Check, NoRoom};
@@ -83,15 +83,17 @@ pub fn peek(page: &[u8], slot: u16) -> Result<Option<&[u8]>, Check>
     Ok(Some(&page[entry.offset..entry.offset + entry.size]))
 }
 
-/// Where the record of a slot begins on the page, and how many bytes it has. None where [`get`]
-/// gives none.
-pub fn bounds(page: &[u8], slot: u16) -> Option<(u16, u16)>
+/// Where the record of a slot lies on the page. None where [`get`] gives none.
+pub fn bounds(page: &[u8], slot: u16) -> Option<Bounds>
     requires { IsSlotted page.now }
     ensures { MatchOption result (record_at page.now slot ≡ None)
-        (λ b. IsRecord page.now slot b.0 b.1) }
+        (λ b. IsRecord page.now slot b.offset b.size) }
 {
     match find(page, slot as usize) {
-        Some(entry) => Some((entry.offset as u16, entry.size as u16)),
+        Some(entry) => Some(Bounds {
+            offset: entry.offset as u16,
+            size: entry.size as u16,
+        }),
         None => None,
     }
 }
