@@ -100,7 +100,9 @@ pub fn bounds(page: &[u8], slot: u16) -> Option<Bounds>
 
 /// Puts a record into the first empty slot, or into a new one where none is empty, and gives the
 /// slot's number. A record may have no bytes. The page is closed up where its free bytes do not
-/// lie together.
+/// lie together. NoRoom comes exactly where the record does not fit into the free bytes, or where no
+/// slot is empty and there are 128 already or the record does not fit beside the 4 bytes of a new one.
+/// The page then stays as it was.
 #[tactic(auto, using(crate::proofs::Closing::inserting))]
 pub fn insert(page: &mut [u8], bytes: &[u8]) -> Result<u16, NoRoom>
     requires { IsSlotted page.old }
@@ -120,7 +122,8 @@ pub fn insert(page: &mut [u8], bytes: &[u8]) -> Result<u16, NoRoom>
     Ok(slot as u16)
 }
 
-/// Reads a page whose bytes may be any. It answers Ok exactly for a slotted page.
+/// Reads bytes that may be any, and any number of them. It answers Ok exactly for a slotted page; else
+/// Kind exactly where byte 0 is another one or there is no byte, and Size in all other cases.
 #[tactic(auto, using(crate::proofs::Verifying::verifying))]
 pub fn verify(page: &[u8]) -> Result<(), Check>
     ensures { Verified page.now result }
@@ -134,7 +137,8 @@ pub fn verify(page: &[u8]) -> Result<(), Check>
     Ok(())
 }
 
-/// Writes bytes over a part of a record, from the record's byte `at` on.
+/// Writes bytes over a part of a record, from the record's byte `at` on. The slot has to show a record,
+/// and the part has to lie inside it.
 pub fn put(page: &mut [u8], slot: u16, at: u16, bytes: &[u8])
     requires slotted { IsSlotted page.old }
     requires inside { MatchOption (record_at page.old slot) ⊥ (λ r. at + length bytes.now ≤ length r) }
@@ -163,7 +167,7 @@ pub fn get_mut(page: &mut [u8], slot: u16) -> Option<&mut [u8]>
     Some(&mut page[from..to])
 }
 
-/// Takes a record away. Its slot is empty then, and stays.
+/// Takes a record away. The slot has to show one; it is empty then, and stays.
 pub fn remove(page: &mut [u8], slot: u16)
     requires slotted { IsSlotted page.old }
     requires full { record_at page.old slot ≢ None }
