@@ -16,8 +16,8 @@ const SOME: u8 = 1;
 /// The byte behind a text, less than each of its own.
 const END: u8 = 0;
 
-/// Puts the key of a value in an index behind what is there. NoRoom comes exactly where there would
-/// be more than 512 bytes; what is there is then as it was.
+/// Puts the key of a value in an index behind what is there. A number has to fit 32 bits signed.
+/// NoRoom comes exactly where there would be more than 512 bytes; what is there is then as it was.
 pub fn push_index_key(v: &Value, out: &mut ArrayVec<u8, 512>) -> Result<(), NoRoom>
     requires { IsNarrow v.now }
     ensures held { IsHeld v.now }
