@@ -1,7 +1,10 @@
 -- What a reader of one record finds on a page that may be damaged.
-use Rattle.std.specs.Prelude.{◌≡◌, ℕ, ◌+◌, ◌-◌, ◌<◌, List, take, drop, Some}
-use Rattle.std.proofs.Common.{arith}
+use Rattle.std.specs.Prelude.{◌≡◌, ◌≢◌, ℕ, ◌+◌, ◌-◌, ◌<◌, ◌≤◌, ◌==◌, ◌&&◌, ◌||◌, nat_lt, not, Bool, true, false, List, take, drop, slice_index, None, Some, if◌then◌else◌}
+use Rattle.std.proofs.Common.{◌∙◌, ap, refl, arith, lt-ltb, eq-eqb, ne_eqb}
+use Rattle.std.proofs.lemmas.Bool.{le-ltb}
+use Rattle.hg_base.specs.declared.Check.TheVariants.{Kind, Size}
 use Rattle.hg_slot.specs.Slotted.{slots, offset, size, record_at, IsSlotted}
+use Rattle.hg_slot.specs.Changing.{reaches_past, fault_at}
 use Rattle.hg_slot.proofs.Slots.{shown-empty, shown-here, shown-out}
 use Rattle.hg_slot.proofs.Finding.{inside}
 
@@ -17,4 +20,66 @@ peeked page k from n h e f d =
     let g : from + n - from ≡ n = omega arith in
     let s = shown-here page k h (omega arith) in rw (g, e, f) s
 
-pub ruleset peeking = (many, too_long, peeked, shown-out, shown-empty)
+-- ---- what is wrong
+
+pub fault-kind : (page : List ℕ) (k : ℕ) → slice_index page 0 ≢ 83 → fault_at page k ≡ Some Kind
+unfolding fault_at
+fault-kind page k h =
+    ap (λ t. if t then (if nat_lt 128 (slots page) || reaches_past page k then Some Size else None) else Some Kind)
+    (ne_eqb (slice_index page 0) 83 h)
+
+right_kind : (page : List ℕ) (k : ℕ) → slice_index page 0 ≡ 83 → fault_at page k ≡ (if nat_lt 128 (slots page) || reaches_past page k then Some Size else None)
+unfolding fault_at
+right_kind page k h =
+    ap (λ t. if t then (if nat_lt 128 (slots page) || reaches_past page k then Some Size else None) else Some Kind)
+    (eq-eqb (slice_index page 0) 83 h)
+
+pub fault-many : (page : List ℕ) (k : ℕ) → slice_index page 0 ≡ 83 → 128 < slots page → fault_at page k ≡ Some Size
+fault-many page k h m =
+    right_kind page k h ∙ ap (λ t. if t || reaches_past page k then Some Size else None) (lt-ltb 128 (slots page) m)
+
+-- at most 128 slots: the slot's entry decides
+few : (page : List ℕ) (k : ℕ) → slice_index page 0 ≡ 83 → slots page ≤ 128 → fault_at page k ≡ (if reaches_past page k then Some Size else None)
+few page k h m =
+    right_kind page k h ∙ ap (λ t. if t || reaches_past page k then Some Size else None) (le-ltb 128 (slots page) m)
+
+all_three : (s t u : Bool) → s ≡ true → t ≡ false → u ≡ true → (s && not t && u) ≡ true
+all_three s t u p q r = ap (λ x. x && not t && u) p ∙ ap (λ x. not x && u) q ∙ r
+
+second_fails : (s t u : Bool) → t ≡ true → (s && not t && u) ≡ false
+second_fails true t u q = ap (λ x. not x && u) q
+second_fails false t u q = refl
+
+third_fails : (s t u : Bool) → u ≡ false → (s && not t && u) ≡ false
+third_fails true true u r = refl
+third_fails true false u r = r
+third_fails false t u r = refl
+
+pub fault-past : (page : List ℕ) (k from n : ℕ) → slice_index page 0 ≡ 83 → slots page ≤ 128 → k < slots page
+    → from ≡ offset page k → n ≡ size page k → (from ≡ 0 → ⊥) → 4096 < from + n → fault_at page k ≡ Some Size
+fault-past page k from n h m l e f d p =
+    few page k h m
+    ∙ ap (λ t. if t then Some Size else None)
+    (all_three (nat_lt k (slots page)) (offset page k == 0) (nat_lt 4096 (offset page k + size page k))
+    (lt-ltb k (slots page) l) (ne_eqb (offset page k) 0 (λ z. d (e ∙ z))) (lt-ltb 4096 (offset page k + size page k) (omega arith)))
+
+pub fault-no_slot : (page : List ℕ) (k : ℕ) → slice_index page 0 ≡ 83 → slots page ≤ 128 → slots page ≤ k → fault_at page k ≡ None
+fault-no_slot page k h m l =
+    few page k h m
+    ∙ ap (λ t. if t && not (offset page k == 0) && nat_lt 4096 (offset page k + size page k) then Some Size else None) (le-ltb k (slots page) l)
+
+pub fault-empty : (page : List ℕ) (k : ℕ) → slice_index page 0 ≡ 83 → slots page ≤ 128 → offset page k ≡ 0 → fault_at page k ≡ None
+fault-empty page k h m z =
+    few page k h m
+    ∙ ap (λ t. if t then Some Size else None)
+    (second_fails (nat_lt k (slots page)) (offset page k == 0) (nat_lt 4096 (offset page k + size page k)) (eq-eqb (offset page k) 0 z))
+
+pub fault-inside : (page : List ℕ) (k from n : ℕ) → slice_index page 0 ≡ 83 → slots page ≤ 128
+    → from ≡ offset page k → n ≡ size page k → from + n ≤ 4096 → fault_at page k ≡ None
+fault-inside page k from n h m e f p =
+    few page k h m
+    ∙ ap (λ t. if t then Some Size else None)
+    (third_fails (nat_lt k (slots page)) (offset page k == 0) (nat_lt 4096 (offset page k + size page k))
+    (le-ltb 4096 (offset page k + size page k) (omega arith)))
+
+pub ruleset peeking = (many, too_long, peeked, shown-out, shown-empty, fault-kind, fault-many, fault-past, fault-no_slot, fault-empty, fault-inside)

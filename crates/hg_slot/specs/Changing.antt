@@ -1,5 +1,5 @@
 -- What the calls do to a slotted page, in the words of its slots. Our own rule.
-use Rattle.std.specs.Prelude.{◌≡◌, ◌≢◌, ℕ, ◌+◌, ◌<◌, ◌≤◌, max, List, length, None, Some, Result, Ok, Err, slice_index}
+use Rattle.std.specs.Prelude.{◌≡◌, ◌≢◌, ℕ, ◌+◌, ◌<◌, ◌≤◌, ◌==◌, ◌&&◌, ◌||◌, nat_lt, not, Bool, max, List, length, Option, None, Some, Result, Ok, Err, slice_index, if◌then◌else◌}
 use Rattle.hg_slot.specs.Slotted.{slots, lowest, offset, size, record_at, lengths, IsSlotted, IsClean}
 use borrow.Rule.Slice.PartMut.{put_mid}
 use Rattle.hg_base.specs.declared.Check.{Check}
@@ -34,6 +34,18 @@ IsWrong page RowBytes = ⊥
 abbrev pub Verified : List ℕ → Result (Unit {0}) Check → Type 0
 Verified page (Ok u) = IsSlotted page
 Verified page (Err e) = IsWrong page e
+
+-- there is a slot k, it is not empty, and the record that its entry names would end behind the page
+abbrev pub reaches_past : List ℕ → ℕ → Bool
+reaches_past page k = nat_lt k (slots page) && not (offset page k == 0) && nat_lt 4096 (offset page k + size page k)
+
+-- What is wrong with 4,096 bytes, which may be any, for a reader of the slot k alone: their kind where
+-- byte 0 is another one; else a size where they have more than 128 slots, or the record of the slot k
+-- would end behind the page; else nothing.
+unfoldable pub fault_at : List ℕ → ℕ → Option Check
+fault_at page k =
+    if slice_index page 0 == 83 then (if nat_lt 128 (slots page) || reaches_past page k then Some Size else None)
+    else Some Kind
 
 -- A record was put into a slot that was empty, right below the records.
 pub record Fills (old new : List ℕ) (slot : ℕ) (bytes : List ℕ) : Type 0 where

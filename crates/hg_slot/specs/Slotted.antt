@@ -1,12 +1,13 @@
 -- A slotted page: its 4,096 bytes, and the list of slots that they stand for. Our own rule.
 --   byte 0       83, the letter S
 --   bytes 2..4   the number of slots, 0 to 128
---   bytes 4..6   the lowest byte of the records
+--   bytes 4..6   a place behind the slots below which no record begins; 4,096 on a new page; after a
+--                record was taken away it may be lower than the lowest record
 --   from 16 on   the slots, each the offset of its record and the record's length, two bytes each;
 --                both are 0 where the slot is empty
--- Each record lies in the page, and not below the lowest byte; the lowest byte is behind the slots;
--- no byte is of two records. A record may have no bytes at all. All other bytes are zero; a page
--- where one of them is not is read all the same, and each call leaves at zero what was.
+-- Each record lies in the page, from that place on; no byte is of two records. A record may have no
+-- bytes at all. All other bytes are zero; a page where one of them is not is read all the same, and
+-- each call leaves at zero what was.
 use Rattle.std.specs.Prelude.{◌≡◌, ◌≢◌, ℕ, ◌+◌, ◌-◌, ◌*◌, ◌<◌, ◌≤◌, ◌==◌, ◌&&◌, ◌⊎◌, nat_lt, not, zero, suc, List, length, take, drop, slice_index, Option, None, Some, if◌then◌else◌}
 use Rattle.std.specs.Int.{w16, from_le_bytes}
 
@@ -18,7 +19,7 @@ number page at = from_le_bytes w16 (take 2 (drop at page))
 abbrev pub slots : List ℕ → ℕ
 slots page = number page 2
 
--- no record has a byte below this place
+-- a place behind the slots below which no record begins
 abbrev pub lowest : List ℕ → ℕ
 lowest page = number page 4
 
@@ -67,11 +68,12 @@ pub record IsUnused (page : List ℕ) (x : ℕ) : Type 0 where
 pub record IsClean (page : List ℕ) : Type 0 where
   pub zero : (x : ℕ) → IsUnused page x → slice_index page x ≡ 0
 
--- the lengths of the records of the first n slots together
+-- how many bytes a slot's record has, none where the slot shows no record
 abbrev pub length_of : Option (List ℕ) → ℕ
 length_of None = 0
 length_of (Some record_bytes) = length record_bytes
 
+-- the lengths of the records of the first n slots together
 unfoldable pub lengths : List ℕ → ℕ → ℕ
 lengths page zero = 0
 lengths page (suc n) = lengths page n + length_of (record_at page n)

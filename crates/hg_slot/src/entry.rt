@@ -5,7 +5,7 @@ ghost use Rattle.hg_slot.specs.Writing.{WritesNumber, WritesSlot, WritesBytes, W
 
 use hg_base::{get_u16, put_u16};
 
-/// Where the number of slots, the lowest byte of the records, and the slots stand.
+/// Where the number of slots, the place below which no record begins, and the slots stand.
 pub const COUNT: usize = 2;
 
 pub const LOWEST: usize = 4;
@@ -57,6 +57,14 @@ pub fn entry_at(page: &[u8], slot: usize) -> Entry
         offset: number_at(page, at),
         size: number_at(page, at + 2),
     }
+}
+
+/// Where a record lies on its page: it begins at the byte `offset`, counted from 0, and has `size`
+/// bytes, all of them in the page.
+#[derive(Clone, Copy, Debug, PartialEq, Eq)]
+pub struct Bounds {
+    pub offset: u16,
+    pub size: u16,
 }
 
 /// Writes the entry of a slot.

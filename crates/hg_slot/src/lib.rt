@@ -12,3 +12,5 @@ pub mod slot;
 #[cfg(test)]
 mod tests;
 mod verify;
+
+pub use entry::Bounds;

@@ -1,13 +1,14 @@
 //! The calls on a slotted page. A page is 4,096 bytes; a slot is named by its number from 0. A page
 //! that [`verify`] takes is a slotted page, and each call leaves it one.
 ghost use Rattle.std.specs.Prelude.{◌≡◌, ◌≢◌, ℕ, ◌+◌, ◌≤◌, ◌↔◌, List, Some, None, MatchOption, IfSome, IfOk, IfErr, OnErr, IsOk, length, take, drop, slice_index};
+ghost use Rattle.std.specs.Result.{result_err};
 ghost use Rattle.std.specs.Borrow.{sem, LendsIf, Array, u8};
-ghost use Rattle.hg_slot.specs.Slotted.{slots, record_at, offset, IsSlotted, IsClean, IsRecord, Fits};
-ghost use Rattle.hg_slot.specs.Changing.{Empties, IsInserted, Overwrites, Replaces, with_record, IsWrong, Verified};
+ghost use Rattle.hg_slot.specs.Slotted.{slots, lowest, record_at, offset, IsSlotted, IsClean, IsRecord, Fits};
+ghost use Rattle.hg_slot.specs.Changing.{Empties, IsInserted, Overwrites, Replaces, with_record, IsWrong, Verified, fault_at};
 
 use crate::change::{empty, fill, start};
 use crate::close::{fits, have_slot, head_with, make_room};
-use crate::entry::{COUNT, KIND, MAX_SLOTS, PAGE, entry_at, number_at, set_bytes};
+use crate::entry::{Bounds, COUNT, KIND, MAX_SLOTS, PAGE, entry_at, number_at, set_bytes};
 use crate::find::{find, first_empty, located};
 use crate::verify::{are_right, has_right_head};
 use hg_base::{Check, NoRoom};
@@ -19,6 +20,7 @@ pub fn init(page: &mut [u8])
     requires { length page.old ≡ 4096 }
     ensures slotted { IsSlotted page.new }
     ensures none { slots page.new ≡ 0 }
+    ensures lowest { lowest page.new ≡ 4096 }
     ensures clean { IsClean page.new }
     ensures room { (n : ℕ) → n ≤ 4076 → Fits page.new n }
 {
@@ -47,7 +49,9 @@ pub fn get(page: &[u8], slot: u16) -> Option<&[u8]>
 
 /// The record of a slot of a page whose bytes may be any, in constant time: it looks at the first
 /// byte, the number of slots and this slot's entry alone. On a slotted page it answers what [`get`]
-/// does. Of a damaged page it may show what the entry names, or answer an error.
+/// does. Of any page it answers Kind exactly where byte 0 is another one, and else Size exactly where
+/// there are more than 128 slots or the slot's record would end behind the page; in all other cases it
+/// shows what the entry names, damaged or not, or None where the slot is empty or there is no such slot.
 #[tactic(auto, using(crate::proofs::Peeking::peeking))]
 pub fn peek(page: &[u8], slot: u16) -> Result<Option<&[u8]>, Check>
     requires { length page.now ≡ 4096 }
@@ -56,6 +60,7 @@ pub fn peek(page: &[u8], slot: u16) -> Result<Option<&[u8]>, Check>
         (λ r. record_at page.now slot ≡ Some r.now)) }
     ensures wrong { IfErr result (IsWrong page.now) }
     ensures kind { slice_index page.now 0 ≢ 83 → result ≡ Err Check.Kind }
+    ensures fault { result_err result ≡ fault_at page.now slot }
 {
     if page[0] != KIND {
         return Err(Check::Kind);
@@ -78,22 +83,26 @@ pub fn peek(page: &[u8], slot: u16) -> Result<Option<&[u8]>, Check>
     Ok(Some(&page[entry.offset..entry.offset + entry.size]))
 }
 
-/// Where the record of a slot begins on the page, and how many bytes it has. None where [`get`]
-/// gives none.
-pub fn bounds(page: &[u8], slot: u16) -> Option<(u16, u16)>
+/// Where the record of a slot lies on the page. None where [`get`] gives none.
+pub fn bounds(page: &[u8], slot: u16) -> Option<Bounds>
     requires { IsSlotted page.now }
     ensures { MatchOption result (record_at page.now slot ≡ None)
-        (λ b. IsRecord page.now slot b.0 b.1) }
+        (λ b. IsRecord page.now slot b.offset b.size) }
 {
     match find(page, slot as usize) {
-        Some(entry) => Some((entry.offset as u16, entry.size as u16)),
+        Some(entry) => Some(Bounds {
+            offset: entry.offset as u16,
+            size: entry.size as u16,
+        }),
         None => None,
     }
 }
 
 /// Puts a record into the first empty slot, or into a new one where none is empty, and gives the
 /// slot's number. A record may have no bytes. The page is closed up where its free bytes do not
-/// lie together.
+/// lie together. NoRoom comes exactly where the record does not fit into the free bytes, or where no
+/// slot is empty and there are 128 already or the record does not fit beside the 4 bytes of a new one.
+/// The page then stays as it was.
 #[tactic(auto, using(crate::proofs::Closing::inserting))]
 pub fn insert(page: &mut [u8], bytes: &[u8]) -> Result<u16, NoRoom>
     requires { IsSlotted page.old }
@@ -113,7 +122,8 @@ pub fn insert(page: &mut [u8], bytes: &[u8]) -> Result<u16, NoRoom>
     Ok(slot as u16)
 }
 
-/// Reads a page whose bytes may be any. It answers Ok exactly for a slotted page.
+/// Reads bytes that may be any, and any number of them. It answers Ok exactly for a slotted page; else
+/// Kind exactly where byte 0 is another one or there is no byte, and Size in all other cases.
 #[tactic(auto, using(crate::proofs::Verifying::verifying))]
 pub fn verify(page: &[u8]) -> Result<(), Check>
     ensures { Verified page.now result }
@@ -127,7 +137,8 @@ pub fn verify(page: &[u8]) -> Result<(), Check>
     Ok(())
 }
 
-/// Writes bytes over a part of a record, from the record's byte `at` on.
+/// Writes bytes over a part of a record, from the record's byte `at` on. The slot has to show a record,
+/// and the part has to lie inside it.
 pub fn put(page: &mut [u8], slot: u16, at: u16, bytes: &[u8])
     requires slotted { IsSlotted page.old }
     requires inside { MatchOption (record_at page.old slot) ⊥ (λ r. at + length bytes.now ≤ length r) }
@@ -156,7 +167,7 @@ pub fn get_mut(page: &mut [u8], slot: u16) -> Option<&mut [u8]>
     Some(&mut page[from..to])
 }
 
-/// Takes a record away. Its slot is empty then, and stays.
+/// Takes a record away. The slot has to show one; it is empty then, and stays.
 pub fn remove(page: &mut [u8], slot: u16)
     requires slotted { IsSlotted page.old }
     requires full { record_at page.old slot ≢ None }

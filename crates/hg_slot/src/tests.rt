@@ -2,7 +2,7 @@
 ghost use Rattle.std.specs.Prelude.{◌≡◌, ℕ, ◌+◌, ◌≤◌, IfOk, length};
 ghost use Rattle.hg_slot.specs.Slotted.{slots, IsSlotted};
 
-use crate::slot;
+use crate::{Bounds, slot};
 use hg_base::{Check, NoRoom};
 use std::test::Fail;
 
@@ -30,7 +30,7 @@ fn peeked(front: &[u8], slot: u16) -> Result<Option<usize>, Check> {
 
 #[test]
 fn damaged_pages(rt: HostRuntime) -> Result<(), Fail> {
-    // no slots, and the lowest byte 4,096
+    // no slots, and the place below which no record begins is 4,096
     assert_eq!(rt; wrong(&[0x53, 0, 0, 0, 0, 0x10]), None);
     // another kind of page, and a page of zeros
     assert_eq!(rt; wrong(&[0x4C, 0, 0, 0, 0, 0x10]), Some(Check::Kind));
@@ -39,10 +39,10 @@ fn damaged_pages(rt: HostRuntime) -> Result<(), Fail> {
     assert_eq!(rt; wrong(&[0x53, 0, 129, 0, 0x14, 2]), Some(Check::Size));
     // 128 slots, that end at 528 = 0x0210
     assert_eq!(rt; wrong(&[0x53, 0, 128, 0, 0x10, 2]), None);
-    // the lowest byte among the slots, and behind the page
+    // that place among the slots, and behind the page
     assert_eq!(rt; wrong(&[0x53, 0, 128, 0, 0x0F, 2]), Some(Check::Size));
     assert_eq!(rt; wrong(&[0x53, 0, 0, 0, 1, 0x10]), Some(Check::Size));
-    // one record of 8 bytes at 4088 = 0x0FF8, the same with 9 bytes, and one below the lowest byte
+    // one record of 8 bytes at 4088 = 0x0FF8, the same with 9 bytes, and one below that place
     let one = [
         0x53, 0, 1, 0, 0xF8, 0x0F, 0, 0, 0, 0, 0, 0, 0, 0, 0, 0, 0xF8, 0x0F, 8, 0,
     ];
@@ -160,6 +160,52 @@ fn a_page_is_filled(rt: HostRuntime) -> Result<(), Fail> {
     assert_eq!(rt; slot::insert(&mut page, &[]), Ok(2));
     assert!(rt; holds(&page, 2, 0, 0));
     assert_eq!(rt; slot::verify(&page), Ok(()));
+    Ok(())
+}
+
+/// Whether the slot of this number holds these bytes.
+fn shows(page: &[u8], slot: u16, bytes: &[u8]) -> bool
+    requires { IsSlotted page.now }
+{
+    match slot::get(page, slot) {
+        Some(record) => record == bytes,
+        None => false,
+    }
+}
+
+/// Writes over a part of a record where one is there that has it.
+fn overwrite(page: &mut [u8], slot: u16, at: u16, bytes: &[u8])
+    requires { IsSlotted page.old }
+    ensures { IsSlotted page.new }
+{
+    if let Some(record) = slot::get(page, slot) {
+        if bytes.len() <= record.len() && at as usize <= record.len() - bytes.len() {
+            slot::put(page, slot, at, bytes);
+        }
+    }
+}
+
+#[test]
+fn a_part_of_a_record_is_written(rt: HostRuntime) -> Result<(), Fail> {
+    let mut page = new_page();
+    assert_eq!(rt; slot::insert(&mut page, &[1, 2, 3]), Ok(0));
+    assert_eq!(rt; slot::insert(&mut page, &[4, 5, 6, 7]), Ok(1));
+    // the records stand below one another from the end, 4,096: 3 bytes at 4093, and 4 at 4089
+    let first = Bounds {
+        offset: 4093,
+        size: 3,
+    };
+    let second = Bounds {
+        offset: 4089,
+        size: 4,
+    };
+    assert_eq!(rt; slot::bounds(&page, 0), Some(first));
+    assert_eq!(rt; slot::bounds(&page, 1), Some(second));
+    assert_eq!(rt; slot::bounds(&page, 2), None);
+    overwrite(&mut page, 1, 1, &[8, 9]);
+    assert!(rt; shows(&page, 1, &[4, 8, 9, 7]));
+    assert!(rt; shows(&page, 0, &[1, 2, 3]));
+    assert_eq!(rt; slot::bounds(&page, 1), Some(second));
     Ok(())
 }
 

@@ -4,7 +4,7 @@ ghost use Rattle.hg_slot.specs.Slotted.{slots, IsPlaced, IsApart, AreFrom, AreRi
 
 use crate::entry::{COUNT, Entry, HEAD, LOWEST, MAX_SLOTS, PAGE, entry_at, number_at};
 
-/// Whether the number of slots and the lowest byte of the records are in their ranges.
+/// Whether the number of slots, and the place below which no record begins, are in their ranges.
 pub fn has_right_head(page: &[u8]) -> bool
     requires { length page.now ≡ 4096 }
     ensures { IsTrue result ↔ HasRightHead page.now }

@@ -83,7 +83,7 @@ impl Space {
         Some(lowest as u32)
     }
 
-    /// Gives a page back: it is not used any more.
+    /// Gives a page back, which has to be used: it is not used any more, and has no successor.
     pub fn release(&mut self, no: u32)
         requires used { (pages_of self.old).used no ≡ true }
         ensures released { pages_of self.new ≡ without_page (pages_of self.old) no }
@@ -109,7 +109,7 @@ impl Space {
         no < self.limit && !is_set(&self.free, self.levels.first + no as usize)
     }
 
-    /// The number of a page's successor.
+    /// The number of a page's successor. The page has to be used. None where it has no successor.
     pub fn next(&self, no: u32) -> Option<u32>
         requires used { (pages_of self.now).used no ≡ true }
         ensures { result ≡ (pages_of self.now).next no }
@@ -122,7 +122,7 @@ impl Space {
         }
     }
 
-    /// Sets or takes away a page's successor.
+    /// Sets or takes away a page's successor. The page has to be used.
     pub fn set_next(&mut self, no: u32, to: Option<u32>)
         requires used { (pages_of self.old).used no ≡ true }
         ensures changed { pages_of self.new ≡ with_next (pages_of self.old) no to }

@@ -1,4 +1,5 @@
 mod Digits
+mod Lengths
 mod KeyOrder
 mod Codings
 mod Beginnings

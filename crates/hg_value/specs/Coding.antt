@@ -26,7 +26,7 @@ coding (Text t) = 2 ∷ length t ∷ t
 abbrev pub coded : List Value → List ℕ
 coded vs = flat_map coding vs
 
--- what a value can be: a number has 128 bits signed, a text is one
+-- what a value can be: a number has 128 bits signed, a text 0 to 255 printable characters
 abbrev pub IsHeld : Value → Type 0
 IsHeld Null = ⊤
 IsHeld (Int x) = FitsSigned w128 x

@@ -1,7 +1,7 @@
 -- Keys: bytes that compare one by one as the values do, NULL first. Our own rule: NULL is the byte
 -- 0; a number the byte 1 and its bytes, moved up so that none is below zero, the highest byte
 -- first; a text the byte 1, its bytes, and the byte 0, which is less than each of them.
-use Rattle.std.specs.Prelude.{ℕ, suc, ℤ, pos, negsuc, List, [], ◌∷◌, ◌++◌, ◌+◌, ◌-◌, ◌^◌, IsTrue, ⊤}
+use Rattle.std.specs.Prelude.{ℕ, suc, ℤ, pos, negsuc, List, [], ◌∷◌, ◌++◌, ◌+◌, ◌-◌, ◌^◌, length, IsTrue, ⊤}
 use Rattle.std.specs.Int.{w32, w128, to_be_bytes}
 use Rattle.std.specs.List.{flat_map}
 use Rattle.hg_model.specs.Tables.{fits_integer}
@@ -31,6 +31,17 @@ abbrev pub working_key : Value → List ℕ
 working_key Null = 0 ∷ []
 working_key (Int x) = 1 ∷ wide_raised x
 working_key (Text t) = 1 ∷ (t ++ 0 ∷ [])
+
+-- how many bytes the key of a value in an index has, and the key by which joins and groups work
+abbrev pub index_key_length : Value → ℕ
+index_key_length Null = 1
+index_key_length (Int x) = 5
+index_key_length (Text t) = 2 + length t
+
+abbrev pub working_key_length : Value → ℕ
+working_key_length Null = 1
+working_key_length (Int x) = 17
+working_key_length (Text t) = 2 + length t
 
 -- no number but one of 32 bits
 abbrev pub IsNarrow : Value → Type 0

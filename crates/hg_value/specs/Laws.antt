@@ -8,7 +8,7 @@ use Rattle.hg_model.specs.Order.{value_cmp}
 use Rattle.hg_model.specs.declared.values.Value.{Value}
 use Rattle.hg_value.specs.Coding.{coding, coded, IsHeld}
 use Rattle.hg_value.specs.Comparing.{AreOfOneType, AreOfOneShape}
-use Rattle.hg_value.specs.Keys.{index_key, working_key, key_of_columns, IsNarrow}
+use Rattle.hg_value.specs.Keys.{index_key, working_key, index_key_length, working_key_length, key_of_columns, IsNarrow}
 
 -- a value's coding, and a row's, has as many bytes as it is said to have
 abbrev pub ValuesAreAsLong : Type 0
@@ -16,6 +16,13 @@ ValuesAreAsLong = (v : Value) → length (coding v) ≡ value_length v
 
 abbrev pub RowsAreAsLong : Type 0
 RowsAreAsLong = (vs : List Value) → length (coded vs) ≡ row_length vs
+
+-- so has a value's key, that of an index and that by which joins and groups work
+abbrev pub IndexKeysAreAsLong : Type 0
+IndexKeysAreAsLong = (v : Value) → length (index_key v) ≡ index_key_length v
+
+abbrev pub WorkingKeysAreAsLong : Type 0
+WorkingKeysAreAsLong = (v : Value) → length (working_key v) ≡ working_key_length v
 
 -- bytes spell one row of so many values at most, whatever stands behind them
 abbrev pub CodingsTell : Type 0

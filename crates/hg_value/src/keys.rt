@@ -1,5 +1,6 @@
 //! Keys of values.
 ghost use Rattle.std.specs.Prelude.{◌≡◌, ◌+◌, ◌^◌, ◌<◌, ◌≤◌, ◌↔◌, ◌++◌, ◌∷◌, length, IsTrue, IsOk, OnOk, OnErr};
+ghost use Rattle.hg_value.specs.Coding.{IsHeld};
 ghost use Rattle.hg_value.specs.Keys.{index_key, working_key, IsNarrow, raised, narrow_raised, wide_raised};
 ghost use Rattle.hg_model.specs.Tables.{fits_integer};
 
@@ -15,10 +16,11 @@ const SOME: u8 = 1;
 /// The byte behind a text, less than each of its own.
 const END: u8 = 0;
 
-/// Puts the key of a value in an index behind what is there. NoRoom comes exactly where there would
-/// be more than 512 bytes; what is there is then as it was.
+/// Puts the key of a value in an index behind what is there. A number has to fit 32 bits signed.
+/// NoRoom comes exactly where there would be more than 512 bytes; what is there is then as it was.
 pub fn push_index_key(v: &Value, out: &mut ArrayVec<u8, 512>) -> Result<(), NoRoom>
     requires { IsNarrow v.now }
+    ensures held { IsHeld v.now }
     ensures ok { OnOk result (out.new.items ≡ out.old.items ++ index_key v.now) }
     ensures unchanged { OnErr result (out.new ≡ out.old) }
     ensures room { IsOk result ↔ (length out.old.items + length (index_key v.now) ≤ 512) }
@@ -33,6 +35,7 @@ pub fn push_index_key(v: &Value, out: &mut ArrayVec<u8, 512>) -> Result<(), NoRo
 /// Puts the key of a value, by which joins and groups work, behind what is there. NoRoom comes
 /// exactly where there would be more than 4,096 bytes; what is there is then as it was.
 pub fn push_key(v: &Value, out: &mut ArrayVec<u8, 4096>) -> Result<(), NoRoom>
+    ensures held { IsHeld v.now }
     ensures ok { OnOk result (out.new.items ≡ out.old.items ++ working_key v.now) }
     ensures unchanged { OnErr result (out.new ≡ out.old) }
     ensures room { IsOk result ↔ (length out.old.items + length (working_key v.now) ≤ 4096) }

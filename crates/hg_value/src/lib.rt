@@ -16,6 +16,6 @@ mod tests;
 
 pub use hashing::hash;
 pub use keys::{push_index_key, push_key};
-pub use laws::{codings_tell, index_keys_compare, keys_compare};
+pub use laws::{codings_tell, index_keys_compare, keys_are_as_long, keys_compare};
 pub use order::compare;
 pub use row::Row;

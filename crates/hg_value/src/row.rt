@@ -103,7 +103,7 @@ impl Row {
         Ok(())
     }
 
-    /// The value at a place, counted from 0.
+    /// The value at the place `k`, counted from 0; `k` is below the number of values.
     pub fn get(&self, k: u8) -> Value
         requires { k < length self.now }
         ensures { slice_get self.now k ≡ Some result }

@@ -116,6 +116,25 @@ fn a_row_is_filled(rt: HostRuntime) -> Result<(), Fail> {
 }
 
 #[test]
+fn a_row_is_read_again(rt: HostRuntime) -> Result<(), Fail> {
+    let mut row = Row::new();
+    assert_eq!(rt; row.push(&Value::Int(7)), Ok(()));
+    assert_eq!(rt; row.push(&Value::Null), Ok(()));
+    assert_eq!(rt; row.push(&Value::Null), Ok(()));
+    // the text a, and NULL
+    assert!(rt; row.read_into(&[2, 1, 97, 0], 2));
+    assert_eq!(rt; row.len(), 2);
+    assert_eq!(rt; row.bytes(), [2, 1, 97, 0].as_slice());
+    // a value too few, and a text that is cut off
+    assert!(rt; !row.read_into(&[0, 0], 3));
+    assert_eq!(rt; row.len(), 0);
+    assert_eq!(rt; row.push(&Value::Int(7)), Ok(()));
+    assert!(rt; !row.read_into(&[0, 2, 2, 97], 2));
+    assert!(rt; row.bytes().is_empty());
+    Ok(())
+}
+
+#[test]
 fn values_are_compared(rt: HostRuntime) -> Result<(), Fail> {
     let ab = text("ab").ok_or("no text")?;
     let abc = text("abc").ok_or("no text")?;
