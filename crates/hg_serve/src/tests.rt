@@ -264,10 +264,12 @@ fn replies_of(alloc: Global, sizes: &[usize], expected: &Expected) -> Result<Vec
     Ok(text)
 }
 
-/// What a script gives through an engine of 16 frames over this main device.
-fn through_engine<M: PageDevice + Drop>(
+/// What scripts give through one engine of 16 frames over this main device: the status of the second,
+/// and what both wrote.
+fn through_engine_twice<M: PageDevice + Drop>(
     alloc: Global,
-    script: Vec<u8>,
+    first: Vec<u8>,
+    second: Vec<u8>,
     main: M,
 ) -> Result<(Status, MemSink), AllocError> {
     let temp = device(alloc);
@@ -281,14 +283,25 @@ fn through_engine<M: PageDevice + Drop>(
         main_pages: 64,
         temp_pages: 64,
     };
-    let mut source = MemSource::new(script, Vec::new(alloc));
+    let mut one = MemSource::new(first, Vec::new(alloc));
+    let mut other = MemSource::new(second, Vec::new(alloc));
     let mut sink = MemSink::new(alloc, Vec::new(alloc));
     let Ok(mut engine) = Engine::new(alloc, &config, main, temp) else {
         return Err(AllocError);
     };
-    let status = serve(&mut engine, &mut source, &mut sink);
+    let _ = serve(&mut engine, &mut one, &mut sink);
+    let status = serve(&mut engine, &mut other, &mut sink);
     let _ = engine.close();
     Ok((status, sink))
+}
+
+/// What a script gives through an engine.
+fn through_engine<M: PageDevice + Drop>(
+    alloc: Global,
+    script: Vec<u8>,
+    main: M,
+) -> Result<(Status, MemSink), AllocError> {
+    through_engine_twice(alloc, Vec::new(alloc), script, main)
 }
 
 /// On which line, from 0, the first error stands.
@@ -453,6 +466,25 @@ fn over_a_clean_device(rt: HostRuntime) -> Result<(), Fail> {
     assert_eq!(rt;
         sink.bytes(),
         "created\nrows 2\nrows 1\nrow * 1,2\nrow * 3,NULL\nrow * -4,0\nend *\n".as_bytes()
+    );
+    assert_eq!(rt; status, Status::Clean);
+    Ok(())
+}
+
+#[test]
+fn an_engine_serves_again(rt: HostRuntime) -> Result<(), Fail> {
+    let alloc = rt.alloc();
+    let first = "CREATE TABLE t (a INTEGER)\nINSERT INTO t VALUES (1), (2)\nSELECT * FROM u";
+    let second = "INSERT INTO t VALUES (3)\nSELECT * FROM t\n";
+    let (status, sink) = through_engine_twice(
+        alloc,
+        Vec::from_slice(alloc, first.as_bytes())?,
+        Vec::from_slice(alloc, second.as_bytes())?,
+        device(alloc),
+    )?;
+    assert_eq!(rt;
+        sink.bytes(),
+        "created\nrows 2\nerror 3 unknown table u\nrows 1\nrow * 1\nrow * 2\nrow * 3\nend *\n".as_bytes()
     );
     assert_eq!(rt; status, Status::Clean);
     Ok(())
