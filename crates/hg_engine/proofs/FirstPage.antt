@@ -23,9 +23,8 @@ at-twice f p q h = elim (eqb_tells q p) [
   | inr n ↦ ap (λ b. if b then false else at f p true q) n.0 ∙ ap (λ b. if b then true else f q) n.0 ∙ h
 ]
 
-pub takes-first : (a b c : Space) (page : PageId) → NoPins a → IsMade Main a b page → c ≡ without_pin b (key page)
-    → b.counts.main_device ≡ a.counts.main_device → b.counts.temp_device ≡ a.counts.temp_device → TakesFirst a c
-takes-first a b c page pins made after main temp =
+pub takes-first : (a b c : Space) (page : PageId) → NoPins a → IsMade Main a b page → c ≡ without_pin b (key page) → TakesFirst a c
+takes-first a b c page pins made after =
     subst (TakesFirst a) (sym after) (record {
       told = ap (λ (s : Space). s.told) made.after;
       limit = ap (λ (s : Space). s.limit) made.after;
@@ -34,8 +33,6 @@ takes-first a b c page pins made after main temp =
         not_pinned = λ q. ap (λ (s : Space). at s.pinned (key page) false q) made.after ∙ at-twice a.pinned (key page) q (pins.not_pinned q);
       };
       used = taken_in-made Main a b page made;
-      main = main;
-      temp = temp;
     })
 
 -- a space of some pages of which none is taken is not full

@@ -3,11 +3,9 @@ use Rattle.std.specs.Prelude.{◌≡◌, ◌+◌}
 use Rattle.hg_base.specs.Space.{Space, NoPins, taken_in}
 use Rattle.hg_base.specs.declared.File.TheVariants.{Main}
 
--- one page more is taken, no pin is out, and no device failed
+-- one page more is taken, and no pin is out
 pub record TakesFirst (a b : Space) : Type 0 where
   pub told : b.told ≡ a.told
   pub limit : b.limit ≡ a.limit
   pub pins : NoPins b
   pub used : taken_in b Main ≡ taken_in a Main + 1
-  pub main : b.counts.main_device ≡ a.counts.main_device
-  pub temp : b.counts.temp_device ≡ a.counts.temp_device

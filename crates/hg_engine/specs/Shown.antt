@@ -4,7 +4,7 @@ use Rattle.std.specs.Prelude.{◌≡◌, ◌≤◌, ℕ, Bool, List, is_some}
 use Rattle.hg_base.specs.Space.{Space}
 use Rattle.hg_io.specs.declared.device.PageDevice.{Ghosts}
 use Rattle.hg_machine.specs.State.{State}
-use Rattle.hg_pool.specs.Shown.{state_of}
+use Rattle.hg_pool.specs.Shown.{state_of, main_device, temp_device}
 use Rattle.hg_machine.specs.Reply.{Reply as Line}
 use Rattle.hg_reply.specs.Steps.{DeviceFaults, Says, FullOnlyWhereFull, Moves}
 use Rattle.hg_reply.specs.declared.reply.Reply.{Reply}
@@ -18,6 +18,13 @@ module _ {M T : Type 0} where
   -- the pages of an engine
   abbrev pub space_of : Ghosts M → Ghosts T → Engine M T → Space
   space_of m t e = state_of m t e.pool
+
+  -- its devices
+  abbrev pub main_of : Engine M T → M
+  main_of e = main_device e.pool
+
+  abbrev pub temp_of : Engine M T → T
+  temp_of e = temp_device e.pool
 
   -- the engine stands for this state
   abbrev pub IsEngineOf : Ghosts M → Ghosts T → Engine M T → State → Type 0

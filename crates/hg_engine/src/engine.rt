@@ -34,7 +34,7 @@ impl<M: PageDevice, T: PageDevice> Engine<M, T> {
     ghost use Rattle.hg_machine.specs.Run.{Turn};
     ghost use Rattle.hg_machine.specs.Select.{Selects};
     ghost use Rattle.hg_machine.specs.State.{State};
-    ghost use Rattle.hg_engine.specs.Shown.{space_of, IsEngineOf, faults_of, told_of, is_pending, turns_left, EngineSteps, IsLater};
+    ghost use Rattle.hg_engine.specs.Shown.{space_of, main_of, temp_of, IsEngineOf, told_of, is_pending, turns_left, EngineSteps, IsLater};
 
     /// An engine of no table over these devices. Page 0 of the main file is kept for the catalog. The only
     /// error is want of memory; the devices are then handed back. No device is called.
@@ -48,7 +48,8 @@ impl<M: PageDevice, T: PageDevice> Engine<M, T> {
         ensures start { IfOk result (λ e. IsEngineOf M.PageDevice T.PageDevice e (first_state config.now.main_pages)) }
         ensures told { IfOk result (λ e. told_of M.PageDevice T.PageDevice e ≡ (M.told main && T.told temp)) }
         ensures idle { IfOk result (λ e. is_pending e ≡ false) }
-        ensures faults { IfOk result (λ e. faults_of M.PageDevice T.PageDevice e ≡ record { main = M.faults main; temp = T.faults temp }) }
+        ensures main { IfOk result (λ e. main_of e ≡ main) }
+        ensures temp { IfOk result (λ e. temp_of e ≡ temp) }
         ensures handed_back { IfErr result (λ devices. devices ≡ record { main = main; temp = temp }) }
     {
         let Ok(tables) = Tables::new(alloc) else {
@@ -121,11 +122,11 @@ impl<M: PageDevice, T: PageDevice> Engine<M, T> {
         self.tables.turn(&mut self.pool, reply);
     }
 
-    /// Gives the devices back. Pages that were not written are lost; no device is called.
+    /// Gives the devices back as they are: no device is called, and pages that were not written are lost.
     pub fn close(self) -> Devices<M, T>
         requires { NoPins (space_of M.PageDevice T.PageDevice self) }
-        ensures main { M.faults result.main ≡ (faults_of M.PageDevice T.PageDevice self).main }
-        ensures temp { T.faults result.temp ≡ (faults_of M.PageDevice T.PageDevice self).temp }
+        ensures main { result.main ≡ main_of self }
+        ensures temp { result.temp ≡ temp_of self }
     {
         let Engine { tables, pool } = self;
         drop(tables);

@@ -1,5 +1,5 @@
 -- What contracts see of a pool: its devices and what it keeps of them.
-use Rattle.std.specs.Prelude.{ℕ, Bool, length}
+use Rattle.std.specs.Prelude.{◌≡◌, ℕ, Bool, length}
 use Rattle.hg_io.specs.declared.device.PageDevice.{Ghosts}
 use Rattle.hg_base.specs.Space.{Space, key}
 use Rattle.hg_base.specs.declared.PageId.{PageId}
@@ -46,3 +46,8 @@ module _ {M T : Type 0} where
   -- the round over the frames
   abbrev pub round_of : Parts M T → Round
   round_of s = round_in s.store
+
+  -- no device was called: both are as they were
+  pub record CalledNone (a b : Parts M T) : Type 0 where
+    pub main : main_device b ≡ main_device a
+    pub temp : temp_device b ≡ temp_device a

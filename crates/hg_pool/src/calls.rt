@@ -30,6 +30,7 @@ impl<M: PageDevice, T: PageDevice> Parts<M, T> {
             (frame_of self.old page) (frame_of self.new page)) }
         ensures comes { OnOk result (in_frame self.old page ≡ false → ComesIn (round_of self.old) (round_of self.new) (frame_of self.new page)) }
         ensures passes_next { OnErr result (PassesNext (round_of self.old) (round_of self.new)) }
+        ensures no_call { in_frame self.old page ≡ true → self.new.devices ≡ self.old.devices }
     {
         let at = self.bring(page)?;
         self.store.hold(at);
@@ -113,6 +114,7 @@ impl<M: PageDevice, T: PageDevice> Parts<M, T> {
         ensures whole { IsWhole M.PageDevice T.PageDevice self.new }
         ensures after { state_of M.PageDevice T.PageDevice self.new ≡ without_pin (state_of M.PageDevice T.PageDevice self.old) (key page) }
         ensures round { round_of self.new ≡ without_out (round_of self.old) (frame_of self.old page) }
+        ensures no_call { self.new.devices ≡ self.old.devices }
     {
         let at = self.store.places.at(page);
         self.store.let_go(at);
@@ -125,6 +127,7 @@ impl<M: PageDevice, T: PageDevice> Parts<M, T> {
         ensures whole { IsWhole M.PageDevice T.PageDevice self.new }
         ensures after { state_of M.PageDevice T.PageDevice self.new ≡ without_page (state_of M.PageDevice T.PageDevice self.old) (key page) }
         ensures round { round_of self.new ≡ round_of self.old }
+        ensures no_call { self.new.devices ≡ self.old.devices }
     {
         match self.store.find(page) {
             Some(at) => {
@@ -141,6 +144,7 @@ impl<M: PageDevice, T: PageDevice> Parts<M, T> {
         ensures whole { IsWhole M.PageDevice T.PageDevice self.new }
         ensures after { state_of M.PageDevice T.PageDevice self.new ≡ with_next (state_of M.PageDevice T.PageDevice self.old) (key page) next }
         ensures round { round_of self.new ≡ round_of self.old }
+        ensures no_call { self.new.devices ≡ self.old.devices }
     {
         self.store.maps.set_next(page, next);
     }

@@ -3,7 +3,7 @@ ghost use Rattle.std.specs.Prelude.{◌≡◌, ◌<◌, true, false, IfOk, IfErr
 ghost use Rattle.hg_base.specs.Space.{key, IsPinned, IsMade, IsSame, IsFull, without_pin, without_page, with_next};
 ghost use Rattle.hg_base.specs.Causes.{HasCause, NoneFull, PinFault, FreshFault, full_fault};
 ghost use Rattle.hg_pool.specs.Round.{Stays, ComesIn, PassesNext, without_out};
-ghost use Rattle.hg_pool.specs.Shown.{state_of, in_frame, frame_of, counts_of_pool, round_of, main_device, temp_device};
+ghost use Rattle.hg_pool.specs.Shown.{state_of, in_frame, frame_of, counts_of_pool, round_of, main_device, temp_device, CalledNone};
 ghost use Rattle.hg_pool.specs.Work.{PinWork, FreshWork, IsLowest, IsUnused, CallsNone};
 
 use crate::Pool;
@@ -52,6 +52,7 @@ impl<M: PageDevice, T: PageDevice> Pages for Pool<M, T> {
             (frame_of self.old page) (frame_of self.new page)) }
         ensures comes { OnOk result (in_frame self.old page ≡ false → ComesIn (round_of self.old) (round_of self.new) (frame_of self.new page)) }
         ensures passes_next { OnErr result (PassesNext (round_of self.old) (round_of self.new)) }
+        ensures calls_none { in_frame self.old page ≡ true → CalledNone self.old self.new }
     {
         self.parts.pin(page)?;
         Ok(PoolPin { page })
@@ -106,6 +107,7 @@ impl<M: PageDevice, T: PageDevice> Pages for Pool<M, T> {
         requires { (state_of M.PageDevice T.PageDevice self.old).pinned (key pin.page) ≡ true }
         ensures after { state_of M.PageDevice T.PageDevice self.new ≡ without_pin (state_of M.PageDevice T.PageDevice self.old) (key pin.page) }
         ensures round { round_of self.new ≡ without_out (round_of self.old) (frame_of self.old pin.page) }
+        ensures calls_none { CalledNone self.old self.new }
     {
         let PoolPin { page } = pin;
         self.parts.unpin(page);
@@ -117,6 +119,7 @@ impl<M: PageDevice, T: PageDevice> Pages for Pool<M, T> {
         requires no_heap { (state_of M.PageDevice T.PageDevice self.old).of_heap (key page) ≡ false }
         ensures after { state_of M.PageDevice T.PageDevice self.new ≡ without_page (state_of M.PageDevice T.PageDevice self.old) (key page) }
         ensures round { round_of self.new ≡ round_of self.old }
+        ensures calls_none { CalledNone self.old self.new }
     {
         self.parts.release(page);
     }
@@ -130,6 +133,7 @@ impl<M: PageDevice, T: PageDevice> Pages for Pool<M, T> {
         requires no_heap { (state_of M.PageDevice T.PageDevice self.old).of_heap (key page) ≡ false }
         ensures after { state_of M.PageDevice T.PageDevice self.new ≡ with_next (state_of M.PageDevice T.PageDevice self.old) (key page) next }
         ensures round { round_of self.new ≡ round_of self.old }
+        ensures calls_none { CalledNone self.old self.new }
     {
         self.parts.set_next(page, next);
     }

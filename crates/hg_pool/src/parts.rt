@@ -157,6 +157,7 @@ impl<M: PageDevice, T: PageDevice> Parts<M, T> {
             → Reaches (round_in self.old.store) (round_in self.new.store) f) }
         ensures passes_next { OnErr result (PassesNext (round_in self.old.store) (round_in self.new.store)) }
         ensures work { PinWork (is_inside self.old.store (key page)) self.old.store.counts self.new.store.counts result }
+        ensures no_call { is_inside self.old.store (key page) ≡ true → self.new.devices ≡ self.old.devices }
     {
         if let Some(at) = self.store.find(page) {
             return Ok(at);
