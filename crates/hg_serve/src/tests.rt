@@ -1,7 +1,7 @@
 //! Scripts with the replies that were worked out by hand, and one run for each fault. The rows of a
 //! SELECT come in any order; here they are listed in the order in which they were inserted.
 use crate::{Config, Engine, Outcome, Status, run, serve};
-use hg_io::{CleanDevice, MemDevice, MemSink, MemSource, PageDevice};
+use hg_io::{CleanDevice, Failed, MemDevice, MemSink, MemSource, PageDevice};
 use std::alloc::{AllocError, Global};
 use std::process::Abort;
 use std::test::Fail;
@@ -468,6 +468,54 @@ fn over_a_clean_device(rt: HostRuntime) -> Result<(), Fail> {
         "created\nrows 2\nrows 1\nrow * 1,2\nrow * 3,NULL\nrow * -4,0\nend *\n".as_bytes()
     );
     assert_eq!(rt; status, Status::Clean);
+    Ok(())
+}
+
+/// A device that takes every page, and gives zeros for each. It tells nothing.
+#[derive(Drop)]
+struct Forgetful;
+
+impl PageDevice for Forgetful {
+    ghost use Rattle.std.specs.Prelude.{[], false};
+
+    ghost pages = { λ _. 64 };
+
+    ghost told = { λ _. false };
+
+    ghost page = { λ _ _. [] };
+
+    ghost faults = { λ _. 0 };
+
+    fn limit(&self) -> u32 {
+        64
+    }
+
+    fn read(&mut self, _no: u32, buf: &mut [u8]) -> Result<(), Failed> {
+        buf.fill(0);
+        Ok(())
+    }
+
+    fn write(&mut self, _no: u32, _bytes: &[u8]) -> Result<(), Failed> {
+        Ok(())
+    }
+}
+
+/// The rows of 40 INSERTs stand on 20 pages, and 16 are in frames. So the table's first page, whose
+/// number is 1, comes back as zeros, which are no page of rows.
+#[test]
+fn over_a_device_that_forgets(rt: HostRuntime) -> Result<(), Fail> {
+    let alloc = rt.alloc();
+    let sizes = sizes_of(alloc, 40, 64, 0)?;
+    let (status, sink) = through_engine(alloc, script_of(alloc, &sizes)?, Forgetful)?;
+    let expected = Expected {
+        first: 40,
+        behind: 40,
+        line: FAULT,
+        shown: 0,
+        end: b"error 21 damaged main 1 kind\nclosed *\n",
+    };
+    assert!(rt; sink.bytes() == replies_of(alloc, &sizes, &expected)?.as_slice());
+    assert_eq!(rt; status, Status::Errors);
     Ok(())
 }
 
