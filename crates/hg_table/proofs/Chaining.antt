@@ -162,6 +162,7 @@ new_holds b columns x j r v held s c =
       page = c.page;
       told = c.told;
       slotted = c.holds.slotted;
+      clean = c.holds.clean;
       each = λ k. elim (cases_eq k j) [
         | inl e ↦ subst (Shows columns (record_at c.page k)) (sym (at_here none_held j k (Some v) e))
             (subst (λ o. Shows columns o (Some v)) (sym (ap (record_at c.page) e ∙ c.holds.here)) s)
@@ -174,7 +175,7 @@ old_holds : (a b : Space) (columns x y j : ℕ) (v : RowVersion) (last : Option 
     → HoldsVersions a columns y (held y) → HoldsVersions b columns y (with_new held x j v y)
 old_holds a b columns x y j v last held k h =
     subst (HoldsVersions b columns y) (sym (at_other held x y (at none_held j (Some v)) k.apart))
-    (record { page = h.page; told = k.bytes ∙ h.told; slotted = h.slotted; each = h.each })
+    (record { page = h.page; told = k.bytes ∙ h.told; slotted = h.slotted; clean = h.clean; each = h.each })
 
 pub table_with : (a b : Space) (old new : Table) (r : List ℕ) (place : Place) (columns : ℕ) (pages : List ℕ) (versions : List Placed) (v : RowVersion)
     → AddsRecord a b old new r place → IsStored columns r v → IsTable a old columns pages versions

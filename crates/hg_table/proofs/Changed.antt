@@ -7,7 +7,7 @@ use Rattle.hg_base.specs.TakenLaws.{key_in-one}
 use Rattle.hg_base.specs.Steadiness.{IsPlain, IsSamePage}
 use Rattle.hg_base.specs.declared.File.TheVariants.{Main}
 use Rattle.hg_base.specs.declared.Table.{Table}
-use Rattle.hg_slot.specs.Slotted.{record_at, IsSlotted}
+use Rattle.hg_slot.specs.Slotted.{record_at, IsSlotted, IsClean}
 use Rattle.hg_table.specs.Chains.{IsLine, IsChain}
 use Rattle.hg_table.specs.Versions.{Placed, RowVersion, HoldsVersions, IsTable, Shows, in_pages}
 use Rattle.hg_table.specs.Steps.{ChangesPage, Changes}
@@ -38,6 +38,7 @@ changed_chain a b t pages x P c h = record { line = changed_line a b t.first pag
 -- What a page holds where its slot j holds something else.
 pub record ChangesSlot (columns j : ℕ) (o : Option RowVersion) (old new : List ℕ) : Type 0 where
   pub slotted : IsSlotted new
+  pub clean : IsClean old → IsClean new
   pub here : Shows columns (record_at new j) o
   pub others : (k : ℕ) → k ≢ j → record_at new k ≡ record_at old k
 
@@ -57,6 +58,7 @@ changed_here a b columns x j o held P c f h =
       page = d.page;
       told = d.told;
       slotted = s.slotted;
+      clean = s.clean h.clean;
       each = λ k. elim (cases_eq k j) [
         | inl e ↦ shows_as columns (record_at d.page k) o (with_slot held x j o x k) (slot_here held x j o x k refl e)
             (changed_at columns k (record_at d.page j) (record_at d.page k) o (ap (record_at d.page) e) s.here)
@@ -74,7 +76,7 @@ changed_holds a b columns x y j o held P c f plain h = elim (cases_eq y x) [
   | inr n ↦
       let s : IsSamePage a b (key_in Main y) = c.steady.pages (key_in Main y) (λ q. n (key_in-one Main y x q)) plain in
       subst (HoldsVersions b columns y) (sym (at_other held x y (at (held x) j o) n))
-      (record { page = h.page; told = s.bytes ∙ h.told; slotted = h.slotted; each = h.each })
+      (record { page = h.page; told = s.bytes ∙ h.told; slotted = h.slotted; clean = h.clean; each = h.each })
 ]
 
 -- the table with one slot changed

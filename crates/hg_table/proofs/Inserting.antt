@@ -38,6 +38,7 @@ last_has (y ∷ z ∷ xs) x e = or_yes (y == x) (has_page (z ∷ xs) x) (last_ha
 puts_slot : (columns j : ℕ) (r : List ℕ) (v : RowVersion) (old new : List ℕ) → IsStored columns r v → Puts old new r j → ChangesSlot columns j (Some v) old new
 puts_slot columns j r v old new s p = record {
   slotted = p.slotted;
+  clean = p.inserted.clean;
   here = subst (λ o. Shows columns o (Some v)) (sym p.inserted.here) s;
   others = p.inserted.others;
 }

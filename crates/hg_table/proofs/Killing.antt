@@ -47,6 +47,7 @@ kills_slot : (columns j d : ℕ) (v : RowVersion) (old new : List ℕ) → d ≢
     → ChangesSlot columns j (Some (dead v d)) old new
 kills_slot columns j d v old new n shows k = record {
   slotted = k.written.slotted;
+  clean = k.written.clean;
   here = subst (λ o. Shows columns o (Some (dead v d))) (sym (k.written.here k.record_bytes k.was))
       (stored_dead columns d k.record_bytes v n k.small k.long (subst (λ o. Shows columns o (Some v)) k.was shows));
   others = k.written.others;

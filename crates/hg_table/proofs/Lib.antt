@@ -7,3 +7,4 @@ pub mod Killing
 pub mod Inserting
 pub mod Following
 pub mod Chaining
+pub mod Standing

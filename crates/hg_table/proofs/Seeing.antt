@@ -5,7 +5,7 @@ use Rattle.std.proofs.lemmas.Bool.{cases_eq, cases_lt, le-ltb}
 use Rattle.hg_base.specs.Space.{Space, NoPins, IsSame}
 use Rattle.hg_base.specs.Causes.{Later}
 use Rattle.hg_base.specs.SteadyLaws.{Steady_refused, Steady_then}
-use Rattle.hg_slot.specs.Slotted.{slots, offset, body, record_at, IsSlotted}
+use Rattle.hg_slot.specs.Slotted.{slots, offset, body, record_at, IsSlotted, IsClean}
 use Rattle.hg_slot.specs.Changing.{IsInserted}
 use Rattle.hg_table.specs.Versions.{most_slots}
 use Rattle.hg_table.specs.Calls.{none_mine}
@@ -43,9 +43,10 @@ none_more page from k none here j l h = elim (cases_eq j k) [
 ]
 
 -- a page that was empty holds the one record that was put there
-pub one_record : (a b r : List ℕ) (slot : ℕ) → slots a ≡ 0 → IsSlotted b → IsInserted a b slot r → HoldsRecord b slot r
-one_record a b r slot none s i = record {
+pub one_record : (a b r : List ℕ) (slot : ℕ) → slots a ≡ 0 → IsClean a → IsSlotted b → IsInserted a b slot r → HoldsRecord b slot r
+one_record a b r slot none clean s i = record {
   slotted = s;
+  clean = i.clean clean;
   here = i.here;
   others = λ k n. i.others k n ∙ record-out a k (omega arith);
 }

@@ -9,7 +9,7 @@ use Rattle.hg_base.specs.declared.Place.{Place}
 use Rattle.hg_base.specs.declared.Table.{Table}
 use Rattle.hg_base.specs.declared.Check.{Check}
 use Rattle.hg_base.specs.declared.Check.TheVariants as check
-use Rattle.hg_slot.specs.Slotted.{record_at, IsSlotted, Fits}
+use Rattle.hg_slot.specs.Slotted.{record_at, IsSlotted, IsClean, Fits}
 use Rattle.hg_slot.specs.Changing.{IsInserted, Overwrites}
 use Rattle.std.specs.Int.{w32, to_le_bytes}
 use Rattle.std.specs.List.{AllByRecursion}
@@ -104,9 +104,10 @@ abbrev pub Tries : List ℕ → List ℕ → List ℕ → Option ℕ → Type 0
 Tries old new r None = HasNone old new r
 Tries old new r (Some slot) = Puts old new r slot
 
--- The page is a slotted page with one record.
+-- The page is a slotted page with one record; all of its bytes that have no meaning are zero.
 pub record HoldsRecord (page : List ℕ) (slot : ℕ) (r : List ℕ) : Type 0 where
   pub slotted : IsSlotted page
+  pub clean : IsClean page
   pub here : record_at page slot ≡ Some r
   pub others : (k : ℕ) → k ≢ slot → record_at page k ≡ None
 

@@ -98,7 +98,7 @@ chain_stays m a b t pages steady apart chain = record {
 
 pub holds-same : (a b : Space) (columns x : ℕ) (held : ℕ → Option RowVersion) → b.bytes (key_in Main x) ≡ a.bytes (key_in Main x)
     → HoldsVersions a columns x held → HoldsVersions b columns x held
-holds-same a b columns x held e h = record { page = h.page; told = e ∙ h.told; slotted = h.slotted; each = h.each }
+holds-same a b columns x held e h = record { page = h.page; told = e ∙ h.told; slotted = h.slotted; clean = h.clean; each = h.each }
 
 pub holds_stay : (a b : Space) (columns : ℕ) (held : ℕ → ℕ → Option RowVersion) (xs : List ℕ) → AllByRecursion (λ x. IsSamePage a b (key_in Main x)) xs
     → AllByRecursion (λ x. HoldsVersions a columns x (held x)) xs → AllByRecursion (λ x. HoldsVersions b columns x (held x)) xs

@@ -10,7 +10,7 @@ use Rattle.hg_base.specs.declared.Place.{Place}
 use Rattle.hg_base.specs.declared.Table.{Table}
 use Rattle.hg_model.specs.Visible.{Version}
 use Rattle.hg_model.specs.declared.values.Value.{Value}
-use Rattle.hg_slot.specs.Slotted.{IsSlotted, record_at}
+use Rattle.hg_slot.specs.Slotted.{IsSlotted, IsClean, record_at}
 use Rattle.hg_value.specs.Coding.{IsRowOf}
 use Rattle.hg_table.specs.Chains.{IsChain}
 
@@ -46,11 +46,12 @@ Shows columns None (Some v) = ⊥
 Shows columns (Some r) None = ⊥
 Shows columns (Some r) (Some v) = IsStored columns r v
 
--- The main page x holds these versions, by slot.
+-- The main page x holds these versions, by slot; all of its bytes that have no meaning are zero.
 pub record HoldsVersions (s : Space) (columns x : ℕ) (held : ℕ → Option RowVersion) : Type 0 where
   pub page : List ℕ
   pub told : s.bytes (key_in Main x) ≡ Some page
   pub slotted : IsSlotted page
+  pub clean : IsClean page
   pub each : (k : ℕ) → Shows columns (record_at page k) (held k)
 
 abbrev pub in_slot : ℕ → ℕ → Option RowVersion → List Placed

@@ -1,5 +1,7 @@
-//! A table of many rows over a plain space, stamps, and damaged pages under the readers.
-ghost use Rattle.std.specs.Prelude.{Some, OnOk, IfOk, IfSome};
+//! Tables over a plain space, of many rows and of one that dies, stamps, and damaged pages under the
+//! readers.
+ghost use Rattle.std.specs.Prelude.{◌≡◌, true, Some, OnOk, IfOk, IfSome};
+ghost use Rattle.hg_table.specs.Calls.{HasVersion};
 ghost use Rattle.hg_table.specs.Kept.{IsReady, IsReadyAt};
 ghost use Rattle.hg_base.specs.Space.{NoPins};
 
@@ -49,21 +51,23 @@ fn size_of_row(number: u32) -> usize {
     SHORTEST + number as usize % (LONGEST - SHORTEST + 1)
 }
 
-/// Puts a row of four values into a table. False where the row is none that may be put there.
+/// Puts a row of four values into a table. None where the row is none that may be put there.
 fn add<S: Pages>(
     table: &mut Table,
     space: &mut S,
     row: &Row,
     born: Stamp,
-) -> Result<bool, PageFault>
+) -> Result<Option<Place>, PageFault>
     requires { IsReady (S.state space.old) table.old 4 }
-    ensures { OnOk result (IsReady (S.state space.new) table.new 4) }
+    ensures ready { OnOk result (IsReady (S.state space.new) table.new 4) }
+    ensures there { IfOk result (λ o. IfSome o (λ p. (S.state space.new).told ≡ true
+        → HasVersion (S.state space.new) table.new 4 p)) }
 {
     if row.bytes().len() > LONGEST || row.len() != 4 {
-        return Ok(false);
+        return Ok(None);
     }
-    table.insert(space, row, born)?;
-    Ok(true)
+    let place = table.insert(space, row, born)?;
+    Ok(Some(place))
 }
 
 /// Puts so many rows into a table.
@@ -79,7 +83,7 @@ fn fill<S: Pages>(
     let mut put: u32 = 0;
     for number in 0..count {
         let row = sized_row(size_of_row(number));
-        if add(table, space, &row, born)? {
+        if add(table, space, &row, born)?.is_some() {
             put = put.saturating_add(1);
         }
     }
@@ -310,6 +314,91 @@ fn snapshots(rt: HostRuntime) -> Result<(), Fail> {
             sees(born, died, snapshot, &stamps),
             want,
             "{born} {died} {snapshot}"
+        );
+    }
+    Ok(())
+}
+
+/// Whether a snapshot sees the row at a place.
+fn is_seen_at<S: Pages>(
+    table: &Table,
+    space: &mut S,
+    place: Place,
+    snapshot: Stamp,
+    stamps: &Stamps,
+) -> Result<bool, PageFault>
+    requires out { NoPins (S.state space.old) }
+    requires there { (S.state space.old).told ≡ true → HasVersion (S.state space.old) table.now 4 place }
+    ensures out { OnOk result (NoPins (S.state space.new)) }
+    ensures there { OnOk result ((S.state space.new).told ≡ true
+        → HasVersion (S.state space.new) table.now 4 place) }
+{
+    let mut out = Row::new();
+    table.read(space, place, 4, snapshot, stamps, &mut out)
+}
+
+/// Kills the row at a place under a stamp. Under 0, which is none, nothing is done.
+fn die<S: Pages>(
+    table: &mut Table,
+    space: &mut S,
+    place: Place,
+    died: Stamp,
+) -> Result<(), PageFault>
+    requires out { NoPins (S.state space.old) }
+    requires there { (S.state space.old).told ≡ true → HasVersion (S.state space.old) table.old 4 place }
+    ensures out { OnOk result (NoPins (S.state space.new)) }
+    ensures there { OnOk result ((S.state space.new).told ≡ true
+        → HasVersion (S.state space.new) table.new 4 place) }
+{
+    if died.0 == 0 {
+        return Ok(());
+    }
+    table.kill(space, place, died)
+}
+
+/// Whether a snapshot sees a row that was born under 1: before it dies, once it died under a stamp,
+/// and once that stamp is committed.
+fn life<S: Pages>(
+    space: &mut S,
+    died: Stamp,
+    snapshot: Stamp,
+    stamps: &mut Stamps,
+) -> Result<Option<[bool; 3]>, PageFault>
+    requires { NoPins (S.state space.old) }
+{
+    let mut table = no_table(space);
+    let Some(place) = add(&mut table, space, &sized_row(SHORTEST), Stamp(1))? else {
+        return Ok(None);
+    };
+    let before = is_seen_at(&table, space, place, snapshot, stamps)?;
+    die(&mut table, space, place, died)?;
+    let dead = is_seen_at(&table, space, place, snapshot, stamps)?;
+    commit(stamps, died);
+    let committed = is_seen_at(&table, space, place, snapshot, stamps)?;
+    Ok(Some([before, dead, committed]))
+}
+
+#[test]
+fn deaths(rt: HostRuntime) -> Result<(), Fail> {
+    // each of these snapshots sees the row, also once it died; where the stamp of its death is committed,
+    // those before that stamp see it still, and those from it on see it no more
+    for (died, snapshot, want) in [
+        (2, 1, [true, true, true]),
+        (2, 2, [true, true, false]),
+        (2, 4, [true, true, false]),
+        (3, 2, [true, true, true]),
+        (3, 3, [true, true, false]),
+    ] {
+        let mut space = PlainSpace::new(rt.alloc());
+        let mut stamps = Stamps::new(rt.alloc())?;
+        for _turn in 0..4u8 {
+            let _ = stamps.draw();
+        }
+        commit(&mut stamps, Stamp(1));
+        assert_eq!(rt;
+            life(&mut space, Stamp(died), Stamp(snapshot), &mut stamps)?,
+            Some(want),
+            "{died} {snapshot}"
         );
     }
     Ok(())

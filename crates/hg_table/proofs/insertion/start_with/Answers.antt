@@ -6,4 +6,4 @@ pub unreachable-requires : goal.unreachable-requires
 unreachable-requires c = absurd (false≢true (c.in-Err.ensures.room.1 (c.init.ensures.room _ c.requires.short)))
 
 pub returns : goal.returns
-returns c = one_record c.init.new.page c.insert.new.page c.args.bytes.now c.in-Ok.slot c.init.ensures.none c.in-Ok.ensures.slotted c.in-Ok.ensures.inserted
+returns c = one_record c.init.new.page c.insert.new.page c.args.bytes.now c.in-Ok.slot c.init.ensures.none c.init.ensures.clean c.in-Ok.ensures.slotted c.in-Ok.ensures.inserted
