@@ -47,7 +47,8 @@ fault_at page k =
     if slice_index page 0 == 83 then (if nat_lt 128 (slots page) || reaches_past page k then Some Size else None)
     else Some Kind
 
--- A record was put into a slot that was empty, right below the records.
+-- A record was put into a slot that was empty, right below the place that the head names, which then is
+-- where this record begins.
 pub record Fills (old new : List ℕ) (slot : ℕ) (bytes : List ℕ) : Type 0 where
   pub clean : IsClean old → IsClean new
   pub slotted : IsSlotted new

@@ -19,7 +19,7 @@ pub fn start(page: &mut [u8])
     set_number(page, LOWEST, 4096);
 }
 
-/// Puts a record right below the others, for a slot that is empty.
+/// Puts a record right below the place that the head names, for a slot that is empty.
 pub fn fill(page: &mut [u8], slot: usize, bytes: &[u8])
     requires slotted { IsSlotted page.old }
     requires is_slot { slot < slots page.old }

@@ -1,4 +1,4 @@
--- The hash of a key: 64 bits, by the function FNV-1a (Fowler, Noll, Vo; RFC 9923). It begins with a
+-- The hash of a key: 64 bits, by the function FNV-1a (Fowler, Noll, Vo). It begins with a
 -- number; each byte is taken into it by exclusive or, and the whole is multiplied by a prime.
 use Rattle.std.specs.Prelude.{ℕ, List, bit_xor, ◌*◌, ◌%◌, ◌^◌}
 use Rattle.std.specs.List.{fold}
