@@ -1,6 +1,6 @@
 -- What a run took from its source and gave to its sink, over what these tell, and over any meaning of a
 -- run.
-use Rattle.std.specs.Prelude.{◌≡◌, ℕ, ◌≤◌, ◌^◌, ◌<◌, Bool, List, ◌++◌, length, Option}
+use Rattle.std.specs.Prelude.{◌≡◌, ℕ, ◌≤◌, ◌^◌, ◌<◌, ◌⊎◌, Bool, List, ◌++◌, length, Option}
 use Rattle.hg_base.specs.declared.File.TheVariants.{Main, Temp}
 use Rattle.hg_io.specs.Bytes.{then, before, AtEnd}
 use Rattle.hg_io.specs.Count.{raised}
@@ -63,13 +63,19 @@ pub record AnswersUpToLimit (Run : Runs) (old new : Outside) : Type 0 where
   pub replies : List Reply
   pub answers : Answers Run old new (whole_lines taken) replies
 
--- what was written is a front of the replies to the first lines of the script
+-- These are the first lines of what was taken: of the lines that a line feed ends, or, where the script
+-- was read to its end, of all lines.
+abbrev pub FirstLines : List ℕ → Option (List ℕ) → List Line → List Line → Type 0
+FirstLines taken left lines later = (whole_lines taken ≡ lines ++ later) ⊎ (AtEnd left × (lines_of taken ≡ lines ++ later))
+
+-- at most 2^32 bytes were taken, and what was written is a front of the replies to the first lines
 pub record AnswersInPart (Run : Runs) (old new : Outside) : Type 0 where
   pub taken : List ℕ
   pub took : Took old new taken
+  pub few : length taken ≤ 2 ^ 32
   pub lines : List Line
   pub later : List Line
-  pub first : lines_of taken ≡ lines ++ later
+  pub first : FirstLines taken new.left lines later
   pub replies : List Reply
   pub of_run : Replies Run old new lines replies
   pub front : List ℕ

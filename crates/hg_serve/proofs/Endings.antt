@@ -1,8 +1,8 @@
 -- from where a session stands to how a script ends
-use Rattle.std.proofs.Common.{◌≡◌, ◌≢◌, ℕ, ◌<◌, ◌+◌, ◌-◌, ◌^◌, Bool, List, [], ◌++◌, length, take, Option, None, Some, refl, sym, ap, ◌∙◌, arith, inl, inr, ◌⊎◌, append_assoc, append-nil, length-append}
+use Rattle.std.proofs.Common.{◌≡◌, ◌≢◌, ℕ, ◌<◌, ◌≤◌, ◌+◌, ◌-◌, ◌^◌, Bool, List, [], ◌++◌, length, take, Option, None, Some, refl, sym, ap, ◌∙◌, arith, inl, inr, ◌⊎◌, append-nil, length-append}
 use Rattle.hg_io.specs.Bytes.{then, before, AtEnd, before-before}
 use Rattle.hg_io.specs.Count.{raised}
-use Rattle.hg_machine.specs.Script.{Line, last_part, unended, whole_lines, lines_of}
+use Rattle.hg_machine.specs.Script.{Line, whole_lines, lines_of}
 use Rattle.hg_machine.specs.State.{State}
 use Rattle.hg_machine.specs.Reply.{Reply, text_of}
 use Rattle.hg_machine.specs.Outcome.{Outside, Took, Replies, AnswersAll, AnswersWholeLines, AnswersUpToLimit, AnswersInPart}
@@ -97,15 +97,15 @@ module _ {E : Type 0} (Stands : E → State → Type 0) (told : Bool) (first now
 
   module _ (left0 left1 : Option (List ℕ)) (given0 given1 : ℕ) (w0 w1 : Option (List ℕ)) (f0 f1 : DeviceFaults) (taken : List ℕ)
       (stood : Stands first start) (took : Took (outside left0 given0 w0 f0) (outside left1 given1 w1 f1) taken) where
-    ends-in-part : (later : List Line) → lines_of taken ≡ whole_lines taken ++ later
-        → Halts Stands told first now (seen w0 f0) (seen w1 f1) (whole_lines taken)
+    pub breaks-off : length taken ≤ 2 ^ 32 → Halts Stands told first now (seen w0 f0) (seen w1 f1) (whole_lines taken)
         → AnswersInPart (RunFrom Stands now told start) (outside left0 given0 w0 f0) (outside left1 given1 w1 f1)
-    ends-in-part later parts h = record {
+    breaks-off few h = record {
       taken = taken;
       took = took;
+      few = few;
       lines = h.front;
-      later = h.later ++ later;
-      first = parts ∙ ap (λ l. l ++ later) h.parts ∙ append_assoc h.front h.later later;
+      later = h.later;
+      first = inl h.parts;
       replies = h.replies;
       of_run = the-replies _ _ h.front h.replies stood h.moves h.tells.counted;
       front = h.tells.breaks.front;
@@ -113,11 +113,6 @@ module _ {E : Type 0} (Stands : E → State → Type 0) (told : Bool) (first now
       parts = h.tells.breaks.parts;
       text = h.tells.breaks.written;
     }
-
-    pub breaks-off : Halts Stands told first now (seen w0 f0) (seen w1 f1) (whole_lines taken)
-        → AnswersInPart (RunFrom Stands now told start) (outside left0 given0 w0 f0) (outside left1 given1 w1 f1)
-    unfolding lines_of
-    breaks-off h = ends-in-part (unended (last_part [] taken)) refl h
 
     answers-all : (errors : Bool) → length taken < 2 ^ 32 → AtEnd left1
         → AllAnswered Stands told first now (seen w0 f0) (seen w1 f1) (lines_of taken) errors
@@ -142,9 +137,10 @@ module _ {E : Type 0} (Stands : E → State → Type 0) (told : Bool) (first now
     closes status.SinkFault few last h = record {
       taken = taken;
       took = took;
+      few = omega (arith, few);
       lines = h.front;
       later = h.later;
-      first = h.parts;
+      first = inr (last, h.parts);
       replies = h.replies;
       of_run = the-replies _ _ h.front h.replies stood h.moves h.tells.counted;
       front = h.tells.breaks.front;

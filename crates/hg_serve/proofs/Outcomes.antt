@@ -40,6 +40,7 @@ module _ (P Q : Runs) (old new : Outside) (wider : (lines : List Line) (replies 
   part-as a = record {
     taken = a.taken;
     took = a.took;
+    few = a.few;
     lines = a.lines;
     later = a.later;
     first = a.first;

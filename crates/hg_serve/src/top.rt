@@ -88,6 +88,9 @@ pub fn run<S: Source, K: Sink, M: PageDevice, T: PageDevice>(
     ensures no_memory_reads_nothing { result.status ≡ Status.NoMemory → source.new ≡ source.old }
     ensures no_memory_writes_nothing { result.status ≡ Status.NoMemory → sink.new ≡ sink.old }
     ensures no_memory_calls_no_device { result.status ≡ Status.NoMemory → (result.main ≡ main) × (result.temp ≡ temp) }
+
+    ensures source_later { S.faults source.old ≤ S.faults source.new }
+    ensures sink_later { K.faults sink.old ≤ K.faults sink.new }
 {
     if !words.is_empty() {
         return Outcome {

@@ -29,7 +29,7 @@ loop-taken-init g c = record {
 pub returns-in-Err-clause-ends : goal.returns-in-Err-clause-ends
 returns-in-Err-clause-ends g c = λ first stood.
     let served = c.loop-taken.invariant.served in
-    breaks-off _ _ _ _ first _ _ _ _ _ _ _ _ served.0 stood (took-same _ _ _ served.0 served.1 refl refl)
+    breaks-off _ _ _ _ first _ _ _ _ _ _ _ _ served.0 stood (took-same _ _ _ served.0 served.1 refl refl) (omega (arith, served.2, c.loop-taken.invariant.within))
     (breaks-serves _ _ c.args.engine.now _ _ _ _ _ c.loop-taken.session served.0 served.3 (c.in-Err.ensures {u = tt}).part)
 
 pub returns-in-Err-clause-bytes : goal.returns-in-Err-clause-bytes
@@ -115,6 +115,7 @@ returns-in-Err-feed-clause-ends g c = λ first stood.
     breaks-off _ _ _ _ first _ _ _ _ _ _ _ _ (served.0 ++ bytes) stood
     (took-more _ (outside (g.S.Source.left c.loop-taken.source) (g.S.Source.given c.loop-taken.source) (g.K.Sink.written c.loop-taken.sink) (g.E.Machine.faults c.loop-taken.engine)) _
     served.0 bytes c.in-Ok.count served.1 (rw c.split_at.ensures.front read.bytes.0) c.split_at.ensures.front_len read.given)
+    (omega (arith, length-append served.0 bytes, served.2, c.split_at.ensures.front_len, c.loop-taken-test.true, c.min-room.ensures, read.bound))
     (halts-as _ _ _ told c.args.engine.now _ _ _ (served.0 ++ bytes) (served.0 ++ bytes) refl
     ((c.in-Err-feed.ensures {u = tt}).part c.args.engine.now _ served.0 (serves-as _ _ _ (sym told) c.args.engine.now _ _ _ _ _ _ refl serves)))
 
@@ -181,7 +182,7 @@ returns-in-Ok-flush-clause-bytes g c =
 pub returns-in-Err-flush-clause-ends : goal.returns-in-Err-flush-clause-ends
 returns-in-Err-flush-clause-ends g c = λ first stood.
     let served = c.loop-taken.invariant.served in
-    breaks-off _ _ _ _ first _ _ _ _ _ _ _ _ served.0 stood (took-same _ _ _ served.0 served.1 refl refl)
+    breaks-off _ _ _ _ first _ _ _ _ _ _ _ _ served.0 stood (took-same _ _ _ served.0 served.1 refl refl) (omega (arith, served.2, c.loop-taken.invariant.within))
     (breaks-serves _ _ c.args.engine.now _ _ _ _ _ c.loop-taken.session served.0 served.3 (c.in-Err-flush.ensures {u = tt}).part)
 
 pub returns-in-Err-flush-clause-bytes : goal.returns-in-Err-flush-clause-bytes
