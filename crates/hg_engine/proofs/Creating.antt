@@ -137,6 +137,7 @@ pub created-stands : (s : Space) (marks : List Bool) (entries : List Entry) (sta
 created-stands s marks entries state e none stands idle =
     let t : TableState = record { name = e.name; columns = e.columns.items; rows = [] } in
     record {
+      told = stands.told;
       pins = stands.pins;
       pages = λ k. if k == length entries then [] else stands.pages k;
       tables = tables-more s marks entries state.tables stands.pages e t stands.tables (new-stands s marks e none);
@@ -173,7 +174,7 @@ create-refused s old name columns d cannot = record {
   to = λ before stands. (
     before,
     stands,
-    λ told. table_refused (λ can. cannot (record {
+    table_refused (λ can. cannot (record {
       different = can.different;
       unknown = known-entry s old.stamps old.entries.items before.tables stands.pages name d stands.tables can.unknown;
       few = subst (λ n. n < 64) stands.tables.count can.few;
@@ -194,7 +195,7 @@ create-made s old new e idle may none entries stamps still = record {
         subst (λ x. Stands s new.entries.items new.stamps x after) (sym still)
             (subst (λ m. Stands s new.entries.items m None after) (sym stamps)
             (subst (λ l. Stands s l old.stamps None after) (sym entries) made)),
-        λ told. table_made (record {
+        table_made (record {
           different = may.different;
           unknown = unknown-entry s old.stamps old.entries.items before.tables stands.pages e.name e stands.tables may.unknown;
           few = subst (λ n. n < 64) (sym stands.tables.count) may.few;

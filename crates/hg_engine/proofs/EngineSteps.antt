@@ -12,7 +12,6 @@ says-so a b reply lines tells counted = record { text = tells.text; errors = tel
 
 pub is-later : (a b : Space) → IsSameSpace a b → IsLater a b
 is-later a b same = record {
-  told = same.told;
   main = same.later.main_device;
   temp = same.later.temp_device;
   full = same.later.main_full;

@@ -52,10 +52,11 @@ none-taken taken (suc n) none =
     ap (λ b. (if b then 1 else 0) + taken_below taken Main n) (none (key_in Main n)) ∙ ap (λ k. 0 + k) (none-taken taken n none)
 
 -- an engine of no table stands for the first state
-pub opened : (a b : Space) (x : Tables) (limit : ℕ) → TakesFirst a b → ((q : ℕ) → a.taken q ≡ false) → a.limit Main ≡ limit
-    → x.entries.items ≡ [] → x.stamps ≡ [] → x.scan ≡ None → TablesAre b x (first_state limit)
-opened a b x limit first none limit_is entries stamps scan =
-    let standing : Stands b [] [] None (first_state limit) = record {
+pub opened : (a b : Space) (x : Tables) (told : Bool) (limit : ℕ) → TakesFirst a b → a.told ≡ told → ((q : ℕ) → a.taken q ≡ false) → a.limit Main ≡ limit
+    → x.entries.items ≡ [] → x.stamps ≡ [] → x.scan ≡ None → TablesAre b x (first_state told limit)
+opened a b x told limit first told_is none limit_is entries stamps scan =
+    let standing : Stands b [] [] None (first_state told limit) = record {
+      told = sym (first.told ∙ told_is);
       pins = first.pins;
       pages = λ k. [];
       tables = record {
@@ -68,5 +69,5 @@ opened a b x limit first none limit_is entries stamps scan =
       limit = sym limit_is ∙ sym (ap (λ l. l Main) first.limit);
       stamps = refl;
     } in
-    subst (λ c. Stands b x.entries.items x.stamps c (first_state limit)) (sym scan)
-    (subst (λ m. Stands b x.entries.items m None (first_state limit)) (sym stamps) (subst (λ l. Stands b l [] None (first_state limit)) (sym entries) standing))
+    subst (λ c. Stands b x.entries.items x.stamps c (first_state told limit)) (sym scan)
+    (subst (λ m. Stands b x.entries.items m None (first_state told limit)) (sym stamps) (subst (λ l. Stands b l [] None (first_state told limit)) (sym entries) standing))

@@ -9,7 +9,7 @@ use Rattle.hg_base.specs.declared.pages.PageFault.TheVariants as fault
 use Rattle.hg_model.specs.declared.values.Value.{Value}
 use Rattle.hg_machine.specs.State.{State, TableState, IsTableAt, Draws}
 use Rattle.hg_machine.specs.Reply.{inserted, syntax_error, unknown_table, stamps_used_up}
-use Rattle.hg_machine.specs.Insert.{Inserts, MayInsert, rows_misfit, rows_nowhere, no_stamp_left, device_failed, file_full}
+use Rattle.hg_machine.specs.Insert.{Inserts, MayInsert, rows_misfit, rows_nowhere, no_stamp_left, device_failed, file_full, page_damaged}
 use Rattle.hg_table.specs.Marks.{last, Draws as DrawsStamp, Commits}
 use Rattle.hg_engine.specs.Named.{IsNamedAt}
 use Rattle.hg_engine.specs.Putting.{Puts, PutsSome, PutFault, HaveColumns, CanPut}
@@ -41,7 +41,7 @@ module _ (s : Space) (old new : Tables) (name : List ℕ) (rows : List (List Val
     to = λ before st. (
       before,
       stays s old new before entries stamps scan st,
-      λ told. rows_nowhere (unknown-entry s old.stamps old.entries.items before.tables st.pages name d st.tables none) refl refl,
+      rows_nowhere (unknown-entry s old.stamps old.entries.items before.tables st.pages name d st.tables none) refl refl,
     );
   }
 
@@ -67,7 +67,7 @@ module _ (s : Space) (old new : Tables) (name : List ℕ) (rows : List (List Val
         let f = found k before st at in (
           before,
           stays s old new before entries stamps scan st,
-          λ told. rows_misfit k f.table (at-table k before st at f)
+          rows_misfit k f.table (at-table k before st at f)
               (λ fit. misfit f.entry f.at_entry (subst (λ n. HaveColumns n rows) (ap length f.stands.columns) fit)) refl refl,
         );
   }
@@ -81,7 +81,7 @@ module _ (s : Space) (old new : Tables) (name : List ℕ) (rows : List (List Val
         let f = found k before st at in (
           before,
           stays s old new before entries stamps scan st,
-          λ told. no_stamp_left k f.table (at-table k before st at f)
+          no_stamp_left k f.table (at-table k before st at f)
               (subst (λ n. HaveColumns n rows) (sym (ap length f.stands.columns)) (fit f.entry f.at_entry)) (st.stamps ∙ full) refl refl,
         );
   }
@@ -126,7 +126,7 @@ module _ (a b : Space) (old new : Tables) (mid last_marks : List Bool) (name : L
         (sym f.at_entry ∙ slice_get-get_or old.entries.items k d at.inside)) ∙ at.named d in
         let step = insert-joined a b old.entries.items old.stamps mid new.stamps before k name rows stamp p.ends rest left f named (fit f.entry f.at_entry) draws few commits
         (p.put (rest.pages k) (length f.entry.columns.items) f.stands.chain (fit f.entry f.at_entry)) in
-        (step.0, after-all (slice_set old.entries.items k (with_ends f.entry p.ends)) new.stamps step.0 p.after refl step.1, λ told. step.2);
+        (step.0, after-all (slice_set old.entries.items k (with_ends f.entry p.ends)) new.stamps step.0 p.after refl step.1, step.2);
   }
 
   -- the rows could not all be put
@@ -145,18 +145,18 @@ module _ (a b : Space) (old new : Tables) (mid last_marks : List Bool) (name : L
         let may : MayInsert before name rows k t.table = may-insert a old.entries.items old.stamps mid before k name rows stamp rest t named (fit t.entry t.at_entry) draws few in (
           step.0,
           after-all (slice_set old.entries.items k (with_ends t.entry p.ends)) mid step.0 p.after same step.1,
-          λ told. by-cause f before step.0 t.table may some.cause step.2 rest.used rest.limit told,
+          by-cause f before step.0 t.table may some.cause step.2 rest.used rest.limit rest.told,
         );
   }
     where
       by-cause : (f : PageFault) (before after : State) (t : TableState) → MayInsert before name rows k t → PutFault a b (length rows) f
-          → Draws before after (length rows) → before.used ≡ Rattle.hg_base.specs.Space.taken_in a Main → before.limit ≡ a.limit Main → a.told ≡ true
+          → Draws before after (length rows) → before.used ≡ Rattle.hg_base.specs.Space.taken_in a Main → before.limit ≡ a.limit Main → before.told ≡ a.told
           → Inserts before name rows (line_of f ∷ []) after
       by-cause fault.MainFault before after t may cause draws used limit told = device_failed Main k t may refl draws
       by-cause fault.TempFault before after t may cause draws used limit told = device_failed Temp k t may refl draws
       by-cause fault.MainFull before after t may cause draws used limit told = file_full k t may (let h = cause.0 in omega arith) refl draws
       by-cause fault.TempFull before after t may cause draws used limit told = absurd cause
-      by-cause (fault.Damaged page check) before after t may cause draws used limit told = absurd (Rattle.std.proofs.lemmas.Bool.false≢true (sym cause ∙ told))
+      by-cause (fault.Damaged page check) before after t may cause draws used limit told = page_damaged page check k t (told ∙ cause) may refl draws
 
 -- what the space is after rows were put into a table
 pub done-same : (a b : Space) (x : Tables) (state : State) (entries : List Entry) (k stamp : ℕ) (rows : List (List Value)) (d : Entry)

@@ -26,13 +26,13 @@ use Rattle.hg_engine.specs.declared.scan.Scan.{Scan}
 use Rattle.hg_engine.specs.declared.tables.Tables.{Tables}
 use Rattle.hg_engine.proofs.Creating.{FoundAt, found-at, unknown-entry, idle-left}
 use Rattle.hg_engine.proofs.Inserting.{resting}
-use Rattle.hg_engine.proofs.Turns.{FindsAll, select-stands, scan-left, turn-row, turn-end, turn-fails}
+use Rattle.hg_engine.proofs.Turns.{FindsAll, select-stands, scan-left, turn-row, turn-end, turn-fails, turn-damaged}
 
 -- no table has the name
 pub select-nowhere : (s : Space) (x : Tables) (name : List ℕ) (d : Entry) → All (λ (e : Entry). e.name ≢ name) x.entries.items
     → StepsTo s s x x (λ before lines after. Selects before name lines after) (unknown_table name ∷ [])
 select-nowhere s x name d none = record {
-  to = λ before st. (before, st, λ told. rows_unknown (unknown-entry s x.stamps x.entries.items before.tables st.pages name d st.tables none) refl refl);
+  to = λ before st. (before, st, rows_unknown (unknown-entry s x.stamps x.entries.items before.tables st.pages name d st.tables none) refl refl);
 }
 
 -- the rows of the table are left to give
@@ -49,7 +49,7 @@ select-there s old new name k budget d idle at entries stamps scan big = record 
         subst (λ c. Stands s new.entries.items new.stamps c after) (sym scan)
             (subst (λ m. Stands s new.entries.items m (Some (record { table = k; at = None; budget = budget })) after) (sym stamps)
             (subst (λ l. Stands s l old.stamps (Some (record { table = k; at = None; budget = budget })) after) (sym entries) stands)),
-        λ told. rows_found k f.table (record { place = f.at_table; named = f.stands.name ∙ named-entry k f at }) refl refl,
+        rows_found k f.table (record { place = f.at_table; named = f.stands.name ∙ named-entry k f at }) refl refl,
       );
 }
   where
@@ -102,16 +102,16 @@ module _ (a b : Space) (old new : Tables) (scan : Scan) (work_is : old.scan ≡ 
   turn-faults f is cause = record {
     to = λ before st.
         let work = busy before st in
-        (record before { left = None }, now None (record before { left = None }) is (turn-fails a b old.entries.items old.stamps scan before Main steady none work).0, λ told. by-cause f before work cause told);
+        (record before { left = None }, now None (record before { left = None }) is (turn-fails a b old.entries.items old.stamps scan before Main steady none work).0, by-cause f before work cause);
   }
     where
-      by-cause : (f : PageFault) (before : State) → Stands a old.entries.items old.stamps (Some scan) before → ScanFault a b f → a.told ≡ true
+      by-cause : (f : PageFault) (before : State) → Stands a old.entries.items old.stamps (Some scan) before → ScanFault a b f
           → Turn before (line_of f ∷ closed ∷ []) (record before { left = None })
-      by-cause fault.MainFault before work cause told = (turn-fails a b old.entries.items old.stamps scan before Main steady none work).1
-      by-cause fault.TempFault before work cause told = (turn-fails a b old.entries.items old.stamps scan before Temp steady none work).1
-      by-cause fault.MainFull before work cause told = absurd cause
-      by-cause fault.TempFull before work cause told = absurd cause
-      by-cause (fault.Damaged page check) before work cause told = absurd (Rattle.std.proofs.lemmas.Bool.false≢true (sym cause ∙ told))
+      by-cause fault.MainFault before work cause = (turn-fails a b old.entries.items old.stamps scan before Main steady none work).1
+      by-cause fault.TempFault before work cause = (turn-fails a b old.entries.items old.stamps scan before Temp steady none work).1
+      by-cause fault.MainFull before work cause = absurd cause
+      by-cause fault.TempFull before work cause = absurd cause
+      by-cause (fault.Damaged page check) before work cause = turn-damaged a b old.entries.items old.stamps scan before page check steady none work cause
 
 pub map-ok : {T E : Type 0} (r : Result T E) (P Q : T → Type 0) → ((x : T) → P x → Q x) → IfOk r P → IfOk r Q
 map-ok (Ok x) P Q f h = f x h

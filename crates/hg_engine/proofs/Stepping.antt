@@ -76,6 +76,7 @@ insert-joined a b entries old mid new state k name rows s ends st idle f named f
     } in (
       after,
       record {
+        told = st.told ∙ sym p.grows.steady.told;
         pins = p.grows.steady.pins_after;
         pages = pages_with st.pages k p.now;
         tables = tables;
@@ -106,6 +107,7 @@ insert-failed a b entries old new state k name rows done s ends st idle f d less
     let used = st.used in (
       after,
       record {
+        told = st.told ∙ sym p.grows.steady.told;
         pins = p.grows.steady.pins_after;
         pages = pages_with st.pages k p.now;
         tables = tables;

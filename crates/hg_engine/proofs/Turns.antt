@@ -7,12 +7,14 @@ use Rattle.std.proofs.lemmas.List.Sorted.{IsPermutation-refl, length_permutation
 use Rattle.hg_base.specs.Space.{Space, taken_in, taken_below}
 use Rattle.hg_base.specs.Steadiness.{Steady}
 use Rattle.hg_base.specs.TakenLaws.{AreDistinctPages-few}
+use Rattle.hg_base.specs.declared.Check.{Check}
 use Rattle.hg_base.specs.declared.File.{File}
+use Rattle.hg_base.specs.declared.PageId.{PageId}
 use Rattle.hg_base.specs.declared.File.TheVariants.{Main}
 use Rattle.hg_model.specs.declared.values.Value.{Value}
 use Rattle.hg_machine.specs.State.{State, TableState}
-use Rattle.hg_machine.specs.Reply.{device_fault, row, at_end, closed}
-use Rattle.hg_machine.specs.Run.{Turn, gives_row, ends, fails}
+use Rattle.hg_machine.specs.Reply.{device_fault, damaged, row, at_end, closed}
+use Rattle.hg_machine.specs.Run.{Turn, gives_row, ends, fails, gives_any_row, ends_any_time, finds_damage}
 use Rattle.hg_table.specs.Marks.{last, committed}
 use Rattle.hg_table.specs.Versions.{Placed, RowVersion, IsTable, in_slot, in_slots, in_pages, most_slots}
 use Rattle.hg_table.specs.Calls.{none_mine, TakesNone}
@@ -89,6 +91,7 @@ pub moved : (a b : Space) (entries : List Entry) (marks : List Bool) (old new : 
     → Steady none_mine a b → TakesNone a b → (st : Stands a entries marks old state) → LeftStands b marks entries st.pages new left
     → Stands b entries marks new (record state { left = left })
 moved a b entries marks old new state left steady none st stand = record {
+  told = st.told ∙ sym steady.told;
   pins = steady.pins_after;
   pages = st.pages;
   tables = tables-stay a b marks entries state.tables st.pages steady st.tables;
@@ -104,6 +107,7 @@ pub select-stands : (s : Space) (entries : List Entry) (marks : List Bool) (stat
     → 128 * taken_in s Main < budget
     → Stands s entries marks (Some (record { table = k; at = None; budget = budget })) (record state { left = Some f.table.rows })
 select-stands s entries marks state k budget st f inside big = record {
+  told = st.told;
   pins = st.pins;
   pages = st.pages;
   tables = st.tables;
@@ -153,21 +157,21 @@ pub turn-row : (a b : Space) (entries : List Entry) (marks : List Bool) (scan : 
     → Steady none_mine a b → TakesNone a b → Stands a entries marks (Some scan) state → slice_get entries scan.table ≡ Some e
     → FindsAll a b marks e scan values f
     → (after : State) × Stands b entries marks (Some (record { table = scan.table; at = Some f.place; budget = f.budget })) after
-    × (a.told ≡ true → Turn state (row values ∷ []) after)
+    × Turn state (row values ∷ []) after
 turn-row a b entries marks scan state e values f steady none st he finds = by-told a.told refl
   where
     left : (l : List (List Value)) × (state.left ≡ Some l) × ScanStands a marks entries st.pages scan l
     left = scan-left a entries marks scan state st
 
     by-told : (t : Bool) → a.told ≡ t → (after : State) × Stands b entries marks (Some (record { table = scan.table; at = Some f.place; budget = f.budget })) after
-        × (a.told ≡ true → Turn state (row values ∷ []) after)
+        × Turn state (row values ∷ []) after
     by-told false untold = (
       record state { left = Some [] },
       moved a b entries marks (Some scan) (Some (record { table = scan.table; at = Some f.place; budget = f.budget })) state (Some []) steady none st (record {
         table = left.2.table;
         rows = λ told g hg. absurd (false≢true (sym untold ∙ sym steady.told ∙ told));
       }),
-      λ told. absurd (false≢true (sym untold ∙ told)),
+      gives_any_row left.0 [] values (st.told ∙ untold) left.1 refl refl,
     )
     by-told true told =
         let h = left.2.rows told e he in
@@ -186,7 +190,7 @@ turn-row a b entries marks scan state e values f steady none st he finds = by-to
                   seen = IsPermutation-refl others;
                 });
           }),
-          λ told. gives_row left.0 others values left.1 (subst (IsPermutation left.0) found.rows h.seen) refl refl,
+          gives_row left.0 others values left.1 (subst (IsPermutation left.0) found.rows h.seen) refl refl,
         )
 
 -- a turn finds nothing left
@@ -194,20 +198,24 @@ pub turn-end : (a b : Space) (entries : List Entry) (marks : List Bool) (scan : 
     → Steady none_mine a b → TakesNone a b → Stands a entries marks (Some scan) state → slice_get entries scan.table ≡ Some e
     → ((pages : List ℕ) (done rest : List Placed) → Position a e.data (length e.columns.items) pages done rest scan.at → length rest < scan.budget
     → seen_rows (committed marks) (last marks) rest ≡ [])
-    → Stands b entries marks None (record state { left = None }) × (a.told ≡ true → Turn state (at_end ∷ []) (record state { left = None }))
+    → Stands b entries marks None (record state { left = None }) × Turn state (at_end ∷ []) (record state { left = None })
 turn-end a b entries marks scan state e steady none st he none_left =
-    let left = scan-left a entries marks scan state st in (
-      moved a b entries marks (Some scan) None state None steady none st tt,
-      λ told.
-          let h = left.2.rows told e he in
-          let nothing : seen_rows (committed marks) (last marks) h.rest ≡ [] = none_left (st.pages scan.table) h.done h.rest h.position h.few in
-          let empty : left.0 ≡ [] = none-in left.0 (subst (IsPermutation left.0) nothing h.seen) in
-          ends (left.1 ∙ ap Some empty) refl refl,
-    )
+    (moved a b entries marks (Some scan) None state None steady none st tt, by-told a.told refl)
   where
+    left : (l : List (List Value)) × (state.left ≡ Some l) × ScanStands a marks entries st.pages scan l
+    left = scan-left a entries marks scan state st
+
     none-in : (xs : List (List Value)) → IsPermutation xs [] → xs ≡ []
     none-in [] p = refl
     none-in (x ∷ xs) p = absurd (let n = length_permutation (x ∷ xs) [] p in omega arith)
+
+    by-told : (t : Bool) → a.told ≡ t → Turn state (at_end ∷ []) (record state { left = None })
+    by-told false untold = ends_any_time left.0 (st.told ∙ untold) left.1 refl refl
+    by-told true told =
+        let h = left.2.rows told e he in
+        let nothing : seen_rows (committed marks) (last marks) h.rest ≡ [] = none_left (st.pages scan.table) h.done h.rest h.position h.few in
+        let empty : left.0 ≡ [] = none-in left.0 (subst (IsPermutation left.0) nothing h.seen) in
+        ends (left.1 ∙ ap Some empty) refl refl
 
 -- a turn fails
 pub turn-fails : (a b : Space) (entries : List Entry) (marks : List Bool) (scan : Scan) (state : State) (file : File)
@@ -216,3 +224,10 @@ pub turn-fails : (a b : Space) (entries : List Entry) (marks : List Bool) (scan 
 turn-fails a b entries marks scan state file steady none st =
     let left = scan-left a entries marks scan state st in
     (moved a b entries marks (Some scan) None state None steady none st tt, fails file left.0 left.1 refl refl)
+
+-- a turn finds a damaged page
+pub turn-damaged : (a b : Space) (entries : List Entry) (marks : List Bool) (scan : Scan) (state : State) (page : PageId) (check : Check)
+    → Steady none_mine a b → TakesNone a b → Stands a entries marks (Some scan) state → a.told ≡ false
+    → Turn state (damaged page check ∷ closed ∷ []) (record state { left = None })
+turn-damaged a b entries marks scan state page check steady none st untold =
+    let left = scan-left a entries marks scan state st in finds_damage page check left.0 (st.told ∙ untold) left.1 refl refl

@@ -30,10 +30,6 @@ module _ {M T : Type 0} where
   abbrev pub IsEngineOf : Ghosts M → Ghosts T → Engine M T → State → Type 0
   IsEngineOf m t e state = TablesAre (space_of m t e) e.tables state
 
-  -- whether both devices tell their pages
-  abbrev pub told_of : Ghosts M → Ghosts T → Engine M T → Bool
-  told_of m t e = (space_of m t e).told
-
   abbrev pub faults_of : Ghosts M → Ghosts T → Engine M T → DeviceFaults
   faults_of m t e = faults_in (space_of m t e)
 
@@ -53,11 +49,10 @@ module _ {M T : Type 0} where
     pub lines : List Line
     pub says : Says reply (faults_of m t old) (faults_of m t new) lines
     pub full : FullOnlyWhereFull (fulls_of m t old) (fulls_of m t new) lines
-    pub moves : Moves (IsEngineOf m t) (space_of m t old).told old new Step lines
+    pub moves : Moves (IsEngineOf m t) old new Step lines
 
--- no step changes whether the devices tell their pages, and no count falls
+-- no count falls
 pub record IsLater (a b : Space) : Type 0 where
-  pub told : b.told ≡ a.told
   pub main : a.counts.main_device ≤ b.counts.main_device
   pub temp : a.counts.temp_device ≤ b.counts.temp_device
   pub full : a.counts.main_full ≤ b.counts.main_full

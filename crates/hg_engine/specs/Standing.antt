@@ -59,6 +59,7 @@ LeftStands s marks entries pages (Some scan) (Some left) = ScanStands s marks en
 
 -- what an engine keeps of its tables, its stamps and the SELECT at work stands for this state
 pub record Stands (s : Space) (entries : List Entry) (marks : List Bool) (scan : Option Scan) (state : State) : Type 0 where
+  pub told : state.told ≡ s.told
   pub pins : NoPins s
   pub pages : ℕ → List ℕ
   pub tables : TablesStand s marks entries state.tables pages

@@ -36,9 +36,9 @@ pub record Counted (a b : Space) (lines : List Line) : Type 0 where
   pub temp : raised a.counts.temp_device (fault_lines Temp lines) ≤ b.counts.temp_device
   pub full : FullOnlyWhereFull a.counts.main_full b.counts.main_full lines
 
--- where the space tells, it is a step of the machine
+-- it is a step of the machine
 pub record StepsTo (a b : Space) (old new : Tables) (Step : State → List Line → State → Type 0) (lines : List Line) : Type 0 where
-  pub to : (before : State) → TablesAre a old before → (after : State) × TablesAre b new after × (a.told ≡ true → Step before lines after)
+  pub to : (before : State) → TablesAre a old before → (after : State) × TablesAre b new after × Step before lines after
 
 -- a table of that name and these columns may be made
 pub record MayCreate (entries : List Entry) (name : List ℕ) (columns : List (List ℕ)) : Type 0 where

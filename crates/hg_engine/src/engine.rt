@@ -34,7 +34,7 @@ impl<M: PageDevice, T: PageDevice> Engine<M, T> {
     ghost use Rattle.hg_machine.specs.Run.{Turn};
     ghost use Rattle.hg_machine.specs.Select.{Selects};
     ghost use Rattle.hg_machine.specs.State.{State};
-    ghost use Rattle.hg_engine.specs.Shown.{space_of, main_of, temp_of, IsEngineOf, told_of, is_pending, turns_left, EngineSteps, IsLater};
+    ghost use Rattle.hg_engine.specs.Shown.{space_of, main_of, temp_of, IsEngineOf, is_pending, turns_left, EngineSteps, IsLater};
 
     /// An engine of no table over these devices. Page 0 of the main file is kept for the catalog. The only
     /// error is want of memory; the devices are then handed back. No device is called.
@@ -45,8 +45,7 @@ impl<M: PageDevice, T: PageDevice> Engine<M, T> {
         temp: T,
     ) -> Result<Engine<M, T>, Devices<M, T>>
         requires { IsPossible config.now (M.pages main) (T.pages temp) }
-        ensures start { IfOk result (λ e. IsEngineOf M.PageDevice T.PageDevice e (first_state config.now.main_pages)) }
-        ensures told { IfOk result (λ e. told_of M.PageDevice T.PageDevice e ≡ (M.told main && T.told temp)) }
+        ensures start { IfOk result (λ e. IsEngineOf M.PageDevice T.PageDevice e (first_state (M.told main && T.told temp) config.now.main_pages)) }
         ensures idle { IfOk result (λ e. is_pending e ≡ false) }
         ensures main { IfOk result (λ e. main_of e ≡ main) }
         ensures temp { IfOk result (λ e. temp_of e ≡ temp) }
@@ -136,12 +135,10 @@ impl<M: PageDevice, T: PageDevice> Engine<M, T> {
 }
 
 impl<M: PageDevice, T: PageDevice> Machine for Engine<M, T> {
-    ghost use Rattle.hg_engine.specs.Shown.{IsEngineOf, faults_of, fulls_of, told_of, is_pending, turns_left};
+    ghost use Rattle.hg_engine.specs.Shown.{IsEngineOf, faults_of, fulls_of, is_pending, turns_left};
     ghost use Rattle.hg_engine.specs.ShownLaws.{pends_of};
 
     ghost stands = { IsEngineOf M.PageDevice T.PageDevice };
-
-    ghost told = { told_of M.PageDevice T.PageDevice };
 
     ghost faults = { faults_of M.PageDevice T.PageDevice };
 

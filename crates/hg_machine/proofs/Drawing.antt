@@ -6,10 +6,10 @@ use Rattle.hg_model.specs.declared.values.Value.{Value}
 use Rattle.hg_machine.specs.declared.statements.Statement.{Statement}
 use Rattle.hg_machine.specs.declared.statements.Statement.TheVariants as statement
 use Rattle.hg_machine.specs.CreateTable.{CreatesTable, table_made, table_refused}
-use Rattle.hg_machine.specs.Insert.{Inserts, rows_joined, rows_misfit, rows_nowhere, no_stamp_left, device_failed, file_full}
+use Rattle.hg_machine.specs.Insert.{Inserts, rows_joined, rows_misfit, rows_nowhere, no_stamp_left, device_failed, file_full, page_damaged}
 use Rattle.hg_machine.specs.Laws.{rows_needed, LineNeedsAtMost, NeedAtMost, FewRowsNeverFillMain}
 use Rattle.hg_machine.specs.Reply.{Reply, main_full}
-use Rattle.hg_machine.specs.Run.{Begins, LineBegins, asks, is_blank_line, too_long, has_no_reading, Turn, gives_row, ends, fails, GivesTurns, RunsLine, RunsLines}
+use Rattle.hg_machine.specs.Run.{Begins, LineBegins, asks, is_blank_line, too_long, has_no_reading, Turn, gives_row, ends, fails, gives_any_row, ends_any_time, finds_damage, GivesTurns, RunsLine, RunsLines}
 use Rattle.hg_machine.specs.Script.{Line}
 use Rattle.hg_machine.specs.Select.{Selects, rows_found, rows_unknown}
 use Rattle.hg_machine.specs.State.{State, Draws, first_state}
@@ -91,6 +91,8 @@ insert_draws old new name rows replies (rows_nowhere unknown said is) = stays ol
 insert_draws old new name rows replies (no_stamp_left k table at fit stamps said is) = stays old new replies (length rows) is (says_one replies _ (λ e. cc) said)
 insert_draws old new name rows replies (device_failed file k table may said drawn) = draws old new replies (length rows) drawn (λ room. says_one replies _ (λ e. cc) said)
 insert_draws old new name rows replies (file_full k table may over said drawn) = draws old new replies (length rows) drawn (λ room. absurd (omega arith))
+insert_draws old new name rows replies (page_damaged page check k table untold may said drawn) =
+    draws old new replies (length rows) drawn (λ room. says_one replies _ (λ e. cc) said)
 
 select_draws : (old new : State) (name : List ℕ) (replies : List Reply) → Selects old name replies new → DrawsFew old new replies 0
 select_draws old new name replies (rows_found k table at said is) =
@@ -118,6 +120,12 @@ turn_draws old new replies (ends left said is) =
     draws_none old new replies 0 (ap (λ (s : State). s.limit) is) (ap (λ (s : State). s.used) is) (says_one replies _ (λ e. cc) said)
 turn_draws old new replies (fails file rows left said is) =
     draws_none old new replies 0 (ap (λ (s : State). s.limit) is) (ap (λ (s : State). s.used) is) (says_two replies _ _ (λ e. cc) (λ e. cc) said)
+turn_draws old new replies (gives_any_row rows others values untold left said is) =
+    draws_none old new replies 0 (ap (λ (s : State). s.limit) is) (ap (λ (s : State). s.used) is) (says_one replies _ (λ e. cc) said)
+turn_draws old new replies (ends_any_time rows untold left said is) =
+    draws_none old new replies 0 (ap (λ (s : State). s.limit) is) (ap (λ (s : State). s.used) is) (says_one replies _ (λ e. cc) said)
+turn_draws old new replies (finds_damage page check rows untold left said is) =
+    draws_none old new replies 0 (ap (λ (s : State). s.limit) is) (ap (λ (s : State). s.used) is) (says_two replies _ _ (λ e. cc) (λ e. cc) said)
 
 turns_draw : (old new : State) (turns : List (List Reply)) → GivesTurns old turns new → DrawsFew old new (flat_map (λ turn. turn) turns) 0
 unfolding GivesTurns
@@ -143,5 +151,5 @@ lines_draw old new (line ∷ lines) replies n runs need =
     (lines_draw runs.2 new lines runs.1 need.1 runs.4 need.3) runs.5)
 
 pub few_rows_never_fill_main : FewRowsNeverFillMain
-few_rows_never_fill_main limit lines replies n run need room =
-    (lines_draw (first_state limit) run.last lines replies n run.runs need).none room
+few_rows_never_fill_main told limit lines replies n run need room =
+    (lines_draw (first_state told limit) run.last lines replies n run.runs need).none room

@@ -1,10 +1,12 @@
 -- INSERT. After SQL-92, section 13.8: the rows join the table's rows, all of them or none. Our own
 -- rules: at most 2^20 stamps; n rows need at most n pages of the main file; a fault of a device may come
 -- at any moment, and a full file only where the pages in use with those needed pass the file's limit.
-use Rattle.std.specs.Prelude.{◌≡◌, ℕ, ◌+◌, ◌<◌, ◌^◌, List, [], ◌∷◌, ◌++◌, length, All, slice_set}
+use Rattle.std.specs.Prelude.{◌≡◌, ℕ, ◌+◌, ◌<◌, ◌^◌, false, List, [], ◌∷◌, ◌++◌, length, All, slice_set}
+use Rattle.hg_base.specs.declared.Check.{Check}
 use Rattle.hg_base.specs.declared.File.{File}
+use Rattle.hg_base.specs.declared.PageId.{PageId}
 use Rattle.hg_model.specs.declared.values.Value.{Value}
-use Rattle.hg_machine.specs.Reply.{Reply, inserted, syntax_error, unknown_table, device_fault, main_full, stamps_used_up}
+use Rattle.hg_machine.specs.Reply.{Reply, inserted, syntax_error, unknown_table, device_fault, main_full, damaged, stamps_used_up}
 use Rattle.hg_machine.specs.State.{State, TableState, IsUnknown, IsTableAt, Draws}
 
 -- each row has a value for each column
@@ -34,3 +36,6 @@ pub data Inserts (old : State) (name : List ℕ) (rows : List (List Value)) (rep
       → replies ≡ device_fault file ∷ [] → Draws old new (length rows) → Inserts old name rows replies new
   file_full : (k : ℕ) (table : TableState) → MayInsert old name rows k table → old.limit < old.used + length rows
       → replies ≡ main_full ∷ [] → Draws old new (length rows) → Inserts old name rows replies new
+  -- a page may come back damaged where the devices do not tell; no row joins then
+  page_damaged : (page : PageId) (check : Check) (k : ℕ) (table : TableState) → old.told ≡ false → MayInsert old name rows k table
+      → replies ≡ damaged page check ∷ [] → Draws old new (length rows) → Inserts old name rows replies new

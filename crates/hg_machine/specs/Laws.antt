@@ -1,5 +1,5 @@
 -- Laws of runs. Each stands on the contract of a small function of this crate.
-use Rattle.std.specs.Prelude.{◌≢◌, ℕ, ◌+◌, ◌≤◌, ⊤, List, [], ◌∷◌, length, All}
+use Rattle.std.specs.Prelude.{◌≢◌, ℕ, ◌+◌, ◌≤◌, ⊤, Bool, List, [], ◌∷◌, length, All}
 use Rattle.hg_machine.specs.declared.statements.Statement.{Statement}
 use Rattle.hg_machine.specs.declared.statements.Statement.TheVariants as statement
 use Rattle.hg_machine.specs.Script.{Line}
@@ -25,5 +25,5 @@ NeedAtMost (line ∷ lines) n =
 -- where the first page and one page for each row are within the limit, no line of a run says that the
 -- main file is full
 abbrev pub FewRowsNeverFillMain : Type 0
-FewRowsNeverFillMain = (limit : ℕ) (lines : List Line) (replies : List Reply) (n : ℕ)
-    → IsRun limit lines replies → NeedAtMost lines n → 1 + n ≤ limit → All (λ reply. reply ≢ main_full) replies
+FewRowsNeverFillMain = (told : Bool) (limit : ℕ) (lines : List Line) (replies : List Reply) (n : ℕ)
+    → IsRun told limit lines replies → NeedAtMost lines n → 1 + n ≤ limit → All (λ reply. reply ≢ main_full) replies

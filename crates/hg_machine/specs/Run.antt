@@ -1,18 +1,20 @@
 -- The plain machine in small steps: a line begins with its immediate replies, then turns are given one
 -- by one. A run is the lines of a script in order. Our own rule.
-use Rattle.std.specs.Prelude.{◌≡◌, ℕ, ◌≤◌, ◌<◌, true, List, [], ◌∷◌, ◌++◌, length, None, Some}
+use Rattle.std.specs.Prelude.{◌≡◌, ℕ, ◌≤◌, ◌<◌, Bool, true, false, List, [], ◌∷◌, ◌++◌, length, None, Some}
 use Rattle.std.specs.List.{flat_map}
 use Rattle.std.specs.List.Sorted.{IsPermutation}
 use Rattle.hg_model.specs.declared.values.Value.{Value}
 use Rattle.hg_machine.specs.declared.statements.Statement.{Statement}
 use Rattle.hg_machine.specs.declared.statements.Statement.TheVariants as statement
 use Rattle.hg_machine.specs.declared.tokens.Token.{Token}
+use Rattle.hg_base.specs.declared.Check.{Check}
 use Rattle.hg_base.specs.declared.File.{File}
+use Rattle.hg_base.specs.declared.PageId.{PageId}
 use Rattle.hg_machine.specs.Script.{Line, said_by}
 use Rattle.hg_machine.specs.Tokens.{tokens_of, is_all_blank}
 use Rattle.hg_machine.specs.Grammar.{StandsFor}
 use Rattle.hg_machine.specs.State.{State, first_state}
-use Rattle.hg_machine.specs.Reply.{Reply, row, at_end, closed, device_fault, syntax_error, line_too_long}
+use Rattle.hg_machine.specs.Reply.{Reply, row, at_end, closed, device_fault, damaged, syntax_error, line_too_long}
 use Rattle.hg_machine.specs.CreateTable.{CreatesTable}
 use Rattle.hg_machine.specs.Insert.{Inserts}
 use Rattle.hg_machine.specs.Select.{Selects}
@@ -42,7 +44,8 @@ pub data LineBegins (old : State) (line : Line) (replies : List Reply) (new : St
       → LineBegins old line replies new
 
 -- One turn of the SELECT at work: any row that is left; the end where none is; or a fault of a device,
--- which closes the cursor.
+-- which closes the cursor. Where the devices do not tell, it may give any row or the end at any time, and
+-- a page may come back damaged, which closes the cursor too.
 pub data Turn (old : State) (replies : List Reply) (new : State) : Type 0 where
   gives_row : (rows others : List (List Value)) (values : List Value) → old.left ≡ Some rows
       → IsPermutation rows (values ∷ others) → replies ≡ row values ∷ [] → new ≡ record old { left = Some others }
@@ -50,6 +53,12 @@ pub data Turn (old : State) (replies : List Reply) (new : State) : Type 0 where
   ends : old.left ≡ Some [] → replies ≡ at_end ∷ [] → new ≡ record old { left = None } → Turn old replies new
   fails : (file : File) (rows : List (List Value)) → old.left ≡ Some rows → replies ≡ device_fault file ∷ closed ∷ []
       → new ≡ record old { left = None } → Turn old replies new
+  gives_any_row : (rows others : List (List Value)) (values : List Value) → old.told ≡ false → old.left ≡ Some rows
+      → replies ≡ row values ∷ [] → new ≡ record old { left = Some others } → Turn old replies new
+  ends_any_time : (rows : List (List Value)) → old.told ≡ false → old.left ≡ Some rows → replies ≡ at_end ∷ []
+      → new ≡ record old { left = None } → Turn old replies new
+  finds_damage : (page : PageId) (check : Check) (rows : List (List Value)) → old.told ≡ false → old.left ≡ Some rows
+      → replies ≡ damaged page check ∷ closed ∷ [] → new ≡ record old { left = None } → Turn old replies new
 
 -- turns until no SELECT is at work, each with its lines
 unfoldable pub GivesTurns : State → List (List Reply) → State → Type 0
@@ -78,8 +87,8 @@ RunsLines old (line ∷ lines) replies new =
     (first : List Reply) × (others : List Reply) × (between : State) × RunsLine old line first between
     × RunsLines between lines others new × (replies ≡ first ++ others)
 
--- these replies are a run of the machine over these lines, from no table, where the main file may have
--- so many pages
-pub record IsRun (limit : ℕ) (lines : List Line) (replies : List Reply) : Type 0 where
+-- these replies are a run of the machine over these lines, from no table, over devices that tell or not,
+-- where the main file may have so many pages
+pub record IsRun (told : Bool) (limit : ℕ) (lines : List Line) (replies : List Reply) : Type 0 where
   pub last : State
-  pub runs : RunsLines (first_state limit) lines replies last
+  pub runs : RunsLines (first_state told limit) lines replies last

@@ -1,6 +1,6 @@
 -- The state of the plain machine: tables with their rows, what a SELECT at work has still to give, and
 -- three plain counts. No page, frame or slot occurs in it.
-use Rattle.std.specs.Prelude.{◌≡◌, ◌≢◌, ◌≤◌, ◌+◌, ℕ, List, [], Option, None, Some, All, slice_get}
+use Rattle.std.specs.Prelude.{◌≡◌, ◌≢◌, ◌≤◌, ◌+◌, ℕ, Bool, List, [], Option, None, Some, All, slice_get}
 use Rattle.hg_model.specs.declared.values.Value.{Value}
 
 -- a table is its name, its columns in order and its rows, in any order
@@ -10,6 +10,8 @@ pub record TableState : Type 0 where
   pub rows : List (List Value)
 
 pub record State : Type 0 where
+  -- whether the devices tell their pages, so that what was written is what is read; it never changes
+  pub told : Bool
   -- in order of creation
   pub tables : List TableState
   -- the rows that are left to the SELECT at work, if one is
@@ -21,8 +23,8 @@ pub record State : Type 0 where
   pub stamps : ℕ
 
 -- the state at the beginning: one page is kept for what the tables are
-abbrev pub first_state : ℕ → State
-first_state limit = record { tables = []; left = None; used = 1; limit = limit; stamps = 0 }
+abbrev pub first_state : Bool → ℕ → State
+first_state told limit = record { told = told; tables = []; left = None; used = 1; limit = limit; stamps = 0 }
 
 -- no table has the name
 abbrev pub IsUnknown : State → List ℕ → Type 0

@@ -1,5 +1,5 @@
 -- What one small step of an engine promises, in the words of the plain machine. Our own rule.
-use Rattle.std.specs.Prelude.{◌≡◌, ℕ, ◌≤◌, Bool, true, List}
+use Rattle.std.specs.Prelude.{◌≡◌, ℕ, ◌≤◌, true, List}
 use Rattle.std.specs.List.{list_any}
 use Rattle.hg_base.specs.declared.File.TheVariants.{Main, Temp}
 use Rattle.hg_base.specs.Causes.{Rose}
@@ -26,7 +26,6 @@ pub record FullOnlyWhereFull (before after : ℕ) (lines : List Line) : Type 0 w
   pub rose : list_any is_main_full lines ≡ true → Rose before after
 
 -- The step is one of the machine: whatever state the engine stood for, it stands for a state that the
--- machine reaches with these lines, where both devices tell their pages.
-pub record Moves {E : Type 0} (Stands : E → State → Type 0) (told : Bool) (old new : E)
-    (Step : State → List Line → State → Type 0) (lines : List Line) : Type 0 where
-  pub to : (before : State) → Stands old before → (after : State) × Stands new after × (told ≡ true → Step before lines after)
+-- machine reaches with these lines.
+pub record Moves {E : Type 0} (Stands : E → State → Type 0) (old new : E) (Step : State → List Line → State → Type 0) (lines : List Line) : Type 0 where
+  pub to : (before : State) → Stands old before → (after : State) × Stands new after × Step before lines after

@@ -16,7 +16,8 @@ pub enum Next {
 ///
 /// In the clauses `stands` ties the engine to a state of the plain machine: its tables with their
 /// rows, what the SELECT at work has still to give, the pages in use and the stamps given. Where a
-/// device does not tell its pages, nothing is said of the rows.
+/// device does not tell its pages, the machine may give any rows, and say that a page is damaged; all
+/// else it does as ever.
 pub trait Machine {
     ghost use Rattle.std.specs.Prelude.{◌≡◌, ◌<◌, ◌≤◌, ◌↔◌, ℕ, List, Bool, true, false, IsSome, is_some};
     ghost use Rattle.hg_machine.specs.Reply.{Reply as Line};
@@ -26,9 +27,6 @@ pub trait Machine {
 
     /// Which states of the plain machine the engine stands for.
     ghost stands: { Self → State → Type 0 };
-
-    /// Whether both devices tell their pages.
-    ghost told: { Self → Bool };
 
     /// The devices' own counts of faults.
     ghost faults: { Self → DeviceFaults };
@@ -47,10 +45,9 @@ pub trait Machine {
         requires idle { pending self.old ≡ false }
         requires stands { (s : State) × stands self.old s }
         ensures step { (lines : List Line) × Says reply.new (faults self.old) (faults self.new) lines
-            × Moves stands (told self.old) self.old self.new (λ before lines after. Begins before statement lines after) lines
+            × Moves stands self.old self.new (λ before lines after. Begins before statement lines after) lines
             × FullOnlyWhereFull (fulls self.old) (fulls self.new) lines }
         ensures more { (result ≡ Next.More) ↔ (pending self.new ≡ true) }
-        ensures told { told self.new ≡ told self.old }
         ensures later { ((faults self.old).main ≤ (faults self.new).main) × ((faults self.old).temp ≤ (faults self.new).temp)
             × (fulls self.old ≤ fulls self.new) };
 
@@ -59,11 +56,10 @@ pub trait Machine {
         requires pending { pending self.old ≡ true }
         requires stands { (s : State) × stands self.old s }
         ensures step { (lines : List Line) × Says reply.new (faults self.old) (faults self.new) lines
-            × Moves stands (told self.old) self.old self.new Turn lines
+            × Moves stands self.old self.new Turn lines
             × FullOnlyWhereFull (fulls self.old) (fulls self.new) lines }
         ensures nearer { turns self.new < turns self.old }
         ensures more { (result ≡ Next.More) ↔ (pending self.new ≡ true) }
-        ensures told { told self.new ≡ told self.old }
         ensures later { ((faults self.old).main ≤ (faults self.new).main) × ((faults self.old).temp ≤ (faults self.new).temp)
             × (fulls self.old ≤ fulls self.new) };
 

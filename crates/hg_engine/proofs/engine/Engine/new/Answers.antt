@@ -1,4 +1,4 @@
-use Rattle.std.proofs.Common.{ap, ◌∙◌, arith}
+use Rattle.std.proofs.Common.{ap, arith}
 use Rattle.hg_base.specs.Space.{Space}
 use Rattle.hg_base.specs.declared.File.TheVariants.{Main}
 use Rattle.hg_pool.specs.Shown.{state_of}
@@ -16,8 +16,5 @@ pub returns-clause-start : goal.returns-clause-start
 returns-clause-start g c =
     let a = state_of g.M.PageDevice g.T.PageDevice c.in-Ok-new.pool in
     let b = state_of g.M.PageDevice g.T.PageDevice c.take_first.new.pool in
-    opened a b c.in-Ok.tables c.args.config.now.main_pages c.take_first.ensures.taken (λ q. ap (λ (s : Space). s.taken q) (c.in-Ok-new.ensures {u = tt}).start)
+    opened a b c.in-Ok.tables _ c.args.config.now.main_pages c.take_first.ensures.taken (ap (λ (s : Space). s.told) (c.in-Ok-new.ensures {u = tt}).start) (λ q. ap (λ (s : Space). s.taken q) (c.in-Ok-new.ensures {u = tt}).start)
     (ap (λ (s : Space). s.limit Main) (c.in-Ok-new.ensures {u = tt}).start) (c.in-Ok.ensures {u = tt}).entries (c.in-Ok.ensures {u = tt}).stamps (c.in-Ok.ensures {u = tt}).scan
-
-pub returns-clause-told : goal.returns-clause-told
-returns-clause-told g c = c.take_first.ensures.taken.told ∙ ap (λ (s : Space). s.told) (c.in-Ok-new.ensures {u = tt}).start

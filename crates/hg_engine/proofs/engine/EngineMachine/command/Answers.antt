@@ -11,7 +11,7 @@ returns-in-CreateTable-clause-step g c =
       record {
         to = λ before st.
             let m = step.moves.to before st in
-            (m.0, m.1, λ told. subst (λ s. Begins before s step.lines m.0) (sym c.in-CreateTable.is) (m.2 told));
+            (m.0, m.1, subst (λ s. Begins before s step.lines m.0) (sym c.in-CreateTable.is) m.2);
       },
       step.full,
     )
@@ -26,8 +26,8 @@ returns-in-Insert-clause-step g c =
             let m = step.moves.to before st in (
               m.0,
               m.1,
-              λ told. subst (λ s. Begins before s step.lines m.0) (sym c.in-Insert.is)
-                  (subst (λ rs. Inserts before c.in-Insert.table rs step.lines m.0) c.deref.ensures.0 (m.2 told)),
+              subst (λ s. Begins before s step.lines m.0) (sym c.in-Insert.is)
+                  (subst (λ rs. Inserts before c.in-Insert.table rs step.lines m.0) c.deref.ensures.0 m.2),
             );
       },
       step.full,
@@ -41,7 +41,7 @@ returns-in-Select-clause-step g c =
       record {
         to = λ before st.
             let m = step.moves.to before st in
-            (m.0, m.1, λ told. subst (λ s. Begins before s step.lines m.0) (sym c.in-Select.is) (m.2 told));
+            (m.0, m.1, subst (λ s. Begins before s step.lines m.0) (sym c.in-Select.is) m.2);
       },
       step.full,
     )
