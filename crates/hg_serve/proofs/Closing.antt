@@ -52,10 +52,10 @@ with-last-line taken some = ap (λ l. whole_lines taken ++ l) (unended-some (las
 pub something-kept : (kept part : List ℕ) → kept ≡ take 4097 part → 0 < length kept → 0 < length part
 something-kept kept part is some = omega (arith, ap length is, length-take 4097 part)
 
-module _ {E : Type 0} (Stands : E → State → Type 0) (told : Bool) where
+module _ {E : Type 0} (Stands : E → State → Type 0) where
   pub breaks-serves : (first now : E) (old : Seen) (w1 w2 : Option (List ℕ)) (f : DeviceFaults) (s : Session) (taken : List ℕ)
-      → Serves Stands told first now old (seen w1 f) s taken → Breaks w1 w2 s.output.bytes.items []
-      → Halts Stands told first now old (seen w2 f) (whole_lines taken)
+      → Serves Stands first now old (seen w1 f) s taken → Breaks w1 w2 s.output.bytes.items []
+      → Halts Stands first now old (seen w2 f) (whole_lines taken)
   breaks-serves first now old w1 w2 f s taken serves broke = record {
     front = whole_lines taken;
     later = [];
@@ -65,8 +65,8 @@ module _ {E : Type 0} (Stands : E → State → Type 0) (told : Bool) where
     tells = record { breaks = broke-all _ _ _ _ _ serves.passes broke; counted = serves.counted };
   }
 
-  pub answers-serves : (first now : E) (old new : Seen) (s : Session) (taken : List ℕ) → Serves Stands told first now old new s taken
-      → last_part [] taken ≡ [] → Answers Stands told first now old new s.output (lines_of taken)
+  pub answers-serves : (first now : E) (old new : Seen) (s : Session) (taken : List ℕ) → Serves Stands first now old new s taken
+      → last_part [] taken ≡ [] → Answers Stands first now old new s.output (lines_of taken)
   answers-serves first now old new s taken serves none = record {
     replies = serves.replies;
     moves = rw (no-last-line taken none) serves.moves;
@@ -76,25 +76,25 @@ module _ {E : Type 0} (Stands : E → State → Type 0) (told : Bool) where
   }
 
   module _ (first now after : E) (old new later : Seen) (s : Session) (taken : List ℕ)
-      (serves : Serves Stands told first now old new s taken) (some : 0 < length (last_part [] taken)) where
-    pub answers-last : (output : Output) → AnswersLine Stands told now after new later s.output output (last_line taken)
-        → Answers Stands told first after old later output (lines_of taken)
+      (serves : Serves Stands first now old new s taken) (some : 0 < length (last_part [] taken)) where
+    pub answers-last : (output : Output) → AnswersLine Stands now after new later s.output output (last_line taken)
+        → Answers Stands first after old later output (lines_of taken)
     answers-last output a = record {
       replies = serves.replies ++ a.replies;
-      moves = rw (with-last-line taken some) (moves-lines Stands told told first now after (whole_lines taken) (last_line taken) serves.replies a.replies refl serves.moves a.moves);
+      moves = rw (with-last-line taken some) (moves-lines Stands first now after (whole_lines taken) (last_line taken) serves.replies a.replies serves.moves a.moves);
       passes = rw (text_of-append serves.replies a.replies) (passes-then _ _ _ _ _ _ _ _ serves.passes a.tells.passes);
       errors = a.tells.errors ∙ ap (λ e. e || has_error a.replies) serves.errors ∙ sym (has_error-append serves.replies a.replies);
       counted = counted-then _ _ _ serves.replies a.replies serves.counted a.tells.counted;
     }
 
-    pub halts-last : BreaksInLine Stands told now after new later s.output.bytes.items (last_line taken)
-        → Halts Stands told first after old later (lines_of taken)
+    pub halts-last : BreaksInLine Stands now after new later s.output.bytes.items (last_line taken)
+        → Halts Stands first after old later (lines_of taken)
     halts-last a = record {
       front = lines_of taken;
       later = [];
       parts = sym (append-nil (lines_of taken));
       replies = serves.replies ++ a.replies;
-      moves = rw (with-last-line taken some) (moves-lines Stands told told first now after (whole_lines taken) (last_line taken) serves.replies a.replies refl serves.moves a.moves);
+      moves = rw (with-last-line taken some) (moves-lines Stands first now after (whole_lines taken) (last_line taken) serves.replies a.replies serves.moves a.moves);
       tells = record {
         breaks = rw (text_of-append serves.replies a.replies) (breaks-then _ _ _ _ _ _ _ serves.passes a.tells.breaks);
         counted = counted-then _ _ _ serves.replies a.replies serves.counted a.tells.counted;
@@ -102,8 +102,8 @@ module _ {E : Type 0} (Stands : E → State → Type 0) (told : Bool) where
     }
 
   all-answered : (first now : E) (old : Seen) (w1 w2 : Option (List ℕ)) (f : DeviceFaults) (output : Output) (lines : List Line) (errors : Bool)
-      → Answers Stands told first now old (seen w1 f) output lines → Passes w1 w2 output.bytes.items [] [] → output.errors ≡ errors
-      → AllAnswered Stands told first now old (seen w2 f) lines errors
+      → Answers Stands first now old (seen w1 f) output lines → Passes w1 w2 output.bytes.items [] [] → output.errors ≡ errors
+      → AllAnswered Stands first now old (seen w2 f) lines errors
   all-answered first now old w1 w2 f output lines errors a passes shown = record {
     replies = a.replies;
     moves = a.moves;
@@ -114,8 +114,8 @@ module _ {E : Type 0} (Stands : E → State → Type 0) (told : Bool) where
 
   -- what waited was written at the end
   pub closes-answers : (first now : E) (old : Seen) (w1 w2 : Option (List ℕ)) (f : DeviceFaults) (output : Output) (lines : List Line) (s : Status)
-      → Answers Stands told first now old (seen w1 f) output lines → Finishes w1 w2 output s
-      → Closes Stands told first now old (seen w2 f) lines s
+      → Answers Stands first now old (seen w1 f) output lines → Finishes w1 w2 output s
+      → Closes Stands first now old (seen w2 f) lines s
   closes-answers first now old w1 w2 f output lines status.Clean a (passes, shown) =
       all-answered first now old w1 w2 f output lines false a passes shown
   closes-answers first now old w1 w2 f output lines status.Errors a (passes, shown) =

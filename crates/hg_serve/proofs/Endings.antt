@@ -13,7 +13,7 @@ use Rattle.hg_serve.specs.declared.statuses.Status.TheVariants as status
 use Rattle.hg_serve.specs.Output.{Seen, seen, Counted}
 use Rattle.hg_serve.specs.Serving.{Serves, Halts, AllAnswered, Closes, Running}
 use Rattle.hg_serve.specs.Ending.{Ends, TakesSoMany, outside}
-use Rattle.hg_serve.specs.Run.{RunFrom}
+use Rattle.hg_serve.specs.Run.{Reaches}
 
 -- counts
 
@@ -82,23 +82,23 @@ never-no_memory n status.TooLong few is = cc
 
 -- how it ends
 
-module _ {E : Type 0} (Stands : E → State → Type 0) (told : Bool) (first now : E) (start : State) where
+module _ {E : Type 0} (Stands : E → State → Type 0) (first now : E) (start : State) where
   the-replies : (old new : Outside) (lines : List Line) (replies : List Reply) → Stands first start
-      → Moves Stands told first now (Running lines) replies
+      → Moves Stands first now (Running lines) replies
       → Counted (record { main = old.main_faults; temp = old.temp_faults }) (record { main = new.main_faults; temp = new.temp_faults }) replies
-      → Replies (RunFrom Stands now told start) old new lines replies
+      → Replies (Reaches Stands now start) old new lines replies
   the-replies old new lines replies stood moves counted =
       let there = moves.to start stood in
       record {
-        run = λ is. record { last = there.0; stands = there.1; runs = there.2 is };
+        run = record { last = there.0; stands = there.1; runs = there.2 };
         main_faults = counted.main;
         temp_faults = counted.temp;
       }
 
   module _ (left0 left1 : Option (List ℕ)) (given0 given1 : ℕ) (w0 w1 : Option (List ℕ)) (f0 f1 : DeviceFaults) (taken : List ℕ)
       (stood : Stands first start) (took : Took (outside left0 given0 w0 f0) (outside left1 given1 w1 f1) taken) where
-    pub breaks-off : length taken ≤ 2 ^ 32 → Halts Stands told first now (seen w0 f0) (seen w1 f1) (whole_lines taken)
-        → AnswersInPart (RunFrom Stands now told start) (outside left0 given0 w0 f0) (outside left1 given1 w1 f1)
+    pub breaks-off : length taken ≤ 2 ^ 32 → Halts Stands first now (seen w0 f0) (seen w1 f1) (whole_lines taken)
+        → AnswersInPart (Reaches Stands now start) (outside left0 given0 w0 f0) (outside left1 given1 w1 f1)
     breaks-off few h = record {
       taken = taken;
       took = took;
@@ -115,8 +115,8 @@ module _ {E : Type 0} (Stands : E → State → Type 0) (told : Bool) (first now
     }
 
     answers-all : (errors : Bool) → length taken < 2 ^ 32 → AtEnd left1
-        → AllAnswered Stands told first now (seen w0 f0) (seen w1 f1) (lines_of taken) errors
-        → AnswersAll (RunFrom Stands now told start) (outside left0 given0 w0 f0) (outside left1 given1 w1 f1) errors
+        → AllAnswered Stands first now (seen w0 f0) (seen w1 f1) (lines_of taken) errors
+        → AnswersAll (Reaches Stands now start) (outside left0 given0 w0 f0) (outside left1 given1 w1 f1) errors
     answers-all errors few last a = record {
       taken = taken;
       took = took;
@@ -128,8 +128,8 @@ module _ {E : Type 0} (Stands : E → State → Type 0) (told : Bool) (first now
     }
 
     pub closes : (s : Status) → length taken < 2 ^ 32 → AtEnd left1
-        → Closes Stands told first now (seen w0 f0) (seen w1 f1) (lines_of taken) s
-        → Ends (RunFrom Stands now told start) (outside left0 given0 w0 f0) (outside left1 given1 w1 f1) s
+        → Closes Stands first now (seen w0 f0) (seen w1 f1) (lines_of taken) s
+        → Ends (Reaches Stands now start) (outside left0 given0 w0 f0) (outside left1 given1 w1 f1) s
     closes status.Clean few last a = answers-all _ few last a
     closes status.Errors few last a = answers-all _ few last a
     closes status.Usage few last never = absurd never
@@ -151,13 +151,13 @@ module _ {E : Type 0} (Stands : E → State → Type 0) (told : Bool) (first now
     closes status.NoMemory few last never = absurd never
     closes status.TooLong few last never = absurd never
 
-    module _ (s : Session) (serves : Serves Stands told first now (seen w0 f0) (seen w1 f1) s taken) (empty : s.output.bytes.items ≡ []) where
+    module _ (s : Session) (serves : Serves Stands first now (seen w0 f0) (seen w1 f1) s taken) (empty : s.output.bytes.items ≡ []) where
       all_text : w1 ≡ then w0 (text_of serves.replies)
       all_text =
           serves.passes.written
           ∙ ap (then w0) (sym (serves.passes.parts ∙ ap (λ l. serves.passes.passed ++ l) empty ∙ append-nil serves.passes.passed))
 
-      pub source-breaks : length taken < 2 ^ 32 → AnswersWholeLines (RunFrom Stands now told start) (outside left0 given0 w0 f0) (outside left1 given1 w1 f1)
+      pub source-breaks : length taken < 2 ^ 32 → AnswersWholeLines (Reaches Stands now start) (outside left0 given0 w0 f0) (outside left1 given1 w1 f1)
       source-breaks few = record {
         taken = taken;
         took = took;
@@ -166,7 +166,7 @@ module _ {E : Type 0} (Stands : E → State → Type 0) (told : Bool) (first now
         answers = record { of_run = the-replies _ _ (whole_lines taken) serves.replies stood serves.moves serves.counted; text = all_text };
       }
 
-      pub limit-comes : length taken ≡ 2 ^ 32 → AnswersUpToLimit (RunFrom Stands now told start) (outside left0 given0 w0 f0) (outside left1 given1 w1 f1)
+      pub limit-comes : length taken ≡ 2 ^ 32 → AnswersUpToLimit (Reaches Stands now start) (outside left0 given0 w0 f0) (outside left1 given1 w1 f1)
       limit-comes all = record {
         taken = taken;
         took = took;
@@ -176,12 +176,12 @@ module _ {E : Type 0} (Stands : E → State → Type 0) (told : Bool) (first now
       }
 
 -- how a session that was closed took its bytes
-pub closes-so_many : {E : Type 0} (Stands : E → State → Type 0) (told : Bool) (first now : E) (old new : Seen) (lines : List Line) (n : ℕ) (s : Status)
-    → n < 2 ^ 32 → Closes Stands told first now old new lines s → TakesSoMany s n
-closes-so_many Stands told first now old new lines n status.Clean few a = few
-closes-so_many Stands told first now old new lines n status.Errors few a = few
-closes-so_many Stands told first now old new lines n status.Usage few never = never
-closes-so_many Stands told first now old new lines n status.SourceFault few never = absurd never
-closes-so_many Stands told first now old new lines n status.SinkFault few h = omega arith
-closes-so_many Stands told first now old new lines n status.NoMemory few never = never
-closes-so_many Stands told first now old new lines n status.TooLong few never = absurd never
+pub closes-so_many : {E : Type 0} (Stands : E → State → Type 0) (first now : E) (old new : Seen) (lines : List Line) (n : ℕ) (s : Status)
+    → n < 2 ^ 32 → Closes Stands first now old new lines s → TakesSoMany s n
+closes-so_many Stands first now old new lines n status.Clean few a = few
+closes-so_many Stands first now old new lines n status.Errors few a = few
+closes-so_many Stands first now old new lines n status.Usage few never = never
+closes-so_many Stands first now old new lines n status.SourceFault few never = absurd never
+closes-so_many Stands first now old new lines n status.SinkFault few h = omega arith
+closes-so_many Stands first now old new lines n status.NoMemory few never = never
+closes-so_many Stands first now old new lines n status.TooLong few never = absurd never

@@ -22,63 +22,63 @@ pub at-rest : (p : Bool) (P : Type 0) → (p ≡ true → P) → (P → ⊥) →
 at-rest true P back never = absurd (never (back refl))
 at-rest false P back never = refl
 
-module _ {E : Type 0} (Stands : E → State → Type 0) (told : Bool) where
+module _ {E : Type 0} (Stands : E → State → Type 0) where
   -- an engine that stood for a state stands for one after the step
   pub stands-on : (old new : E) (Step : State → List Reply → State → Type 0) (lines : List Reply) → ((s : State) × Stands old s)
-      → Moves Stands told old new Step lines → (s : State) × Stands new s
+      → Moves Stands old new Step lines → (s : State) × Stands new s
   stands-on old new Step lines stood p = let there = p.to stood.0 stood.1 in (there.0, there.1)
 
   -- the engine stays as it is
   pub moves-stay : (e : E) (Step : State → List Reply → State → Type 0) (lines : List Reply) → ((s : State) → Step s lines s)
-      → Moves Stands told e e Step lines
-  moves-stay e Step lines same = record { to = λ before stood. (before, stood, λ is. same before) }
+      → Moves Stands e e Step lines
+  moves-stay e Step lines same = record { to = λ before stood. (before, stood, same before) }
 
   -- one step and another
-  pub moves-then : (told' : Bool) (e0 e1 e2 : E) (P Q R : State → List Reply → State → Type 0) (rs ss ts : List Reply)
-      → ((a b c : State) → P a rs b → Q b ss c → R a ts c) → told' ≡ told
-      → Moves Stands told e0 e1 P rs → Moves Stands told' e1 e2 Q ss → Moves Stands told e0 e2 R ts
-  moves-then told' e0 e1 e2 P Q R rs ss ts both same p q = record {
+  pub moves-then : (e0 e1 e2 : E) (P Q R : State → List Reply → State → Type 0) (rs ss ts : List Reply)
+      → ((a b c : State) → P a rs b → Q b ss c → R a ts c)
+      → Moves Stands e0 e1 P rs → Moves Stands e1 e2 Q ss → Moves Stands e0 e2 R ts
+  moves-then e0 e1 e2 P Q R rs ss ts both p q = record {
     to = λ before stood.
         let m = p.to before stood in
         let n = q.to m.0 m.1 in
-        (n.0, n.1, λ is. both before m.0 n.0 (m.2 is) (n.2 (same ∙ is)));
+        (n.0, n.1, both before m.0 n.0 m.2 n.2);
   }
 
-  pub moves-turn : (told' : Bool) (e0 e1 e2 : E) (rs turn : List Reply) → told' ≡ told → Moves Stands told e0 e1 SomeTurns rs
-      → Moves Stands told' e1 e2 Turn turn → Moves Stands told e0 e2 SomeTurns (rs ++ turn)
-  moves-turn told' e0 e1 e2 rs turn =
-      moves-then told' e0 e1 e2 SomeTurns Turn SomeTurns rs turn (rs ++ turn) (λ a b c. some-push a b c rs turn)
+  pub moves-turn : (e0 e1 e2 : E) (rs turn : List Reply) → Moves Stands e0 e1 SomeTurns rs
+      → Moves Stands e1 e2 Turn turn → Moves Stands e0 e2 SomeTurns (rs ++ turn)
+  moves-turn e0 e1 e2 rs turn =
+      moves-then e0 e1 e2 SomeTurns Turn SomeTurns rs turn (rs ++ turn) (λ a b c. some-push a b c rs turn)
 
-  pub moves-turns : (told' : Bool) (e0 e1 e2 : E) (rs ss : List Reply) → told' ≡ told → Moves Stands told e0 e1 SomeTurns rs
-      → Moves Stands told' e1 e2 Turns ss → Moves Stands told e0 e2 Turns (rs ++ ss)
-  moves-turns told' e0 e1 e2 rs ss =
-      moves-then told' e0 e1 e2 SomeTurns Turns Turns rs ss (rs ++ ss) (λ a b c. some-then a b c rs ss)
+  pub moves-turns : (e0 e1 e2 : E) (rs ss : List Reply) → Moves Stands e0 e1 SomeTurns rs
+      → Moves Stands e1 e2 Turns ss → Moves Stands e0 e2 Turns (rs ++ ss)
+  moves-turns e0 e1 e2 rs ss =
+      moves-then e0 e1 e2 SomeTurns Turns Turns rs ss (rs ++ ss) (λ a b c. some-then a b c rs ss)
 
   -- no turn is left
   pub moves-ends : (e0 e1 : E) (rs : List Reply) (pending : Bool) → pending ≡ false
-      → ((s : State) → Stands e1 s → pending ≡ is_some s.left) → Moves Stands told e0 e1 SomeTurns rs → Moves Stands told e0 e1 Turns rs
+      → ((s : State) → Stands e1 s → pending ≡ is_some s.left) → Moves Stands e0 e1 SomeTurns rs → Moves Stands e0 e1 Turns rs
   moves-ends e0 e1 rs pending idle pends p = record {
     to = λ before stood.
         let m = p.to before stood in
-        (m.0, m.1, λ is. some-ends before m.0 rs (m.2 is) (none-left m.0.left (sym idle ∙ pends m.0 m.1)));
+        (m.0, m.1, some-ends before m.0 rs m.2 (none-left m.0.left (sym idle ∙ pends m.0 m.1)));
   }
 
-  pub moves-line : (told' : Bool) (e0 e1 e2 : E) (line : Line) (asked : Asked) (rs ss : List Reply) → AsksFor line asked → told' ≡ told
-      → Moves Stands told e0 e1 (BeginsAsked asked) rs → Moves Stands told' e1 e2 Turns ss
-      → Moves Stands told e0 e2 (Answering line) (rs ++ ss)
-  moves-line told' e0 e1 e2 line asked rs ss asks =
-      moves-then told' e0 e1 e2 (BeginsAsked asked) Turns (Answering line) rs ss (rs ++ ss)
+  pub moves-line : (e0 e1 e2 : E) (line : Line) (asked : Asked) (rs ss : List Reply) → AsksFor line asked
+      → Moves Stands e0 e1 (BeginsAsked asked) rs → Moves Stands e1 e2 Turns ss
+      → Moves Stands e0 e2 (Answering line) (rs ++ ss)
+  moves-line e0 e1 e2 line asked rs ss asks =
+      moves-then e0 e1 e2 (BeginsAsked asked) Turns (Answering line) rs ss (rs ++ ss)
       (λ a b c begins turns. runs-line a b c line rs ss (line-begins a b line asked rs asks begins) turns)
 
-  pub moves-lines : (told' : Bool) (e0 e1 e2 : E) (lines : List Line) (line : Line) (rs ss : List Reply) → told' ≡ told
-      → Moves Stands told e0 e1 (Running lines) rs → Moves Stands told' e1 e2 (Answering line) ss
-      → Moves Stands told e0 e2 (Running (lines ++ line ∷ [])) (rs ++ ss)
-  moves-lines told' e0 e1 e2 lines line rs ss =
-      moves-then told' e0 e1 e2 (Running lines) (Answering line) (Running (lines ++ line ∷ [])) rs ss (rs ++ ss)
+  pub moves-lines : (e0 e1 e2 : E) (lines : List Line) (line : Line) (rs ss : List Reply)
+      → Moves Stands e0 e1 (Running lines) rs → Moves Stands e1 e2 (Answering line) ss
+      → Moves Stands e0 e2 (Running (lines ++ line ∷ [])) (rs ++ ss)
+  moves-lines e0 e1 e2 lines line rs ss =
+      moves-then e0 e1 e2 (Running lines) (Answering line) (Running (lines ++ line ∷ [])) rs ss (rs ++ ss)
       (λ a b c. runs-push a b c lines line rs ss)
 
-  pub moves-no_line : (e : E) → Moves Stands told e e (Running []) []
+  pub moves-no_line : (e : E) → Moves Stands e e (Running []) []
   moves-no_line e = moves-stay e (Running []) [] runs-none
 
-  pub moves-no_turn : (e : E) → Moves Stands told e e SomeTurns []
+  pub moves-no_turn : (e : E) → Moves Stands e e SomeTurns []
   moves-no_turn e = moves-stay e SomeTurns [] some-none

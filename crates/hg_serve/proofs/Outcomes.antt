@@ -1,6 +1,6 @@
 -- What was answered by a run of one meaning was answered by a run of every wider one.
-use Rattle.std.specs.Prelude.{◌≡◌, ℕ, Bool, true, List, Option}
-use Rattle.std.proofs.Common.{◌∙◌, subst}
+use Rattle.std.specs.Prelude.{◌≡◌, ℕ, Bool, List, Option}
+use Rattle.std.proofs.Common.{subst}
 use Rattle.hg_machine.specs.Outcome.{Runs, Outside, Replies, Answers, AnswersAll, AnswersWholeLines, AnswersUpToLimit, AnswersInPart}
 use Rattle.hg_machine.specs.Reply.{Reply}
 use Rattle.hg_machine.specs.Run.{IsRun}
@@ -8,7 +8,7 @@ use Rattle.hg_machine.specs.Script.{Line}
 use Rattle.hg_machine.specs.State.{State, first_state}
 use Rattle.hg_reply.specs.Steps.{DeviceFaults}
 use Rattle.hg_serve.specs.Ending.{Ends, outside}
-use Rattle.hg_serve.specs.Run.{RunFrom}
+use Rattle.hg_serve.specs.Run.{Reaches}
 use Rattle.hg_serve.specs.declared.statuses.Status.{Status}
 use Rattle.hg_serve.specs.declared.statuses.Status.TheVariants as status
 
@@ -61,17 +61,16 @@ module _ (P Q : Runs) (old new : Outside) (wider : (lines : List Line) (replies 
   ends-as status.NoMemory never = never
   ends-as status.TooLong a = limit-as a
 
-module _ {E : Type 0} (Stands : E → State → Type 0) (now : E) (told both : Bool) (limit pages : ℕ) (told_is : told ≡ both) (limit_is : limit ≡ pages) where
-  -- a run of an engine of no table, over devices that tell where it does
-  over-devices : (lines : List Line) (replies : List Reply) → RunFrom Stands now told (first_state limit) lines replies → both ≡ true → IsRun pages lines replies
-  over-devices lines replies run is =
-      let reached = run (told_is ∙ is) in subst (λ n. IsRun n lines replies) limit_is (record { last = reached.last; runs = reached.runs })
+module _ {E : Type 0} (Stands : E → State → Type 0) (now : E) (told : Bool) (limit pages : ℕ) (limit_is : limit ≡ pages) where
+  -- a run of an engine of no table is one over its devices
+  over-devices : (lines : List Line) (replies : List Reply) → Reaches Stands now (first_state told limit) lines replies → IsRun told pages lines replies
+  over-devices lines replies reached = subst (λ n. IsRun told n lines replies) limit_is (record { last = reached.last; runs = reached.runs })
 
   pub ends-over : (s : Status) (left0 left1 : Option (List ℕ)) (given0 given1 : ℕ) (w0 w1 : Option (List ℕ)) (f0 f1 e0 e1 : DeviceFaults) → f0 ≡ e0 → f1 ≡ e1
-      → Ends (RunFrom Stands now told (first_state limit)) (outside left0 given0 w0 f0) (outside left1 given1 w1 f1) s
-      → Ends (λ lines replies. both ≡ true → IsRun pages lines replies) (outside left0 given0 w0 e0) (outside left1 given1 w1 e1) s
+      → Ends (Reaches Stands now (first_state told limit)) (outside left0 given0 w0 f0) (outside left1 given1 w1 f1) s
+      → Ends (IsRun told pages) (outside left0 given0 w0 e0) (outside left1 given1 w1 e1) s
   ends-over s left0 left1 given0 given1 w0 w1 f0 f1 e0 e1 before after ends =
-      let Q : Runs = λ lines replies. both ≡ true → IsRun pages lines replies in
+      let Q : Runs = IsRun told pages in
       subst (λ f. Ends Q (outside left0 given0 w0 f) (outside left1 given1 w1 e1) s) before
       (subst (λ f. Ends Q (outside left0 given0 w0 f0) (outside left1 given1 w1 f) s) after
-      (ends-as (RunFrom Stands now told (first_state limit)) Q (outside left0 given0 w0 f0) (outside left1 given1 w1 f1) over-devices s ends))
+      (ends-as (Reaches Stands now (first_state told limit)) Q (outside left0 given0 w0 f0) (outside left1 given1 w1 f1) over-devices s ends))

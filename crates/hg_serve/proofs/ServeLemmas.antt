@@ -26,13 +26,13 @@ keeps-same kept part b is full =
     let long : 4097 ≤ length part = omega (arith, ap length is, length-take 4097 part) in
     is ∙ sym (take-append-le 4097 part (b ∷ []) long)
 
-module _ {E : Type 0} (Stands : E → State → Type 0) (told : Bool) where
-  module _ (first now : E) (old new : Seen) (s t : Session) (taken : List ℕ) (b : ℕ) (serves : Serves Stands told first now old new s taken)
+module _ {E : Type 0} (Stands : E → State → Type 0) where
+  module _ (first now : E) (old new : Seen) (s t : Session) (taken : List ℕ) (b : ℕ) (serves : Serves Stands first now old new s taken)
       (other : b ≢ 10) (output : t.output ≡ s.output) where
     no_feed : (b == 10) ≡ false
     no_feed = grind (arith, nat_tests)
 
-    goes_on : t.line.items ≡ take 4097 (last_part [] taken ++ b ∷ []) → Serves Stands told first now old new t (taken ++ b ∷ [])
+    goes_on : t.line.items ≡ take 4097 (last_part [] taken ++ b ∷ []) → Serves Stands first now old new t (taken ++ b ∷ [])
     goes_on kept = record {
       replies = serves.replies;
       moves = rw (whole_lines-other taken b no_feed) serves.moves;
@@ -42,33 +42,33 @@ module _ {E : Type 0} (Stands : E → State → Type 0) (told : Bool) where
       part = rw (last_part-other taken b no_feed) kept;
     }
 
-    pub serves-kept : t.line.items ≡ s.line.items ++ b ∷ [] → length s.line.items < 4097 → Serves Stands told first now old new t (taken ++ b ∷ [])
+    pub serves-kept : t.line.items ≡ s.line.items ++ b ∷ [] → length s.line.items < 4097 → Serves Stands first now old new t (taken ++ b ∷ [])
     serves-kept kept room = goes_on (kept ∙ keeps-more s.line.items (last_part [] taken) b serves.part room)
 
-    pub serves-full : t.line.items ≡ s.line.items → 4097 ≤ length s.line.items → Serves Stands told first now old new t (taken ++ b ∷ [])
+    pub serves-full : t.line.items ≡ s.line.items → 4097 ≤ length s.line.items → Serves Stands first now old new t (taken ++ b ∷ [])
     serves-full kept full = goes_on (kept ∙ keeps-same s.line.items (last_part [] taken) b serves.part full)
 
   module _ (first now after : E) (old new later : Seen) (s t : Session) (taken : List ℕ) (b : ℕ)
-      (serves : Serves Stands told first now old new s taken) (feed : b ≡ 10) where
-    pub serves-line : AnswersLine Stands told now after new later s.output t.output (record { bytes = last_part [] taken; ended = true })
-        → t.line.items ≡ [] → Serves Stands told first after old later t (taken ++ b ∷ [])
+      (serves : Serves Stands first now old new s taken) (feed : b ≡ 10) where
+    pub serves-line : AnswersLine Stands now after new later s.output t.output (record { bytes = last_part [] taken; ended = true })
+        → t.line.items ≡ [] → Serves Stands first after old later t (taken ++ b ∷ [])
     serves-line a empty = record {
       replies = serves.replies ++ a.replies;
-      moves = rw (whole_lines-feed taken b feed) (moves-lines Stands told told first now after (whole_lines taken) (record { bytes = last_part [] taken; ended = true }) serves.replies a.replies refl serves.moves a.moves);
+      moves = rw (whole_lines-feed taken b feed) (moves-lines Stands first now after (whole_lines taken) (record { bytes = last_part [] taken; ended = true }) serves.replies a.replies serves.moves a.moves);
       passes = rw (text_of-append serves.replies a.replies) (passes-then _ _ _ _ _ _ _ _ serves.passes a.tells.passes);
       errors = a.tells.errors ∙ ap (λ e. e || has_error a.replies) serves.errors ∙ sym (has_error-append serves.replies a.replies);
       counted = counted-then _ _ _ serves.replies a.replies serves.counted a.tells.counted;
       part = empty ∙ rw (last_part-feed taken b feed);
     }
 
-    pub halts-line : BreaksInLine Stands told now after new later s.output.bytes.items (record { bytes = last_part [] taken; ended = true })
-        → Halts Stands told first after old later (whole_lines (taken ++ b ∷ []))
+    pub halts-line : BreaksInLine Stands now after new later s.output.bytes.items (record { bytes = last_part [] taken; ended = true })
+        → Halts Stands first after old later (whole_lines (taken ++ b ∷ []))
     halts-line a = record {
       front = whole_lines (taken ++ b ∷ []);
       later = [];
       parts = sym (append-nil (whole_lines (taken ++ b ∷ [])));
       replies = serves.replies ++ a.replies;
-      moves = rw (whole_lines-feed taken b feed) (moves-lines Stands told told first now after (whole_lines taken) (record { bytes = last_part [] taken; ended = true }) serves.replies a.replies refl serves.moves a.moves);
+      moves = rw (whole_lines-feed taken b feed) (moves-lines Stands first now after (whole_lines taken) (record { bytes = last_part [] taken; ended = true }) serves.replies a.replies serves.moves a.moves);
       tells = record {
         breaks = rw (text_of-append serves.replies a.replies) (breaks-then _ _ _ _ _ _ _ serves.passes a.tells.breaks);
         counted = counted-then _ _ _ serves.replies a.replies serves.counted a.tells.counted;
@@ -76,10 +76,10 @@ module _ {E : Type 0} (Stands : E → State → Type 0) (told : Bool) where
     }
 
   pub serves-start : (e : E) (w : Seen) (s : Session) → s.output.bytes.items ≡ [] → s.output.errors ≡ false
-      → s.line.items ≡ [] → Serves Stands told e e w w s []
+      → s.line.items ≡ [] → Serves Stands e e w w s []
   serves-start e w s bytes errors line = record {
     replies = [];
-    moves = rw whole_lines-nil (moves-no_line Stands told e);
+    moves = rw whole_lines-nil (moves-no_line Stands e);
     passes = rw (text_of-nil, bytes) (passes-none w.written []);
     errors = errors ∙ sym has_error-nil;
     counted = counted-none w.faults;
@@ -87,9 +87,9 @@ module _ {E : Type 0} (Stands : E → State → Type 0) (told : Bool) where
   }
 
   pub serves-flushed : (first now : E) (old : Seen) (w1 w2 : Option (List ℕ)) (f : DeviceFaults) (s t : Session) (taken : List ℕ)
-      → Serves Stands told first now old (seen w1 f) s taken
+      → Serves Stands first now old (seen w1 f) s taken
       → t.line ≡ s.line → Passes w1 w2 s.output.bytes.items [] [] → t.output.bytes.items ≡ []
-      → t.output.errors ≡ s.output.errors → Serves Stands told first now old (seen w2 f) t taken
+      → t.output.errors ≡ s.output.errors → Serves Stands first now old (seen w2 f) t taken
   serves-flushed first now old w1 w2 f s t taken serves line passes empty errors = record {
     replies = serves.replies;
     moves = serves.moves;
@@ -102,8 +102,8 @@ module _ {E : Type 0} (Stands : E → State → Type 0) (told : Bool) where
     part = rw line serves.part;
   }
 
-  pub halts-later : (first now : E) (old new : Seen) (taken more : List ℕ) → Halts Stands told first now old new (whole_lines taken)
-      → Halts Stands told first now old new (whole_lines (taken ++ more))
+  pub halts-later : (first now : E) (old new : Seen) (taken more : List ℕ) → Halts Stands first now old new (whole_lines taken)
+      → Halts Stands first now old new (whole_lines (taken ++ more))
   halts-later first now old new taken more h = record {
     front = h.front;
     later = h.later ++ ended_lines (last_part [] taken) more;
@@ -128,17 +128,11 @@ pub parts-more : (taken bytes : List ℕ) (i : ℕ) → i < length bytes
 parts-more taken bytes i inside =
     append_assoc taken (take i bytes) (get_or bytes i 0 ∷ []) ∙ ap (λ l. taken ++ l) (sym (take_more bytes i 0 inside))
 
-module _ {E : Type 0} (Stands : E → State → Type 0) (t u : Bool) (same : t ≡ u) (first now : E) (old new : Seen) where
-  pub serves-as : (s : Session) (taken taken' : List ℕ) → taken ≡ taken' → Serves Stands t first now old new s taken
-      → Serves Stands u first now old new s taken'
-  serves-as s taken taken' is serves =
-      subst (λ v. Serves Stands v first now old new s taken') same (subst (λ l. Serves Stands t first now old new s l) is serves)
+module _ {E : Type 0} (Stands : E → State → Type 0) (first now : E) (old new : Seen) where
+  pub serves-as : (s : Session) (taken taken' : List ℕ) → taken ≡ taken' → Serves Stands first now old new s taken
+      → Serves Stands first now old new s taken'
+  serves-as s taken taken' is serves = subst (λ l. Serves Stands first now old new s l) is serves
 
-  pub halts-as : (taken taken' : List ℕ) → taken ≡ taken' → Halts Stands t first now old new (whole_lines taken)
-      → Halts Stands u first now old new (whole_lines taken')
-  halts-as taken taken' is halts =
-      subst (λ v. Halts Stands v first now old new (whole_lines taken')) same
-      (subst (λ l. Halts Stands t first now old new (whole_lines l)) is halts)
-
-  pub closes-as : (lines : List Line) (s : Status) → Closes Stands t first now old new lines s → Closes Stands u first now old new lines s
-  closes-as lines s closed = subst (λ v. Closes Stands v first now old new lines s) same closed
+  pub halts-as : (taken taken' : List ℕ) → taken ≡ taken' → Halts Stands first now old new (whole_lines taken)
+      → Halts Stands first now old new (whole_lines taken')
+  halts-as taken taken' is halts = subst (λ l. Halts Stands first now old new (whole_lines l)) is halts

@@ -1,5 +1,5 @@
 -- What counts as a run: for an engine that stands for some state, and for two devices.
-use Rattle.std.specs.Prelude.{◌≡◌, ℕ, ◌&&◌, min, Bool, true, List}
+use Rattle.std.specs.Prelude.{ℕ, ◌&&◌, min, List}
 use Rattle.hg_io.specs.declared.device.PageDevice.{Ghosts}
 use Rattle.hg_machine.specs.Outcome.{Runs}
 use Rattle.hg_machine.specs.Reply.{Reply}
@@ -14,14 +14,10 @@ pub record Reaches {E : Type 0} (Stands : E → State → Type 0) (now : E) (fir
   pub stands : Stands now last
   pub runs : RunsLines first lines replies last
 
--- a run from a state that the engine stood for, where both devices tell their pages
-abbrev pub RunFrom : {E : Type 0} → (E → State → Type 0) → E → Bool → State → Runs
-RunFrom Stands now told first lines replies = told ≡ true → Reaches Stands now first lines replies
-
 module _ {M T : Type 0} where
-  -- a run from no table, where both devices tell their pages
+  -- a run from no table over two devices, which tell their pages or not
   abbrev pub RunOver : Ghosts M → Ghosts T → M → T → Runs
-  RunOver m t main temp lines replies = (m.told main && t.told temp) ≡ true → IsRun (min (m.pages main) 65536) lines replies
+  RunOver m t main temp = IsRun (m.told main && t.told temp) (min (m.pages main) 65536)
 
   -- the devices' own counts of faults
   abbrev pub faults_over : Ghosts M → Ghosts T → M → T → DeviceFaults

@@ -17,35 +17,35 @@ abbrev pub Running : List Line → State → List Reply → State → Type 0
 Running lines old replies new = RunsLines old lines replies new
 
 -- the whole lines among the bytes taken were answered, and the front of the line at hand is kept
-pub record Serves {E : Type 0} (Stands : E → State → Type 0) (told : Bool) (first now : E) (old new : Seen) (s : Session) (taken : List ℕ) : Type 0 where
+pub record Serves {E : Type 0} (Stands : E → State → Type 0) (first now : E) (old new : Seen) (s : Session) (taken : List ℕ) : Type 0 where
   pub replies : List Reply
-  pub moves : Moves Stands told first now (Running (whole_lines taken)) replies
+  pub moves : Moves Stands first now (Running (whole_lines taken)) replies
   pub passes : Passes old.written new.written [] s.output.bytes.items (text_of replies)
   pub errors : s.output.errors ≡ has_error replies
   pub counted : Counted old.faults new.faults replies
   pub part : s.line.items ≡ take 4097 (last_part [] taken)
 
 -- the replies to all lines were written or wait
-pub record Answers {E : Type 0} (Stands : E → State → Type 0) (told : Bool) (first now : E) (old new : Seen) (output : Output) (lines : List Line) : Type 0 where
+pub record Answers {E : Type 0} (Stands : E → State → Type 0) (first now : E) (old new : Seen) (output : Output) (lines : List Line) : Type 0 where
   pub replies : List Reply
-  pub moves : Moves Stands told first now (Running lines) replies
+  pub moves : Moves Stands first now (Running lines) replies
   pub passes : Passes old.written new.written [] output.bytes.items (text_of replies)
   pub errors : output.errors ≡ has_error replies
   pub counted : Counted old.faults new.faults replies
 
 -- the sink failed in these lines: a front of the replies to the first of them was written
-pub record Halts {E : Type 0} (Stands : E → State → Type 0) (told : Bool) (first now : E) (old new : Seen) (lines : List Line) : Type 0 where
+pub record Halts {E : Type 0} (Stands : E → State → Type 0) (first now : E) (old new : Seen) (lines : List Line) : Type 0 where
   pub front : List Line
   pub later : List Line
   pub parts : lines ≡ front ++ later
   pub replies : List Reply
-  pub moves : Moves Stands told first now (Running front) replies
+  pub moves : Moves Stands first now (Running front) replies
   pub tells : TellsInPart old new [] replies
 
 -- the lines were answered, with an error line or with none
-pub record AllAnswered {E : Type 0} (Stands : E → State → Type 0) (told : Bool) (first now : E) (old new : Seen) (lines : List Line) (errors : Bool) : Type 0 where
+pub record AllAnswered {E : Type 0} (Stands : E → State → Type 0) (first now : E) (old new : Seen) (lines : List Line) (errors : Bool) : Type 0 where
   pub replies : List Reply
-  pub moves : Moves Stands told first now (Running lines) replies
+  pub moves : Moves Stands first now (Running lines) replies
   pub text : new.written ≡ then old.written (text_of replies)
   pub counted : Counted old.faults new.faults replies
   pub shown : has_error replies ≡ errors
@@ -61,11 +61,11 @@ Finishes old new output status.SourceFault = ⊥
 Finishes old new output status.TooLong = ⊥
 
 -- a session over these lines was closed with this status
-abbrev pub Closes : {E : Type 0} → (E → State → Type 0) → Bool → E → E → Seen → Seen → List Line → Status → Type 0
-Closes Stands told first now old new lines status.Clean = AllAnswered Stands told first now old new lines false
-Closes Stands told first now old new lines status.Errors = AllAnswered Stands told first now old new lines true
-Closes Stands told first now old new lines status.SinkFault = Halts Stands told first now old new lines
-Closes Stands told first now old new lines status.Usage = ⊥
-Closes Stands told first now old new lines status.NoMemory = ⊥
-Closes Stands told first now old new lines status.SourceFault = ⊥
-Closes Stands told first now old new lines status.TooLong = ⊥
+abbrev pub Closes : {E : Type 0} → (E → State → Type 0) → E → E → Seen → Seen → List Line → Status → Type 0
+Closes Stands first now old new lines status.Clean = AllAnswered Stands first now old new lines false
+Closes Stands first now old new lines status.Errors = AllAnswered Stands first now old new lines true
+Closes Stands first now old new lines status.SinkFault = Halts Stands first now old new lines
+Closes Stands first now old new lines status.Usage = ⊥
+Closes Stands first now old new lines status.NoMemory = ⊥
+Closes Stands first now old new lines status.SourceFault = ⊥
+Closes Stands first now old new lines status.TooLong = ⊥

@@ -22,13 +22,13 @@ abbrev pub Answering : Line → State → List Reply → State → Type 0
 Answering line old replies new = RunsLine old line replies new
 
 -- a line was answered
-pub record AnswersLine {E : Type 0} (Stands : E → State → Type 0) (told : Bool) (first now : E) (old new : Seen) (before after : Output) (line : Line) : Type 0 where
+pub record AnswersLine {E : Type 0} (Stands : E → State → Type 0) (first now : E) (old new : Seen) (before after : Output) (line : Line) : Type 0 where
   pub replies : List Reply
-  pub moves : Moves Stands told first now (Answering line) replies
+  pub moves : Moves Stands first now (Answering line) replies
   pub tells : Tells old new before after replies
 
 -- a line was run, and the sink failed within its replies
-pub record BreaksInLine {E : Type 0} (Stands : E → State → Type 0) (told : Bool) (first now : E) (old new : Seen) (waiting : List ℕ) (line : Line) : Type 0 where
+pub record BreaksInLine {E : Type 0} (Stands : E → State → Type 0) (first now : E) (old new : Seen) (waiting : List ℕ) (line : Line) : Type 0 where
   pub replies : List Reply
-  pub moves : Moves Stands told first now (Answering line) replies
+  pub moves : Moves Stands first now (Answering line) replies
   pub tells : TellsInPart old new waiting replies

@@ -4,10 +4,10 @@ ghost use Rattle.hg_io.specs.Count.{raised, Rose, HasCause};
 ghost use Rattle.hg_io.specs.Bytes.{Reads};
 ghost use Rattle.hg_machine.specs.State.{State};
 ghost use Rattle.hg_machine.specs.Outcome.{Took, AnswersAll, AnswersWholeLines, AnswersUpToLimit, AnswersInPart};
-ghost use Rattle.hg_engine.specs.Shown.{IsEngineOf, told_of, faults_of, is_pending};
+ghost use Rattle.hg_engine.specs.Shown.{IsEngineOf, faults_of, is_pending};
 ghost use Rattle.hg_serve.specs.Output.{NoneFell};
 ghost use Rattle.hg_serve.specs.Ending.{Ends, ReadsSome, TakesSoMany, outside};
-ghost use Rattle.hg_serve.specs.Run.{RunFrom};
+ghost use Rattle.hg_serve.specs.Run.{Reaches};
 
 use crate::session::Session;
 use crate::statuses::Status;
@@ -42,7 +42,7 @@ fn read_and_answer<E: Machine, S: Source, K: Sink>(
 ) -> Status
     requires idle { E.pending engine.old ≡ false }
     requires stands { (s : State) × E.stands engine.old s }
-    ensures ends { (first : State) → E.stands engine.old first → Ends (RunFrom E.stands engine.new (E.told engine.old) first)
+    ensures ends { (first : State) → E.stands engine.old first → Ends (Reaches E.stands engine.new first)
         (outside (S.left source.old) (S.given source.old) (K.written sink.old) (E.faults engine.old))
         (outside (S.left source.new) (S.given source.new) (K.written sink.new) (E.faults engine.new)) result }
     ensures bytes { (taken : List ℕ) × TakesSoMany result (length taken)
@@ -52,7 +52,6 @@ fn read_and_answer<E: Machine, S: Source, K: Sink>(
     ensures sink_fault { result ≡ Status.SinkFault → Rose (K.faults sink.old) (K.faults sink.new) }
     ensures stands { (s : State) × E.stands engine.new s }
     ensures idle { E.pending engine.new ≡ false }
-    ensures told { E.told engine.new ≡ E.told engine.old }
     ensures later { NoneFell (E.faults engine.old) (E.faults engine.new) }
     ensures source_later { S.faults source.old ≤ S.faults source.new }
     ensures sink_later { K.faults sink.old ≤ K.faults sink.new }
@@ -101,11 +100,11 @@ pub fn serve<S: Source, K: Sink, M: PageDevice, T: PageDevice>(
     // The script was read to its end, and what is written is the text of a run of the machine over all
     // its lines, with an error line exactly where the status is Errors.
     ensures clean { result ≡ Status.Clean → (first : State) → IsEngineOf M.PageDevice T.PageDevice engine.old first
-        → AnswersAll (RunFrom (IsEngineOf M.PageDevice T.PageDevice) engine.new (told_of M.PageDevice T.PageDevice engine.old) first)
+        → AnswersAll (Reaches (IsEngineOf M.PageDevice T.PageDevice) engine.new first)
         (outside (S.left source.old) (S.given source.old) (K.written sink.old) (faults_of M.PageDevice T.PageDevice engine.old))
         (outside (S.left source.new) (S.given source.new) (K.written sink.new) (faults_of M.PageDevice T.PageDevice engine.new)) false }
     ensures errors { result ≡ Status.Errors → (first : State) → IsEngineOf M.PageDevice T.PageDevice engine.old first
-        → AnswersAll (RunFrom (IsEngineOf M.PageDevice T.PageDevice) engine.new (told_of M.PageDevice T.PageDevice engine.old) first)
+        → AnswersAll (Reaches (IsEngineOf M.PageDevice T.PageDevice) engine.new first)
         (outside (S.left source.old) (S.given source.old) (K.written sink.old) (faults_of M.PageDevice T.PageDevice engine.old))
         (outside (S.left source.new) (S.given source.new) (K.written sink.new) (faults_of M.PageDevice T.PageDevice engine.new)) true }
 
@@ -113,18 +112,18 @@ pub fn serve<S: Source, K: Sink, M: PageDevice, T: PageDevice>(
     // no part of a line was run; after a sink fault a front of such replies was written.
     ensures source_fault { result ≡ Status.SourceFault → Rose (S.faults source.old) (S.faults source.new) }
     ensures source_fault_answers { result ≡ Status.SourceFault → (first : State) → IsEngineOf M.PageDevice T.PageDevice engine.old first
-        → AnswersWholeLines (RunFrom (IsEngineOf M.PageDevice T.PageDevice) engine.new (told_of M.PageDevice T.PageDevice engine.old) first)
+        → AnswersWholeLines (Reaches (IsEngineOf M.PageDevice T.PageDevice) engine.new first)
         (outside (S.left source.old) (S.given source.old) (K.written sink.old) (faults_of M.PageDevice T.PageDevice engine.old))
         (outside (S.left source.new) (S.given source.new) (K.written sink.new) (faults_of M.PageDevice T.PageDevice engine.new)) }
     ensures sink_fault { result ≡ Status.SinkFault → Rose (K.faults sink.old) (K.faults sink.new) }
     ensures sink_fault_answers { result ≡ Status.SinkFault → (first : State) → IsEngineOf M.PageDevice T.PageDevice engine.old first
-        → AnswersInPart (RunFrom (IsEngineOf M.PageDevice T.PageDevice) engine.new (told_of M.PageDevice T.PageDevice engine.old) first)
+        → AnswersInPart (Reaches (IsEngineOf M.PageDevice T.PageDevice) engine.new first)
         (outside (S.left source.old) (S.given source.old) (K.written sink.old) (faults_of M.PageDevice T.PageDevice engine.old))
         (outside (S.left source.new) (S.given source.new) (K.written sink.new) (faults_of M.PageDevice T.PageDevice engine.new)) }
 
     // The limit of 2^32 bytes, both ways: a sink fault alone comes before it.
     ensures too_long { result ≡ Status.TooLong → (first : State) → IsEngineOf M.PageDevice T.PageDevice engine.old first
-        → AnswersUpToLimit (RunFrom (IsEngineOf M.PageDevice T.PageDevice) engine.new (told_of M.PageDevice T.PageDevice engine.old) first)
+        → AnswersUpToLimit (Reaches (IsEngineOf M.PageDevice T.PageDevice) engine.new first)
         (outside (S.left source.old) (S.given source.old) (K.written sink.old) (faults_of M.PageDevice T.PageDevice engine.old))
         (outside (S.left source.new) (S.given source.new) (K.written sink.new) (faults_of M.PageDevice T.PageDevice engine.new)) }
     ensures too_long_always { S.given source.new < 2 ^ 64 - 1 → S.given source.new ≡ S.given source.old + 2 ^ 32
@@ -136,7 +135,6 @@ pub fn serve<S: Source, K: Sink, M: PageDevice, T: PageDevice>(
 
     ensures stands { (s : State) × IsEngineOf M.PageDevice T.PageDevice engine.new s }
     ensures idle { is_pending engine.new ≡ false }
-    ensures told { told_of M.PageDevice T.PageDevice engine.new ≡ told_of M.PageDevice T.PageDevice engine.old }
     ensures later { NoneFell (faults_of M.PageDevice T.PageDevice engine.old) (faults_of M.PageDevice T.PageDevice engine.new) }
     ensures source_later { S.faults source.old ≤ S.faults source.new }
     ensures sink_later { K.faults sink.old ≤ K.faults sink.new }

@@ -33,10 +33,9 @@ fn begin<E: Machine>(engine: &mut E, asked: Asked, reply: &mut Reply) -> Next
     requires idle { E.pending engine.old ≡ false }
     requires stands { (s : State) × E.stands engine.old s }
     ensures step { (lines : List ReplyOf) × Says reply.new (E.faults engine.old) (E.faults engine.new) lines
-        × Moves E.stands (E.told engine.old) engine.old engine.new (BeginsAsked asked) lines }
+        × Moves E.stands engine.old engine.new (BeginsAsked asked) lines }
     ensures more { (result ≡ Next.More) ↔ (E.pending engine.new ≡ true) }
     ensures stands { (s : State) × E.stands engine.new s }
-    ensures told { E.told engine.new ≡ E.told engine.old }
     ensures later { NoneFell (E.faults engine.old) (E.faults engine.new) }
 {
     match asked {
@@ -55,10 +54,9 @@ fn run_out<E: Machine>(engine: &mut E, next: Next, reply: &mut Reply)
     requires more { (next ≡ Next.More) ↔ (E.pending engine.old ≡ true) }
     requires stands { (s : State) × E.stands engine.old s }
     ensures turns { (lines : List ReplyOf) × Counted (E.faults engine.old) (E.faults engine.new) lines
-        × Moves E.stands (E.told engine.old) engine.old engine.new Turns lines }
+        × Moves E.stands engine.old engine.new Turns lines }
     ensures idle { E.pending engine.new ≡ false }
     ensures stands { (s : State) × E.stands engine.new s }
-    ensures told { E.told engine.new ≡ E.told engine.old }
     ensures later { NoneFell (E.faults engine.old) (E.faults engine.new) }
 {
     let mut left = next;
@@ -80,13 +78,12 @@ fn give_turns<E: Machine, K: Sink>(
     requires stands { (s : State) × E.stands engine.old s }
     ensures ok { OnOk result ((lines : List ReplyOf)
         × Tells (seen (K.written sink.old) (E.faults engine.old)) (seen (K.written sink.new) (E.faults engine.new)) output.old output.new lines
-        × Moves E.stands (E.told engine.old) engine.old engine.new Turns lines) }
+        × Moves E.stands engine.old engine.new Turns lines) }
     ensures part { OnErr result ((lines : List ReplyOf)
         × TellsInPart (seen (K.written sink.old) (E.faults engine.old)) (seen (K.written sink.new) (E.faults engine.new)) output.old.bytes.items lines
-        × Moves E.stands (E.told engine.old) engine.old engine.new Turns lines) }
+        × Moves E.stands engine.old engine.new Turns lines) }
     ensures idle { E.pending engine.new ≡ false }
     ensures stands { (s : State) × E.stands engine.new s }
-    ensures told { E.told engine.new ≡ E.told engine.old }
     ensures later { NoneFell (E.faults engine.old) (E.faults engine.new) }
     ensures cause { HasCause (K.faults sink.old) (K.faults sink.new) result }
 {
@@ -146,14 +143,13 @@ impl Session {
         requires idle { E.pending engine.old ≡ false }
         requires stands { (s : State) × E.stands engine.old s }
         ensures ok { OnOk result ((whole : List ℕ) → self.old.line.items ≡ take 4097 whole
-            → AnswersLine E.stands (E.told engine.old) engine.old engine.new (seen (K.written sink.old) (E.faults engine.old))
+            → AnswersLine E.stands engine.old engine.new (seen (K.written sink.old) (E.faults engine.old))
             (seen (K.written sink.new) (E.faults engine.new)) self.old.output self.new.output (record { bytes = whole; ended = ended })) }
         ensures part { OnErr result ((whole : List ℕ) → self.old.line.items ≡ take 4097 whole
-            → BreaksInLine E.stands (E.told engine.old) engine.old engine.new (seen (K.written sink.old) (E.faults engine.old))
+            → BreaksInLine E.stands engine.old engine.new (seen (K.written sink.old) (E.faults engine.old))
             (seen (K.written sink.new) (E.faults engine.new)) self.old.output.bytes.items (record { bytes = whole; ended = ended })) }
         ensures idle { E.pending engine.new ≡ false }
         ensures stands { (s : State) × E.stands engine.new s }
-        ensures told { E.told engine.new ≡ E.told engine.old }
         ensures later { NoneFell (E.faults engine.old) (E.faults engine.new) }
         ensures cause { HasCause (K.faults sink.old) (K.faults sink.new) result }
     {
@@ -177,14 +173,13 @@ impl Session {
         requires idle { E.pending engine.old ≡ false }
         requires stands { (s : State) × E.stands engine.old s }
         ensures ok { OnOk result ((first : E) (w : Seen) (taken : List ℕ)
-            → Serves E.stands (E.told engine.old) first engine.old w (seen (K.written sink.old) (E.faults engine.old)) self.old taken
-            → Serves E.stands (E.told engine.old) first engine.new w (seen (K.written sink.new) (E.faults engine.new)) self.new (taken ++ b ∷ [])) }
+            → Serves E.stands first engine.old w (seen (K.written sink.old) (E.faults engine.old)) self.old taken
+            → Serves E.stands first engine.new w (seen (K.written sink.new) (E.faults engine.new)) self.new (taken ++ b ∷ [])) }
         ensures part { OnErr result ((first : E) (w : Seen) (taken : List ℕ)
-            → Serves E.stands (E.told engine.old) first engine.old w (seen (K.written sink.old) (E.faults engine.old)) self.old taken
-            → Halts E.stands (E.told engine.old) first engine.new w (seen (K.written sink.new) (E.faults engine.new)) (whole_lines (taken ++ b ∷ []))) }
+            → Serves E.stands first engine.old w (seen (K.written sink.old) (E.faults engine.old)) self.old taken
+            → Halts E.stands first engine.new w (seen (K.written sink.new) (E.faults engine.new)) (whole_lines (taken ++ b ∷ []))) }
         ensures idle { E.pending engine.new ≡ false }
         ensures stands { (s : State) × E.stands engine.new s }
-        ensures told { E.told engine.new ≡ E.told engine.old }
         ensures later { NoneFell (E.faults engine.old) (E.faults engine.new) }
         ensures cause { HasCause (K.faults sink.old) (K.faults sink.new) result }
     {
@@ -211,14 +206,13 @@ impl Session {
         requires idle { E.pending engine.old ≡ false }
         requires stands { (s : State) × E.stands engine.old s }
         ensures ok { OnOk result ((first : E) (w : Seen) (taken : List ℕ)
-            → Serves E.stands (E.told engine.old) first engine.old w (seen (K.written sink.old) (E.faults engine.old)) self.old taken
-            → Serves E.stands (E.told engine.old) first engine.new w (seen (K.written sink.new) (E.faults engine.new)) self.new (taken ++ bytes.now)) }
+            → Serves E.stands first engine.old w (seen (K.written sink.old) (E.faults engine.old)) self.old taken
+            → Serves E.stands first engine.new w (seen (K.written sink.new) (E.faults engine.new)) self.new (taken ++ bytes.now)) }
         ensures part { OnErr result ((first : E) (w : Seen) (taken : List ℕ)
-            → Serves E.stands (E.told engine.old) first engine.old w (seen (K.written sink.old) (E.faults engine.old)) self.old taken
-            → Halts E.stands (E.told engine.old) first engine.new w (seen (K.written sink.new) (E.faults engine.new)) (whole_lines (taken ++ bytes.now))) }
+            → Serves E.stands first engine.old w (seen (K.written sink.old) (E.faults engine.old)) self.old taken
+            → Halts E.stands first engine.new w (seen (K.written sink.new) (E.faults engine.new)) (whole_lines (taken ++ bytes.now))) }
         ensures idle { E.pending engine.new ≡ false }
         ensures stands { (s : State) × E.stands engine.new s }
-        ensures told { E.told engine.new ≡ E.told engine.old }
         ensures later { NoneFell (E.faults engine.old) (E.faults engine.new) }
         ensures cause { HasCause (K.faults sink.old) (K.faults sink.new) result }
     {
@@ -264,11 +258,10 @@ impl Session {
         requires idle { E.pending engine.old ≡ false }
         requires stands { (s : State) × E.stands engine.old s }
         ensures closes { (first : E) (w : Seen) (taken : List ℕ)
-            → Serves E.stands (E.told engine.old) first engine.old w (seen (K.written sink.old) (E.faults engine.old)) self.old taken
-            → Closes E.stands (E.told engine.old) first engine.new w (seen (K.written sink.new) (E.faults engine.new)) (lines_of taken) result }
+            → Serves E.stands first engine.old w (seen (K.written sink.old) (E.faults engine.old)) self.old taken
+            → Closes E.stands first engine.new w (seen (K.written sink.new) (E.faults engine.new)) (lines_of taken) result }
         ensures stands { (s : State) × E.stands engine.new s }
         ensures idle { E.pending engine.new ≡ false }
-        ensures told { E.told engine.new ≡ E.told engine.old }
         ensures later { NoneFell (E.faults engine.old) (E.faults engine.new) }
         ensures sink_later { K.faults sink.old ≤ K.faults sink.new }
         ensures cause { result ≡ Status.SinkFault → Rose (K.faults sink.old) (K.faults sink.new) }

@@ -2,7 +2,7 @@ use Rattle.std.proofs.Common.{◌<◌, [], ◌++◌, refl, sym, ap, ◌∙◌, a
 use Rattle.hg_machine.specs.Script.{lines_of}
 use Rattle.hg_serve.specs.Ending.{outside}
 use Rattle.hg_serve.proofs.Telling.{fell-none, fell-then}
-use Rattle.hg_serve.proofs.ServeLemmas.{serves-start, serves-flushed, serves-as, halts-as, closes-as}
+use Rattle.hg_serve.proofs.ServeLemmas.{serves-start, serves-flushed}
 use Rattle.hg_serve.proofs.Closing.{breaks-serves}
 use Rattle.hg_serve.proofs.Endings.{took-none, took-more, took-same, took-end, breaks-off, closes, closes-so_many, source-breaks, limit-comes}
 use Rattle.hg_serve.proofs.serving.read_and_answer.Goals as goal
@@ -13,11 +13,10 @@ loop-taken-init g c = record {
     [],
     took-none _ (g.met.S.Source.given_ends c.args.source.now),
     refl,
-    serves-start _ _ c.args.engine.now _ _ c.new-session.ensures.empty c.new-session.ensures.errors c.new-session.ensures.line,
+    serves-start _ c.args.engine.now _ _ c.new-session.ensures.empty c.new-session.ensures.errors c.new-session.ensures.line,
   );
   idle = c.requires.idle;
   stands = c.requires.stands;
-  same = refl;
   within = omega arith;
   later = fell-none _;
   source_later = omega arith;
@@ -29,8 +28,8 @@ loop-taken-init g c = record {
 pub returns-in-Err-clause-ends : goal.returns-in-Err-clause-ends
 returns-in-Err-clause-ends g c = λ first stood.
     let served = c.loop-taken.invariant.served in
-    breaks-off _ _ _ _ first _ _ _ _ _ _ _ _ served.0 stood (took-same _ _ _ served.0 served.1 refl refl) (omega (arith, served.2, c.loop-taken.invariant.within))
-    (breaks-serves _ _ c.args.engine.now _ _ _ _ _ c.loop-taken.session served.0 served.3 (c.in-Err.ensures {u = tt}).part)
+    breaks-off _ _ _ first _ _ _ _ _ _ _ _ served.0 stood (took-same _ _ _ served.0 served.1 refl refl) (omega (arith, served.2, c.loop-taken.invariant.within))
+    (breaks-serves _ c.args.engine.now _ _ _ _ _ c.loop-taken.session served.0 served.3 (c.in-Err.ensures {u = tt}).part)
 
 pub returns-in-Err-clause-bytes : goal.returns-in-Err-clause-bytes
 returns-in-Err-clause-bytes g c =
@@ -44,8 +43,8 @@ returns-in-Err-read_some-clause-ends g c = λ first stood.
     let served = c.loop-taken.invariant.served in
     let flushed = c.in_default.ensures {u = tt} in
     let failed = c.in-Err-read_some.ensures {u = tt} in
-    source-breaks _ _ _ _ first _ _ _ _ _ _ _ _ served.0 stood (took-same _ _ _ served.0 served.1 failed.bytes failed.given_stays) c.flush.new.self
-    (serves-flushed _ _ c.args.engine.now _ _ _ _ _ c.loop-taken.session c.flush.new.self served.0 served.3 flushed.line flushed.ok flushed.empty flushed.errors) flushed.empty
+    source-breaks _ _ _ first _ _ _ _ _ _ _ _ served.0 stood (took-same _ _ _ served.0 served.1 failed.bytes failed.given_stays) c.flush.new.self
+    (serves-flushed _ c.args.engine.now _ _ _ _ _ c.loop-taken.session c.flush.new.self served.0 served.3 flushed.line flushed.ok flushed.empty flushed.errors) flushed.empty
     (omega (arith, served.2, c.loop-taken-test.true))
 
 pub returns-in-Err-read_some-clause-bytes : goal.returns-in-Err-read_some-clause-bytes
@@ -59,32 +58,29 @@ returns-in-Err-read_some-clause-bytes g c =
 pub returns-then-count-eq0-clause-ends : goal.returns-then-count-eq0-clause-ends
 returns-then-count-eq0-clause-ends g c = λ first stood.
     let served = c.loop-taken.invariant.served in
-    let told = c.loop-taken.invariant.same in
     let flushed = c.in_default.ensures {u = tt} in
     let read = c.in-Ok.ensures {u = tt} in
     let some : 0 < c.min-room.result = omega (arith, c.loop-taken-test.true, c.min-room.ensures) in
     let serves =
-    serves-flushed _ _ c.args.engine.now _ _ _ _ _ c.loop-taken.session c.flush.new.self served.0 served.3 flushed.line flushed.ok flushed.empty flushed.errors
+    serves-flushed _ c.args.engine.now _ _ _ _ _ c.loop-taken.session c.flush.new.self served.0 served.3 flushed.line flushed.ok flushed.empty flushed.errors
     in
-    closes _ _ _ _ first _ _ _ _ _ _ _ _ served.0 stood
+    closes _ _ _ first _ _ _ _ _ _ _ _ served.0 stood
     (took-end _ (outside (g.S.Source.left c.loop-taken.source) (g.S.Source.given c.loop-taken.source) (g.K.Sink.written c.loop-taken.sink) (g.E.Machine.faults c.loop-taken.engine)) _
     served.0 _ c.in-Ok.count served.1 read.bytes.0 c.if-count-eq0.true read.given (g.met.S.Source.given_ends c.loop-taken.source))
     c.end.result (omega (arith, served.2, c.loop-taken-test.true)) (read.bytes.1 c.if-count-eq0.true some)
-    (closes-as _ _ _ told c.args.engine.now _ _ _ (lines_of served.0) c.end.result
-    (c.end.ensures.closes c.args.engine.now _ served.0 (serves-as _ _ _ (sym told) c.args.engine.now _ _ _ _ _ _ refl serves)))
+    ((c.end.ensures.closes c.args.engine.now _ served.0 serves))
 
 pub returns-then-count-eq0-clause-bytes : goal.returns-then-count-eq0-clause-bytes
 returns-then-count-eq0-clause-bytes g c =
     let served = c.loop-taken.invariant.served in
-    let told = c.loop-taken.invariant.same in
     let flushed = c.in_default.ensures {u = tt} in
     let read = c.in-Ok.ensures {u = tt} in
     let serves =
-    serves-flushed _ _ c.args.engine.now _ _ _ _ _ c.loop-taken.session c.flush.new.self served.0 served.3 flushed.line flushed.ok flushed.empty flushed.errors
+    serves-flushed _ c.args.engine.now _ _ _ _ _ c.loop-taken.session c.flush.new.self served.0 served.3 flushed.line flushed.ok flushed.empty flushed.errors
     in (
       served.0,
-      closes-so_many _ _ c.args.engine.now _ _ _ (lines_of served.0) _ c.end.result (omega (arith, served.2, c.loop-taken-test.true))
-          (c.end.ensures.closes c.args.engine.now _ served.0 (serves-as _ _ _ (sym told) c.args.engine.now _ _ _ _ _ _ refl serves)),
+      closes-so_many _ c.args.engine.now _ _ _ (lines_of served.0) _ c.end.result (omega (arith, served.2, c.loop-taken-test.true))
+          (c.end.ensures.closes c.args.engine.now _ served.0 serves),
       took-end _ (outside (g.S.Source.left c.loop-taken.source) (g.S.Source.given c.loop-taken.source) (g.K.Sink.written c.loop-taken.sink) (g.E.Machine.faults c.loop-taken.engine)) _
           served.0 _ c.in-Ok.count served.1 read.bytes.0 c.if-count-eq0.true read.given (g.met.S.Source.given_ends c.loop-taken.source),
     )
@@ -92,12 +88,11 @@ returns-then-count-eq0-clause-bytes g c =
 pub returns-then-count-eq0-clause-source_fault : goal.returns-then-count-eq0-clause-source_fault
 returns-then-count-eq0-clause-source_fault g c = λ is.
     let served = c.loop-taken.invariant.served in
-    let told = c.loop-taken.invariant.same in
     let flushed = c.in_default.ensures {u = tt} in
     let serves =
-    serves-flushed _ _ c.args.engine.now _ _ _ _ _ c.loop-taken.session c.flush.new.self served.0 served.3 flushed.line flushed.ok flushed.empty flushed.errors
+    serves-flushed _ c.args.engine.now _ _ _ _ _ c.loop-taken.session c.flush.new.self served.0 served.3 flushed.line flushed.ok flushed.empty flushed.errors
     in
-    let closed = c.end.ensures.closes c.args.engine.now _ served.0 (serves-as _ _ _ (sym told) c.args.engine.now _ _ _ _ _ _ refl serves) in
+    let closed = c.end.ensures.closes c.args.engine.now _ served.0 serves in
     absurd (rw is at closed)
 
 -- the sink failed within a line
@@ -105,19 +100,17 @@ returns-then-count-eq0-clause-source_fault g c = λ is.
 pub returns-in-Err-feed-clause-ends : goal.returns-in-Err-feed-clause-ends
 returns-in-Err-feed-clause-ends g c = λ first stood.
     let served = c.loop-taken.invariant.served in
-    let told = c.loop-taken.invariant.same in
     let flushed = c.in_default.ensures {u = tt} in
     let read = c.in-Ok.ensures {u = tt} in
     let bytes = c.split_at.result.0.now in
     let serves =
-    serves-flushed _ _ c.args.engine.now _ _ _ _ _ c.loop-taken.session c.flush.new.self served.0 served.3 flushed.line flushed.ok flushed.empty flushed.errors
+    serves-flushed _ c.args.engine.now _ _ _ _ _ c.loop-taken.session c.flush.new.self served.0 served.3 flushed.line flushed.ok flushed.empty flushed.errors
     in
-    breaks-off _ _ _ _ first _ _ _ _ _ _ _ _ (served.0 ++ bytes) stood
+    breaks-off _ _ _ first _ _ _ _ _ _ _ _ (served.0 ++ bytes) stood
     (took-more _ (outside (g.S.Source.left c.loop-taken.source) (g.S.Source.given c.loop-taken.source) (g.K.Sink.written c.loop-taken.sink) (g.E.Machine.faults c.loop-taken.engine)) _
     served.0 bytes c.in-Ok.count served.1 (rw c.split_at.ensures.front read.bytes.0) c.split_at.ensures.front_len read.given)
     (omega (arith, length-append served.0 bytes, served.2, c.split_at.ensures.front_len, c.loop-taken-test.true, c.min-room.ensures, read.bound))
-    (halts-as _ _ _ told c.args.engine.now _ _ _ (served.0 ++ bytes) (served.0 ++ bytes) refl
-    ((c.in-Err-feed.ensures {u = tt}).part c.args.engine.now _ served.0 (serves-as _ _ _ (sym told) c.args.engine.now _ _ _ _ _ _ refl serves)))
+    (((c.in-Err-feed.ensures {u = tt}).part c.args.engine.now _ served.0 serves))
 
 pub returns-in-Err-feed-clause-bytes : goal.returns-in-Err-feed-clause-bytes
 returns-in-Err-feed-clause-bytes g c =
@@ -134,13 +127,12 @@ pub loop-taken-preserved : goal.loop-taken-preserved
 loop-taken-preserved g c =
     let so_far = c.loop-taken.invariant in
     let served = so_far.served in
-    let told = so_far.same in
     let flushed = c.in_default.ensures {u = tt} in
     let read = c.in-Ok.ensures {u = tt} in
     let fed = c.in_default-feed.ensures {u = tt} in
     let bytes = c.split_at.result.0.now in
     let serves =
-    serves-flushed _ _ c.args.engine.now _ _ _ _ _ c.loop-taken.session c.flush.new.self served.0 served.3 flushed.line flushed.ok flushed.empty flushed.errors
+    serves-flushed _ c.args.engine.now _ _ _ _ _ c.loop-taken.session c.flush.new.self served.0 served.3 flushed.line flushed.ok flushed.empty flushed.errors
     in
     record {
       served = (
@@ -149,12 +141,10 @@ loop-taken-preserved g c =
             (outside (g.S.Source.left c.loop-taken.source) (g.S.Source.given c.loop-taken.source) (g.K.Sink.written c.loop-taken.sink) (g.E.Machine.faults c.loop-taken.engine)) _
             served.0 bytes c.in-Ok.count served.1 (rw c.split_at.ensures.front read.bytes.0) c.split_at.ensures.front_len read.given,
         omega (arith, length-append served.0 bytes, served.2, c.split_at.ensures.front_len),
-        serves-as _ _ _ told c.args.engine.now _ _ _ _ (served.0 ++ bytes) (served.0 ++ bytes) refl
-            (fed.ok c.args.engine.now _ served.0 (serves-as _ _ _ (sym told) c.args.engine.now _ _ _ _ _ _ refl serves)),
+        (fed.ok c.args.engine.now _ served.0 serves),
       );
       idle = c.feed.ensures.idle;
       stands = c.feed.ensures.stands;
-      same = c.feed.ensures.told ∙ so_far.same;
       within = omega (arith, c.loop-taken-test.true, c.min-room.ensures, read.bound);
       later = fell-then _ _ _ so_far.later c.feed.ensures.later;
       source_later = omega (arith, so_far.source_later, read.cause.later);
@@ -167,8 +157,8 @@ pub returns-in-Ok-flush-clause-ends : goal.returns-in-Ok-flush-clause-ends
 returns-in-Ok-flush-clause-ends g c = λ first stood.
     let served = c.loop-taken.invariant.served in
     let flushed = c.in-Ok-flush.ensures {u = tt} in
-    limit-comes _ _ _ _ first _ _ _ _ _ _ _ _ served.0 stood (took-same _ _ _ served.0 served.1 refl refl) c.flush-2.new.self
-    (serves-flushed _ _ c.args.engine.now _ _ _ _ _ c.loop-taken.session c.flush-2.new.self served.0 served.3 flushed.line flushed.ok flushed.empty flushed.errors) flushed.empty
+    limit-comes _ _ _ first _ _ _ _ _ _ _ _ served.0 stood (took-same _ _ _ served.0 served.1 refl refl) c.flush-2.new.self
+    (serves-flushed _ c.args.engine.now _ _ _ _ _ c.loop-taken.session c.flush-2.new.self served.0 served.3 flushed.line flushed.ok flushed.empty flushed.errors) flushed.empty
     (omega (arith, served.2, c.loop-taken-test.false, c.loop-taken.invariant.within))
 
 pub returns-in-Ok-flush-clause-bytes : goal.returns-in-Ok-flush-clause-bytes
@@ -182,8 +172,8 @@ returns-in-Ok-flush-clause-bytes g c =
 pub returns-in-Err-flush-clause-ends : goal.returns-in-Err-flush-clause-ends
 returns-in-Err-flush-clause-ends g c = λ first stood.
     let served = c.loop-taken.invariant.served in
-    breaks-off _ _ _ _ first _ _ _ _ _ _ _ _ served.0 stood (took-same _ _ _ served.0 served.1 refl refl) (omega (arith, served.2, c.loop-taken.invariant.within))
-    (breaks-serves _ _ c.args.engine.now _ _ _ _ _ c.loop-taken.session served.0 served.3 (c.in-Err-flush.ensures {u = tt}).part)
+    breaks-off _ _ _ first _ _ _ _ _ _ _ _ served.0 stood (took-same _ _ _ served.0 served.1 refl refl) (omega (arith, served.2, c.loop-taken.invariant.within))
+    (breaks-serves _ c.args.engine.now _ _ _ _ _ c.loop-taken.session served.0 served.3 (c.in-Err-flush.ensures {u = tt}).part)
 
 pub returns-in-Err-flush-clause-bytes : goal.returns-in-Err-flush-clause-bytes
 returns-in-Err-flush-clause-bytes g c =

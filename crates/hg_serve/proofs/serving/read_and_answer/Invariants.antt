@@ -12,11 +12,10 @@ invariant-loop-taken g l = record {
       × Took (outside (g.S.Source.left l.fn.source) (g.S.Source.given l.fn.source) (g.K.Sink.written l.fn.sink) (g.E.Machine.faults l.fn.engine))
       (outside (g.S.Source.left l.source) (g.S.Source.given l.source) (g.K.Sink.written l.sink) (g.E.Machine.faults l.engine)) bytes
       × (length bytes ≡ l.taken)
-      × Serves g.E.Machine.stands (g.E.Machine.told l.fn.engine) l.fn.engine l.engine
+      × Serves g.E.Machine.stands l.fn.engine l.engine
       (seen (g.K.Sink.written l.fn.sink) (g.E.Machine.faults l.fn.engine)) (seen (g.K.Sink.written l.sink) (g.E.Machine.faults l.engine)) l.session bytes;
   idle : g.E.Machine.pending l.engine ≡ false;
   stands : (s : State) × g.E.Machine.stands l.engine s;
-  same : g.E.Machine.told l.engine ≡ g.E.Machine.told l.fn.engine;
   within : l.taken ≤ 2 ^ 32;
   later : NoneFell (g.E.Machine.faults l.fn.engine) (g.E.Machine.faults l.engine);
   source_later : g.S.Source.faults l.fn.source ≤ g.S.Source.faults l.source;

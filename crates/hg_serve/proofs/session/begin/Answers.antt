@@ -6,14 +6,14 @@ use Rattle.hg_serve.proofs.session.begin.Goals as goal
 
 pub returns-in-Nothing-clause-step : goal.returns-in-Nothing-clause-step
 returns-in-Nothing-clause-step g c =
-    rw c.in-Nothing.is ([], says-none _ _ c.clear.ensures.text c.clear.ensures.errors, moves-stay _ _ _ _ [] (λ s. (refl, refl)))
+    rw c.in-Nothing.is ([], says-none _ _ c.clear.ensures.text c.clear.ensures.errors, moves-stay _ _ _ [] (λ s. (refl, refl)))
 
 pub returns-in-SyntaxError-clause-step : goal.returns-in-SyntaxError-clause-step
 returns-in-SyntaxError-clause-step g c =
     rw c.in-SyntaxError.is (
       syntax_error ∷ [],
       says-one _ _ syntax_error c.say_alone.ensures.text c.say_alone.ensures.errors refl refl,
-      moves-stay _ _ _ _ (syntax_error ∷ []) (λ s. (refl, refl)),
+      moves-stay _ _ _ (syntax_error ∷ []) (λ s. (refl, refl)),
     )
 
 pub returns-in-TooLong-clause-step : goal.returns-in-TooLong-clause-step
@@ -21,9 +21,9 @@ returns-in-TooLong-clause-step g c =
     rw c.in-TooLong.is (
       line_too_long ∷ [],
       says-one _ _ line_too_long c.say_alone-in-TooLong.ensures.text c.say_alone-in-TooLong.ensures.errors refl refl,
-      moves-stay _ _ _ _ (line_too_long ∷ []) (λ s. (refl, refl)),
+      moves-stay _ _ _ (line_too_long ∷ []) (λ s. (refl, refl)),
     )
 
 pub returns-in-Statement-clause-stands : goal.returns-in-Statement-clause-stands
 returns-in-Statement-clause-stands g c =
-    let step = c.command.ensures.step in stands-on _ _ _ _ _ step.0 c.requires.stands step.2
+    let step = c.command.ensures.step in stands-on _ _ _ _ step.0 c.requires.stands step.2

@@ -5,10 +5,9 @@ use Rattle.hg_serve.proofs.session.give_turns.Goals as goal
 
 pub loop-left-init : goal.loop-left-init
 loop-left-init g c = record {
-  given = ([], tells-none _ _, moves-no_turn _ _ _);
+  given = ([], tells-none _ _, moves-no_turn _ _);
   more = c.requires.more;
   stands = c.requires.stands;
-  same = refl;
   later = fell-none _;
   sink_later = omega arith;
 }
@@ -23,11 +22,10 @@ loop-left-preserved g c =
       given = (
         given.0 ++ step.0,
         tells-then _ _ _ _ c.loop-left.output _ given.0 step.0 given.1 (tells-put _ _ _ _ c.loop-left.output _ _ step.0 step.1 put.ok put.errors),
-        moves-turn _ _ _ _ _ _ given.0 step.0 (so_far.same) given.2 step.2,
+        moves-turn _ _ _ _ given.0 step.0 given.2 step.2,
       );
       more = c.more-left.ensures.more;
-      stands = stands-on _ _ _ _ _ step.0 so_far.stands step.2;
-      same = c.more-left.ensures.told ∙ so_far.same;
+      stands = stands-on _ _ _ _ step.0 so_far.stands step.2;
       later = fell-then _ _ _ so_far.later (record { main = c.more-left.ensures.later.0; temp = c.more-left.ensures.later.1 });
       sink_later = omega (arith, so_far.sink_later, put.cause.later);
     }
@@ -42,8 +40,8 @@ returns-in-Err-clause-part g c =
       (given.0 ++ step.0) ++ left.0,
       part-more _ _ _ _ _ _ (given.0 ++ step.0) left.0
           (part-then _ _ _ c.args.output.now c.loop-left.output given.0 step.0 given.1 (part-put _ _ _ _ _ _ step.0 step.1 broke.part)) left.1,
-      moves-turns _ _ _ _ _ _ (given.0 ++ step.0) left.0 (c.more-left.ensures.told ∙ so_far.same)
-          (moves-turn _ _ _ _ _ _ given.0 step.0 (so_far.same) given.2 step.2) left.2,
+      moves-turns _ _ _ _ (given.0 ++ step.0) left.0
+          (moves-turn _ _ _ _ given.0 step.0 given.2 step.2) left.2,
     )
 
 pub returns-clause-ok : goal.returns-clause-ok
@@ -51,5 +49,5 @@ returns-clause-ok g c =
     let given = c.loop-left.invariant.given in (
       given.0,
       given.1,
-      moves-ends _ _ _ _ given.0 _ (at-rest _ _ c.loop-left.invariant.more.1 c.in_default.not-More) (g.met.E.Machine.pends c.loop-left.engine) given.2,
+      moves-ends _ _ _ given.0 _ (at-rest _ _ c.loop-left.invariant.more.1 c.in_default.not-More) (g.met.E.Machine.pends c.loop-left.engine) given.2,
     )

@@ -11,10 +11,9 @@ abbrev pub invariant-loop-left : goal.invariant-loop-left
 invariant-loop-left g l = record {
   given : (lines : List Reply)
       × Tells (seen (g.K.Sink.written l.fn.sink) (g.E.Machine.faults l.fn.engine)) (seen (g.K.Sink.written l.sink) (g.E.Machine.faults l.engine)) l.fn.output l.output lines
-      × Moves g.E.Machine.stands (g.E.Machine.told l.fn.engine) l.fn.engine l.engine SomeTurns lines;
+      × Moves g.E.Machine.stands l.fn.engine l.engine SomeTurns lines;
   more : (l.left ≡ More) ↔ (g.E.Machine.pending l.engine ≡ true);
   stands : (s : State) × g.E.Machine.stands l.engine s;
-  same : g.E.Machine.told l.engine ≡ g.E.Machine.told l.fn.engine;
   later : NoneFell (g.E.Machine.faults l.fn.engine) (g.E.Machine.faults l.engine);
   sink_later : g.K.Sink.faults l.fn.sink ≤ g.K.Sink.faults l.sink;
 }

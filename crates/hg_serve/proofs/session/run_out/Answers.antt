@@ -5,10 +5,9 @@ use Rattle.hg_serve.proofs.session.run_out.Goals as goal
 
 pub loop-left-init : goal.loop-left-init
 loop-left-init g c = record {
-  given = ([], counted-none _, moves-no_turn _ _ _);
+  given = ([], counted-none _, moves-no_turn _ _);
   more = c.requires.more;
   stands = c.requires.stands;
-  same = refl;
   later = fell-none _;
 }
 
@@ -21,11 +20,10 @@ loop-left-preserved g c =
       given = (
         given.0 ++ step.0,
         counted-then _ _ _ given.0 step.0 given.1 (counted-says _ _ _ step.0 step.1),
-        moves-turn _ _ _ _ _ _ given.0 step.0 (so_far.same) given.2 step.2,
+        moves-turn _ _ _ _ given.0 step.0 given.2 step.2,
       );
       more = c.more-left.ensures.more;
-      stands = stands-on _ _ _ _ _ step.0 so_far.stands step.2;
-      same = c.more-left.ensures.told ∙ so_far.same;
+      stands = stands-on _ _ _ _ step.0 so_far.stands step.2;
       later = fell-then _ _ _ so_far.later (record { main = c.more-left.ensures.later.0; temp = c.more-left.ensures.later.1 });
     }
 
@@ -34,5 +32,5 @@ returns-clause-turns g c =
     let given = c.loop-left.invariant.given in (
       given.0,
       given.1,
-      moves-ends _ _ _ _ given.0 _ (at-rest _ _ c.loop-left.invariant.more.1 c.in_default.not-More) (g.met.E.Machine.pends c.loop-left.engine) given.2,
+      moves-ends _ _ _ given.0 _ (at-rest _ _ c.loop-left.invariant.more.1 c.in_default.not-More) (g.met.E.Machine.pends c.loop-left.engine) given.2,
     )

@@ -10,10 +10,9 @@ use Rattle.hg_serve.proofs.session.run_out.Given as goal
 abbrev pub invariant-loop-left : goal.invariant-loop-left
 invariant-loop-left g l = record {
   given : (lines : List Reply) × Counted (g.E.Machine.faults l.fn.engine) (g.E.Machine.faults l.engine) lines
-      × Moves g.E.Machine.stands (g.E.Machine.told l.fn.engine) l.fn.engine l.engine SomeTurns lines;
+      × Moves g.E.Machine.stands l.fn.engine l.engine SomeTurns lines;
   more : (l.left ≡ More) ↔ (g.E.Machine.pending l.engine ≡ true);
   stands : (s : State) × g.E.Machine.stands l.engine s;
-  same : g.E.Machine.told l.engine ≡ g.E.Machine.told l.fn.engine;
   later : NoneFell (g.E.Machine.faults l.fn.engine) (g.E.Machine.faults l.engine);
 }
 

@@ -12,7 +12,7 @@ returns-in-Err-clause-part g c = λ whole is.
     let left = c.run_out.ensures.turns in
     record {
       replies = begun.0 ++ left.0;
-      moves = moves-line _ _ _ _ _ _ line c.read_line-asked.result begun.0 left.0 (c.read_line-asked.ensures whole (c.as_slice.ensures.value ∙ is)) c.begin-next.ensures.told begun.2 left.2;
+      moves = moves-line _ _ _ _ line c.read_line-asked.result begun.0 left.0 (c.read_line-asked.ensures whole (c.as_slice.ensures.value ∙ is)) begun.2 left.2;
       tells = part-more _ _ _ _ _ _ begun.0 left.0 (part-put _ _ _ _ _ _ begun.0 begun.1 broke.part) left.1;
     }
 
@@ -25,7 +25,7 @@ returns-in_err-give_turns-clause-part g c =
     let broke = (c.in_err-give_turns.ensures {u = tt}).part in
     record {
       replies = begun.0 ++ broke.0;
-      moves = moves-line _ _ _ _ _ _ line c.read_line-asked.result begun.0 broke.0 (c.read_line-asked.ensures whole (c.as_slice.ensures.value ∙ is)) c.begin-next.ensures.told begun.2 broke.2;
+      moves = moves-line _ _ _ _ line c.read_line-asked.result begun.0 broke.0 (c.read_line-asked.ensures whole (c.as_slice.ensures.value ∙ is)) begun.2 broke.2;
       tells = part-then _ _ _ _ c.put.new.self begun.0 broke.0 (tells-put _ _ _ _ c.args.self.now.output c.put.new.self _ begun.0 begun.1 put.ok put.errors) broke.1;
     })
 
@@ -37,6 +37,6 @@ returns-clause-ok g c = λ whole is.
     let given = (c.in_ok-give_turns.ensures {u = tt}).ok in
     record {
       replies = begun.0 ++ given.0;
-      moves = moves-line _ _ _ _ _ _ line c.read_line-asked.result begun.0 given.0 (c.read_line-asked.ensures whole (c.as_slice.ensures.value ∙ is)) c.begin-next.ensures.told begun.2 given.2;
+      moves = moves-line _ _ _ _ line c.read_line-asked.result begun.0 given.0 (c.read_line-asked.ensures whole (c.as_slice.ensures.value ∙ is)) begun.2 given.2;
       tells = tells-then _ _ _ _ c.put.new.self _ begun.0 given.0 (tells-put _ _ _ _ c.args.self.now.output c.put.new.self _ begun.0 begun.1 put.ok put.errors) given.1;
     }

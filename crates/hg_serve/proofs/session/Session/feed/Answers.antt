@@ -8,8 +8,7 @@ pub loop-b-init : goal.loop-b-init
 loop-b-init g c = record {
   idle = c.requires.idle;
   stands = c.requires.stands;
-  same = refl;
-  serves = λ first w taken serves. serves-as _ _ _ refl first _ w _ _ _ _ (sym (append-nil taken)) serves;
+  serves = λ first w taken serves. serves-as _ first _ w _ _ _ _ (sym (append-nil taken)) serves;
   later = fell-none _;
   sink_later = omega arith;
 }
@@ -18,31 +17,28 @@ pub returns-in-Err-clause-part : goal.returns-in-Err-clause-part
 returns-in-Err-clause-part g c = λ first w taken serves.
     let i = c.loop-b.b-index in
     let bytes = c.args.bytes.now in
-    let told = c.loop-b.invariant.same in
     let so_far = c.loop-b.invariant.serves first w taken serves in
-    halts-as _ _ _ told first _ w _ _ _ (parts-at taken bytes i c.loop-b-test.true)
-    (halts-later _ _ first _ w _ ((taken ++ take i bytes) ++ get_or bytes i 0 ∷ []) (drop (i + 1) bytes)
-    ((c.in-Err.ensures {u = tt}).part first w (taken ++ take i bytes) (serves-as _ _ _ (sym told) first _ w _ _ _ _ refl so_far)))
+    halts-as _ first _ w _ _ _ (parts-at taken bytes i c.loop-b-test.true)
+    (halts-later _ first _ w _ ((taken ++ take i bytes) ++ get_or bytes i 0 ∷ []) (drop (i + 1) bytes)
+    ((c.in-Err.ensures {u = tt}).part first w (taken ++ take i bytes) so_far))
 
 pub loop-b-preserved : goal.loop-b-preserved
 loop-b-preserved g c =
     let i = c.loop-b.b-index in
     let bytes = c.args.bytes.now in
     let so_far = c.loop-b.invariant in
-    let told = so_far.same in
     let fed = c.in_default.ensures {u = tt} in
     record {
       idle = c.take_byte.ensures.idle;
       stands = c.take_byte.ensures.stands;
-      same = c.take_byte.ensures.told ∙ so_far.same;
       serves = λ first w taken serves.
-          serves-as _ _ _ told first _ w _ _ _ _ (parts-more taken bytes i c.loop-b-test.true)
-          (fed.ok first w (taken ++ take i bytes) (serves-as _ _ _ (sym told) first _ w _ _ _ _ refl (so_far.serves first w taken serves)));
+          serves-as _ first _ w _ _ _ _ (parts-more taken bytes i c.loop-b-test.true)
+          (fed.ok first w (taken ++ take i bytes) (so_far.serves first w taken serves));
       later = fell-then _ _ _ so_far.later c.take_byte.ensures.later;
       sink_later = omega (arith, so_far.sink_later, fed.cause.later);
     }
 
 pub returns-clause-ok : goal.returns-clause-ok
 returns-clause-ok g c = λ first w taken serves.
-    serves-as _ _ _ refl first _ w _ _ _ _ (ap (λ l. taken ++ l) (take_all c.loop-b.b-index c.args.bytes.now c.loop-b-test.false))
+    serves-as _ first _ w _ _ _ _ (ap (λ l. taken ++ l) (take_all c.loop-b.b-index c.args.bytes.now c.loop-b-test.false))
     (c.loop-b.invariant.serves first w taken serves)

@@ -8,10 +8,9 @@ abbrev pub invariant-loop-b : goal.invariant-loop-b
 invariant-loop-b g l = record {
   idle : g.E.Machine.pending l.engine ≡ false;
   stands : (s : State) × g.E.Machine.stands l.engine s;
-  same : g.E.Machine.told l.engine ≡ g.E.Machine.told l.fn.engine;
   serves : (first : g.row.E.Denot) (w : Seen) (taken : List ℕ)
-      → Serves g.E.Machine.stands (g.E.Machine.told l.fn.engine) first l.fn.engine w (seen (g.K.Sink.written l.fn.sink) (g.E.Machine.faults l.fn.engine)) l.fn.self taken
-      → Serves g.E.Machine.stands (g.E.Machine.told l.fn.engine) first l.engine w (seen (g.K.Sink.written l.sink) (g.E.Machine.faults l.engine)) l.self (taken ++ take l.b-index l.bytes);
+      → Serves g.E.Machine.stands first l.fn.engine w (seen (g.K.Sink.written l.fn.sink) (g.E.Machine.faults l.fn.engine)) l.fn.self taken
+      → Serves g.E.Machine.stands first l.engine w (seen (g.K.Sink.written l.sink) (g.E.Machine.faults l.engine)) l.self (taken ++ take l.b-index l.bytes);
   later : NoneFell (g.E.Machine.faults l.fn.engine) (g.E.Machine.faults l.engine);
   sink_later : g.K.Sink.faults l.fn.sink ≤ g.K.Sink.faults l.sink;
 }
