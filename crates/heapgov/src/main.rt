@@ -1,6 +1,6 @@
 //! The program: runs the script on standard input, writes its replies to standard output, and ends
 //! with the number of the status. Its devices are the files `heapgov.main` and `heapgov.temp` in the
-//! current folder, which are made anew.
+//! current folder, each made anew at its first read or write.
 //!
 //! What standard input and the files hold, and that standard output takes what is written, no proof
 //! says: the streams and the files are the trusted edge.
