@@ -25,7 +25,6 @@ pub struct Engine<M: PageDevice, T: PageDevice> {
 
 impl<M: PageDevice, T: PageDevice> Engine<M, T> {
     ghost use Rattle.std.specs.Prelude.{◌≡◌, ◌<◌, ◌≤◌, ◌↔◌, ◌&&◌, true, false, IfOk, IfErr, Some};
-    ghost use Rattle.hg_base.specs.Space.{NoPins};
     ghost use Rattle.hg_machine.specs.State.{first_state};
     ghost use Rattle.hg_pool.specs.Opening.{IsPossible};
     ghost use Rattle.hg_pool.specs.Shown.{main_device, temp_device};
@@ -123,7 +122,7 @@ impl<M: PageDevice, T: PageDevice> Engine<M, T> {
 
     /// Gives the devices back as they are: no device is called, and pages that were not written are lost.
     pub fn close(self) -> Devices<M, T>
-        requires { NoPins (space_of M.PageDevice T.PageDevice self) }
+        requires { (state : State) × IsEngineOf M.PageDevice T.PageDevice self state }
         ensures main { result.main ≡ main_of self }
         ensures temp { result.temp ≡ temp_of self }
     {
