@@ -77,6 +77,8 @@ pub trait TableCalls {
         ensures same { ends self.new ≡ ends self.old }
         ensures chain { (pages : List ℕ) → IsChain (S.state space.old) (ends self.old) pages
             → IsChain (S.state space.new) (ends self.old) pages }
+        ensures links { (S.state space.new).next ≡ (S.state space.old).next }
+        ensures heaps { (S.state space.new).of_heap ≡ (S.state space.old).of_heap }
         ensures steady { OnOk result (Steady (page_mine at.page) (S.state space.old)
             (S.state space.new)) }
         ensures err_steady { OnErr result (Steady none_mine (S.state space.old)
@@ -106,6 +108,7 @@ pub trait TableCalls {
         ensures row { result ≡ Ok true → (pages : List ℕ) (versions : List Placed)
             → IsTable (S.state space.old) (ends self.now) columns pages versions
             → IfSome (version_at versions at) (λ v. out.new ≡ v.row) }
+        ensures width { result ≡ Ok true → length out.new ≡ columns }
         ensures unseen { result ≡ Ok false → out.new ≡ out.old }
         ensures steady { Steady none_mine (S.state space.old) (S.state space.new) }
         ensures takes_none { TakesNone (S.state space.old) (S.state space.new) }
@@ -148,6 +151,7 @@ pub trait TableCalls {
                   (s : StampOf). s.0) stamps.1;
               row = out.new;
             })) }
+        ensures width { OnOk result (length out.new ≡ columns) }
         ensures steady { Steady none_mine (S.state space.old) (S.state space.new) }
         ensures takes_none { TakesNone (S.state space.old) (S.state space.new) }
         ensures cause { HasCause (S.state space.old) (S.state space.new) result }

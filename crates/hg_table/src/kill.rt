@@ -48,6 +48,8 @@ pub fn kill<S: Pages>(space: &mut S, place: Place, died: Stamp) -> Result<(), Pa
     ensures ok { OnOk result (ChangesPage (S.state space.old) (S.state space.new) place.page
         (λ old new. Kills old new place.slot died.0)) }
     ensures err { OnErr result (Looks (S.state space.old) (S.state space.new)) }
+    ensures links { (S.state space.new).next ≡ (S.state space.old).next }
+    ensures heaps { (S.state space.new).of_heap ≡ (S.state space.old).of_heap }
     ensures cause { HasCause (S.state space.old) (S.state space.new) result }
     ensures fault { IfErr result (LookFault IsVersionCheck (S.state space.old)
         (S.state space.new)) }

@@ -1,5 +1,5 @@
 //! Reading one version.
-ghost use Rattle.std.specs.Prelude.{◌≡◌, true, false, Option, length, IfOk, IfErr, IfSome, option_map};
+ghost use Rattle.std.specs.Prelude.{◌≡◌, true, false, Option, length, IfOk, IfErr, IfSome, OnOk, option_map};
 ghost use Rattle.hg_base.specs.Space.{NoPins, key_in};
 ghost use Rattle.hg_base.specs.Causes.{HasCause};
 ghost use Rattle.hg_base.specs.declared.Stamp.{Stamp as StampOf};
@@ -32,6 +32,7 @@ pub fn read_in(
         → seen ≡ sees (committed stamps.now) snapshot.0 v) }
     ensures row { result ≡ Ok true → (v : Option RowVersion)
         → Shows columns (record_at page.now slot) v → IfSome v (λ w. out.new ≡ w.row) }
+    ensures width { result ≡ Ok true → length out.new ≡ columns }
     ensures unseen { result ≡ Ok false → out.new ≡ out.old }
     ensures wrong { IfErr result (IsWrongAt page.now columns slot) }
 {
@@ -67,6 +68,7 @@ pub fn version_in(
               (s : StampOf). s.0) stamps.1;
           row = out.new;
         })) }
+    ensures width { OnOk result (length out.new ≡ columns) }
     ensures wrong { IfErr result (IsWrongVersion page.now columns slot) }
 {
     let Some(record) = slot::peek(page, slot)? else {
@@ -100,6 +102,7 @@ pub fn read<S: Pages>(
     ensures row { result ≡ Ok true → (v : Option RowVersion)
         → IsSoundAt (S.state space.old) columns at.page at.slot v
         → IfSome v (λ w. out.new ≡ w.row) }
+    ensures width { result ≡ Ok true → length out.new ≡ columns }
     ensures unseen { result ≡ Ok false → out.new ≡ out.old }
     ensures looks { Looks (S.state space.old) (S.state space.new) }
     ensures cause { HasCause (S.state space.old) (S.state space.new) result }
@@ -133,6 +136,7 @@ pub fn version<S: Pages>(
               (s : StampOf). s.0) stamps.1;
           row = out.new;
         })) }
+    ensures width { OnOk result (length out.new ≡ columns) }
     ensures looks { Looks (S.state space.old) (S.state space.new) }
     ensures cause { HasCause (S.state space.old) (S.state space.new) result }
     ensures fault { IfErr result (LookFault IsVersionCheck (S.state space.old)
