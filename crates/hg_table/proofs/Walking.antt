@@ -11,8 +11,8 @@ use Rattle.hg_slot.specs.Slotted.{record_at}
 use Rattle.hg_table.specs.Chains.{IsPath, has_page}
 use Rattle.hg_table.specs.Versions.{Placed, RowVersion, HoldsVersions, Shows, in_slots, in_pages, most_slots}
 use Rattle.hg_table.specs.Places.{first_place}
-use Rattle.hg_table.specs.Calls.{none_mine}
-use Rattle.hg_table.specs.Steps.{Looks, HoldsLine, IsSound, IsFirstFull, main_page}
+use Rattle.hg_table.specs.Calls.{none_mine, main_page}
+use Rattle.hg_table.specs.Steps.{Looks, HoldsLine, IsSound, IsFirstFull}
 use Rattle.hg_table.specs.Listing.{first_slot, slots_none}
 use Rattle.hg_table.proofs.Seeing.{slot_small}
 use Rattle.hg_table.proofs.Places.{all_has, line-free}

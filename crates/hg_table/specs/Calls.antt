@@ -1,9 +1,10 @@
 -- What the calls on a table ask, what they do, and why they fail. Our own rule.
 use Rattle.std.specs.Prelude.{◌≡◌, ℕ, true, false, List, [], ◌∷◌, ◌++◌, length, Option, Some, None, IsSome, IsTrue, MatchOption, ⊤, ◌⊎◌}
-use Rattle.hg_base.specs.Space.{Space, key_in, at, IsFull}
+use Rattle.hg_base.specs.Space.{Space, key_in, at, IsFull, IsFree}
 use Rattle.hg_base.specs.Causes.{MainFailed, TempFailed, NoneFull, Rose}
 use Rattle.hg_base.specs.Steadiness.{Mine, these_pages}
 use Rattle.hg_base.specs.declared.File.TheVariants as file
+use Rattle.hg_base.specs.declared.PageId.{PageId}
 use Rattle.hg_base.specs.declared.Place.{Place}
 use Rattle.hg_base.specs.declared.Table.{Table}
 use Rattle.hg_base.specs.declared.Check.{Check}
@@ -15,6 +16,10 @@ use Rattle.hg_slot.specs.Slotted.{Fits}
 use Rattle.hg_table.specs.Chains.{IsChain, has_page}
 use Rattle.hg_table.specs.Versions.{Placed, IsTable}
 use Rattle.hg_table.specs.Places.{version_at}
+
+-- the page of the main file with this number
+abbrev pub main_page : ℕ → PageId
+main_page x = record { file = file.Main; no = x }
 
 -- a call that owns no page
 abbrev pub none_mine : Mine
@@ -124,13 +129,14 @@ InsertFault a b fault.MainFull =
 InsertFault a b fault.TempFull = ⊥
 InsertFault a b (fault.Damaged page check) = (a.told ≡ false) × IsPageCheck check × NoneFull a.counts b.counts
 
--- What may be wrong with a version that is read or killed, and with a table that is walked.
+-- What may be wrong with a version that is read or killed, and with a table that is walked. A place
+-- whose page cannot be pinned is wrong by RowBytes, a page of a chain that cannot be by Level.
 abbrev pub IsVersionCheck : Check → Type 0
 IsVersionCheck Kind = ⊤
 IsVersionCheck Size = ⊤
 IsVersionCheck Frame = ⊥
 IsVersionCheck Link = ⊥
-IsVersionCheck Level = ⊤
+IsVersionCheck Level = ⊥
 IsVersionCheck Order = ⊥
 IsVersionCheck RowBytes = ⊤
 
@@ -141,7 +147,7 @@ IsWalkCheck Frame = ⊥
 IsWalkCheck Link = ⊥
 IsWalkCheck Level = ⊤
 IsWalkCheck Order = ⊤
-IsWalkCheck RowBytes = ⊥
+IsWalkCheck RowBytes = ⊤
 
 -- Why a call fails that takes no page: a device failed, or, where the space does not tell, one of
 -- these checks did.
@@ -151,6 +157,38 @@ LookFault checks a b fault.TempFault = TempFailed a.counts b.counts
 LookFault checks a b fault.MainFull = ⊥
 LookFault checks a b fault.TempFull = ⊥
 LookFault checks a b (fault.Damaged page check) = (a.told ≡ false) × checks check
+
+-- which page is named where one is damaged: the one with this number
+abbrev pub NamesPage : ℕ → PageFault → Type 0
+NamesPage x fault.MainFault = ⊤
+NamesPage x fault.TempFault = ⊤
+NamesPage x fault.MainFull = ⊤
+NamesPage x fault.TempFull = ⊤
+NamesPage x (fault.Damaged page check) = page ≡ main_page x
+
+-- the one with the number that is given; where none is given, no page is damaged
+abbrev pub NamesGiven : Option ℕ → PageFault → Type 0
+NamesGiven x fault.MainFault = ⊤
+NamesGiven x fault.TempFault = ⊤
+NamesGiven x fault.MainFull = ⊤
+NamesGiven x fault.TempFull = ⊤
+NamesGiven x (fault.Damaged page check) = MatchOption x ⊥ (λ no. page ≡ main_page no)
+
+-- a page of the main file
+abbrev pub NamesMain : PageFault → Type 0
+NamesMain fault.MainFault = ⊤
+NamesMain fault.TempFault = ⊤
+NamesMain fault.MainFull = ⊤
+NamesMain fault.TempFull = ⊤
+NamesMain (fault.Damaged page check) = page.file ≡ file.Main
+
+-- Where this check failed, the page that is named cannot be pinned.
+abbrev pub IsBarred : Check → Space → PageFault → Type 0
+IsBarred c s fault.MainFault = ⊤
+IsBarred c s fault.TempFault = ⊤
+IsBarred c s fault.MainFull = ⊤
+IsBarred c s fault.TempFull = ⊤
+IsBarred c s (fault.Damaged page check) = check ≡ c → IsFree s page → ⊥
 
 -- A call that takes no page and finds no file full.
 pub record TakesNone (a b : Space) : Type 0 where

@@ -7,7 +7,7 @@ ghost use Rattle.hg_slot.specs.Slotted.{record_at};
 ghost use Rattle.hg_table.specs.Marks.{committed};
 ghost use Rattle.hg_table.specs.Versions.{RowVersion, Shows};
 ghost use Rattle.hg_table.specs.Places.{sees};
-ghost use Rattle.hg_table.specs.Calls.{LookFault, IsVersionCheck};
+ghost use Rattle.hg_table.specs.Calls.{LookFault, IsVersionCheck, NamesPage};
 ghost use Rattle.hg_table.specs.Steps.{Looks, IsSoundAt, IsWrongAt, IsWrongVersion};
 
 use crate::open::{damaged, open};
@@ -108,8 +108,9 @@ pub fn read<S: Pages>(
     ensures cause { HasCause (S.state space.old) (S.state space.new) result }
     ensures fault { IfErr result (LookFault IsVersionCheck (S.state space.old)
         (S.state space.new)) }
+    ensures page { IfErr result (NamesPage at.page) }
 {
-    let pin = open(space, at.page)?;
+    let pin = open(space, at.page, Check::RowBytes)?;
     let answer = read_in(space.bytes(&pin), at.slot, columns, snapshot, stamps, out);
     space.unpin(pin);
     match answer {
@@ -141,8 +142,9 @@ pub fn version<S: Pages>(
     ensures cause { HasCause (S.state space.old) (S.state space.new) result }
     ensures fault { IfErr result (LookFault IsVersionCheck (S.state space.old)
         (S.state space.new)) }
+    ensures page { IfErr result (NamesPage at.page) }
 {
-    let pin = open(space, at.page)?;
+    let pin = open(space, at.page, Check::RowBytes)?;
     let answer = version_in(space.bytes(&pin), at.slot, columns, out);
     space.unpin(pin);
     match answer {

@@ -8,8 +8,8 @@ ghost use Rattle.hg_slot.specs.Slotted.{IsSlotted};
 ghost use Rattle.hg_slot.specs.Changing.{IsWrong};
 ghost use Rattle.hg_table.specs.Versions.{Placed, RowVersion, IsTable, in_pages};
 ghost use Rattle.hg_table.specs.Places.{behind, first_place};
-ghost use Rattle.hg_table.specs.Calls.{HasStart, LookFault, IsWalkCheck};
-ghost use Rattle.hg_table.specs.Steps.{Looks, IsSound, IsNextSlot, HoldsLine, main_page};
+ghost use Rattle.hg_table.specs.Calls.{HasStart, LookFault, IsWalkCheck, NamesPage, NamesMain, IsBarred, main_page};
+ghost use Rattle.hg_table.specs.Steps.{Looks, IsSound, IsNextSlot, HoldsLine};
 
 use crate::open::{damaged, main_page, open};
 use hg_base::{Check, File, PageFault, Pages, Place, Table};
@@ -45,7 +45,8 @@ pub fn first_slot(page: &[u8]) -> Result<Option<u16>, Check>
 }
 
 /// Pins a page and looks for a slot that is not empty: on a page that is entered for the first, and
-/// else from `from` on.
+/// else from `from` on. Where it cannot be pinned, a page that is entered is a page of a chain, and
+/// another that of a place.
 fn look<S: Pages>(
     space: &mut S,
     no: u32,
@@ -61,8 +62,16 @@ fn look<S: Pages>(
     ensures looks { Looks (S.state space.old) (S.state space.new) }
     ensures cause { HasCause (S.state space.old) (S.state space.new) result }
     ensures fault { IfErr result (LookFault IsWalkCheck (S.state space.old) (S.state space.new)) }
+    ensures page { IfErr result (NamesPage no) }
+    ensures level { IfErr result (IsBarred Check.Level (S.state space.old)) }
+    ensures row { IfErr result (IsBarred Check.RowBytes (S.state space.old)) }
 {
-    let pin = open(space, no)?;
+    let check = if entering {
+        Check::Level
+    } else {
+        Check::RowBytes
+    };
+    let pin = open(space, no, check)?;
     let bytes = space.bytes(&pin);
     let found = if entering {
         first_slot(bytes)
@@ -85,6 +94,9 @@ fn first_along<S: Pages>(space: &mut S, start: Option<u32>) -> Result<Option<Pla
     ensures looks { Looks (S.state space.old) (S.state space.new) }
     ensures cause { HasCause (S.state space.old) (S.state space.new) result }
     ensures fault { IfErr result (LookFault IsWalkCheck (S.state space.old) (S.state space.new)) }
+    ensures page { IfErr result NamesMain }
+    ensures level { IfErr result (IsBarred Check.Level (S.state space.old)) }
+    ensures row { IfErr result (IsBarred Check.RowBytes (S.state space.old)) }
 {
     let mut next = start;
     for _turn in 0..space.taken(File::Main) {
@@ -116,6 +128,9 @@ pub fn after<S: Pages>(
     ensures looks { Looks (S.state space.old) (S.state space.new) }
     ensures cause { HasCause (S.state space.old) (S.state space.new) result }
     ensures fault { IfErr result (LookFault IsWalkCheck (S.state space.old) (S.state space.new)) }
+    ensures page { IfErr result NamesMain }
+    ensures level { IfErr result (IsBarred Check.Level (S.state space.old)) }
+    ensures row { IfErr result (IsBarred Check.RowBytes (S.state space.old)) }
 {
     match at {
         None => first_along(space, table.first),
