@@ -67,6 +67,11 @@ pub record HasStart (s : Space) (t : Table) (start : Option Place) : Type 0 wher
   pub table : IsTable s t columns pages versions
   pub page : MatchOption start ⊤ (λ place. IsTrue (has_page pages place.page))
 
+-- the place, if there is one, is on one of these pages
+abbrev pub StandsOn : List ℕ → Option Place → Type 0
+StandsOn pages None = ⊤
+StandsOn pages (Some place) = IsTrue (has_page pages place.page)
+
 -- One version more was put among the others.
 pub record PutsIn (old new : List Placed) (v : Placed) : Type 0 where
   pub before : List Placed

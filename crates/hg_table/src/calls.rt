@@ -25,7 +25,7 @@ pub trait TableCalls {
     ghost use Rattle.hg_table.specs.Chains.{IsChain};
     ghost use Rattle.hg_table.specs.Versions.{Placed, IsTable};
     ghost use Rattle.hg_table.specs.Places.{version_at, behind, first_place, sees, killed};
-    ghost use Rattle.hg_table.specs.Calls.{none_mine, page_mine, insert_mine, HasTable, HasPage, HasVersion, HasStart, Inserts, KeepsPages, AddsPage, InsertFault, LookFault, IsVersionCheck, IsWalkCheck, NamesPage, NamesGiven, NamesMain, IsBarred, HasNoRoom, TakesNone, newborn};
+    ghost use Rattle.hg_table.specs.Calls.{none_mine, page_mine, insert_mine, HasTable, HasPage, HasVersion, HasStart, Inserts, KeepsPages, AddsPage, InsertFault, LookFault, IsVersionCheck, IsWalkCheck, NamesPage, NamesGiven, NamesMain, IsBarred, HasNoRoom, StandsOn, TakesNone, newborn};
 
     // where the table's pages stand
     ghost ends: { Self → TableOf };
@@ -131,6 +131,9 @@ pub trait TableCalls {
             (versions : List Placed)
             → IsTable (S.state space.old) (ends self.now) columns pages versions
             → next ≡ first_place (behind pages at versions)) }
+        ensures on_pages { IfOk result (λ next. (pages : List ℕ)
+            → IsChain (S.state space.old) (ends self.now) pages → StandsOn pages at
+            → StandsOn pages next) }
         ensures steady { Steady none_mine (S.state space.old) (S.state space.new) }
         ensures takes_none { TakesNone (S.state space.old) (S.state space.new) }
         ensures cause { HasCause (S.state space.old) (S.state space.new) result }

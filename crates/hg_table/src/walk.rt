@@ -6,9 +6,10 @@ ghost use Rattle.hg_base.specs.Steadiness.{IsPlain};
 ghost use Rattle.hg_base.specs.declared.Table.{Table as TableOf};
 ghost use Rattle.hg_slot.specs.Slotted.{IsSlotted};
 ghost use Rattle.hg_slot.specs.Changing.{IsWrong};
+ghost use Rattle.hg_table.specs.Chains.{IsLine, IsChain};
 ghost use Rattle.hg_table.specs.Versions.{Placed, RowVersion, IsTable, in_pages};
 ghost use Rattle.hg_table.specs.Places.{behind, first_place};
-ghost use Rattle.hg_table.specs.Calls.{HasStart, LookFault, IsWalkCheck, NamesPage, NamesMain, IsBarred, main_page};
+ghost use Rattle.hg_table.specs.Calls.{HasStart, LookFault, IsWalkCheck, NamesPage, NamesMain, IsBarred, StandsOn, main_page};
 ghost use Rattle.hg_table.specs.Steps.{Looks, IsSound, IsNextSlot, HoldsLine};
 
 use crate::open::{damaged, main_page, open};
@@ -91,6 +92,8 @@ fn first_along<S: Pages>(space: &mut S, start: Option<u32>) -> Result<Option<Pla
     requires line { (S.state space.old).told ≡ true → HoldsLine (S.state space.old) start }
     ensures first { IfOk result (λ first. (l : HoldsLine (S.state space.old) start)
         → first ≡ first_place (in_pages l.held l.pages)) }
+    ensures on_line { IfOk result (λ first. (pages : List ℕ)
+        → IsLine (S.state space.old) start pages → StandsOn pages first) }
     ensures looks { Looks (S.state space.old) (S.state space.new) }
     ensures cause { HasCause (S.state space.old) (S.state space.new) result }
     ensures fault { IfErr result (LookFault IsWalkCheck (S.state space.old) (S.state space.new)) }
@@ -125,6 +128,8 @@ pub fn after<S: Pages>(
     ensures next { IfOk result (λ next. (columns : ℕ) (pages : List ℕ) (versions : List Placed)
         → IsTable (S.state space.old) table.now columns pages versions
         → next ≡ first_place (behind pages at versions)) }
+    ensures on_pages { IfOk result (λ next. (pages : List ℕ)
+        → IsChain (S.state space.old) table.now pages → StandsOn pages at → StandsOn pages next) }
     ensures looks { Looks (S.state space.old) (S.state space.new) }
     ensures cause { HasCause (S.state space.old) (S.state space.new) result }
     ensures fault { IfErr result (LookFault IsWalkCheck (S.state space.old) (S.state space.new)) }

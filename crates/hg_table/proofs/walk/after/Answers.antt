@@ -1,13 +1,14 @@
-use Rattle.std.specs.Prelude.{◌+◌, Option, Some}
+use Rattle.std.specs.Prelude.{◌≡◌, ℕ, ◌+◌, true, Option, Some}
 use Rattle.std.proofs.Common.{sym, ◌∙◌, ap, subst}
 use Rattle.std.proofs.lemmas.Result.{IfOk-weaker}
 use Rattle.hg_base.specs.Space.{Space, key}
 use Rattle.hg_base.specs.declared.Place.{Place}
 use Rattle.hg_base.specs.declared.Table.{Table}
-use Rattle.hg_table.specs.Places.{behind, first_place}
-use Rattle.hg_table.specs.Calls.{HasStart}
+use Rattle.hg_table.specs.Places.{behind, pages_behind, first_place}
+use Rattle.hg_table.specs.Chains.{has_page}
+use Rattle.hg_table.specs.Calls.{HasStart, StandsOn}
 use Rattle.hg_table.specs.Steps.{IsNextSlot}
-use Rattle.hg_table.proofs.Following.{table_line, rest_line, place_sound, start_on, first_of_table, next_here, next_behind}
+use Rattle.hg_table.proofs.Following.{line_rest, stands_behind, table_line, rest_line, place_sound, start_on, first_of_table, next_here, next_behind}
 use Rattle.hg_table.proofs.walk.after.Goals as goal
 
 pub look-requires-clause-sound : goal.look-requires-clause-sound
@@ -43,6 +44,19 @@ returns-in-None-clause-next g c =
     first_of_table a t columns pages versions next table (known (table_line a t columns pages versions table))
     ∙ ap (λ (p : Option Place). first_place (behind pages p versions)) (sym c.in-None.is))
     c.first_along.ensures.first
+
+pub returns-in_default-clause-on_pages : goal.returns-in_default-clause-on_pages
+returns-in_default-clause-on_pages g c =
+    let a : Space = g.S.Pages.state c.args.space.now in
+    let b : Space = g.S.Pages.state c.look.new.space in
+    let x : ℕ = c.in-Some.place.page in
+    IfOk-weaker c.first_along-in-Some.result _ _
+    (λ next known pages chain stands.
+    let on : has_page pages x ≡ true = subst (StandsOn pages) c.in-Some.is stands in
+    stands_behind pages x next
+    (known (pages_behind pages x) (line_rest a b c.args.table.now pages x c.next.result c.in_ok-slot-in-Some.ensures.looks chain on
+    (c.next.ensures ∙ ap (λ p. b.next (key p)) c.main_page.ensures))))
+    c.first_along-in-Some.ensures.on_line
 
 pub returns-in_default-clause-next : goal.returns-in_default-clause-next
 returns-in_default-clause-next g c =
