@@ -187,13 +187,23 @@ NamesMain fault.MainFull = ⊤
 NamesMain fault.TempFull = ⊤
 NamesMain (fault.Damaged page check) = page.file ≡ file.Main
 
--- Where this check failed, the page that is named cannot be pinned.
-abbrev pub IsBarred : Check → Space → PageFault → Type 0
-IsBarred c s fault.MainFault = ⊤
-IsBarred c s fault.TempFault = ⊤
-IsBarred c s fault.MainFull = ⊤
-IsBarred c s fault.TempFull = ⊤
-IsBarred c s (fault.Damaged page check) = check ≡ c → IsFree s page → ⊥
+-- Which page of a walk cannot be pinned: by RowBytes that of the place where it starts, and by Level
+-- one of the chain, where that of the place can be.
+abbrev pub WalkBars : Space → Option Place → PageId → Check → Type 0
+WalkBars s start page Kind = ⊤
+WalkBars s start page Size = ⊤
+WalkBars s start page Frame = ⊤
+WalkBars s start page Link = ⊤
+WalkBars s start page Level = (IsFree s page → ⊥) × MatchOption start ⊤ (λ place. IsFree s (main_page place.page))
+WalkBars s start page Order = ⊤
+WalkBars s start page RowBytes = (IsFree s page → ⊥) × MatchOption start ⊥ (λ place. page ≡ main_page place.page)
+
+abbrev pub IsBarred : Space → Option Place → PageFault → Type 0
+IsBarred s start fault.MainFault = ⊤
+IsBarred s start fault.TempFault = ⊤
+IsBarred s start fault.MainFull = ⊤
+IsBarred s start fault.TempFull = ⊤
+IsBarred s start (fault.Damaged page check) = WalkBars s start page check
 
 -- A call that takes no page and finds no file full.
 pub record TakesNone (a b : Space) : Type 0 where

@@ -2,7 +2,7 @@
 
 use crate::stamping::Stamps;
 use crate::{insertion, kill, reading, walk};
-use hg_base::{Check, PageFault, Pages, Place, Stamp, Table};
+use hg_base::{PageFault, Pages, Place, Stamp, Table};
 use hg_value::Row;
 
 /// What is done with a table: `hg_base`'s [`Table`] says where its pages stand. Each call pins no page
@@ -140,8 +140,7 @@ pub trait TableCalls {
         ensures fault { IfErr result (LookFault IsWalkCheck (S.state space.old)
             (S.state space.new)) }
         ensures page { IfErr result NamesMain }
-        ensures level { IfErr result (IsBarred Check.Level (S.state space.old)) }
-        ensures row { IfErr result (IsBarred Check.RowBytes (S.state space.old)) };
+        ensures level { IfErr result (IsBarred (S.state space.old) at) };
 
     /// The stamps of the version at a place, seen or not. Its row is put into `out`.
     fn version<S: Pages>(

@@ -1,5 +1,5 @@
 //! The way along a table's versions.
-ghost use Rattle.std.specs.Prelude.{◌≡◌, ℕ, ◌+◌, ◌<◌, ◌≤◌, true, List, length, Some, None, IsOk, IfOk, IfErr, OnOk};
+ghost use Rattle.std.specs.Prelude.{◌≡◌, ℕ, ◌+◌, ◌<◌, ◌≤◌, true, false, List, length, Some, None, IsOk, IfOk, IfErr, OnOk};
 ghost use Rattle.hg_base.specs.Space.{NoPins, key_in, IsFree};
 ghost use Rattle.hg_base.specs.Causes.{HasCause};
 ghost use Rattle.hg_base.specs.Steadiness.{IsPlain};
@@ -64,8 +64,9 @@ fn look<S: Pages>(
     ensures cause { HasCause (S.state space.old) (S.state space.new) result }
     ensures fault { IfErr result (LookFault IsWalkCheck (S.state space.old) (S.state space.new)) }
     ensures page { IfErr result (NamesPage no) }
-    ensures level { IfErr result (IsBarred Check.Level (S.state space.old)) }
-    ensures row { IfErr result (IsBarred Check.RowBytes (S.state space.old)) }
+    ensures level { entering ≡ true → IfErr result (IsBarred (S.state space.old) None) }
+    ensures row { entering ≡ false → (slot : ℕ)
+        → IfErr result (IsBarred (S.state space.old) (Some (record { page = no; slot = slot }))) }
 {
     let check = if entering {
         Check::Level
@@ -98,8 +99,7 @@ fn first_along<S: Pages>(space: &mut S, start: Option<u32>) -> Result<Option<Pla
     ensures cause { HasCause (S.state space.old) (S.state space.new) result }
     ensures fault { IfErr result (LookFault IsWalkCheck (S.state space.old) (S.state space.new)) }
     ensures page { IfErr result NamesMain }
-    ensures level { IfErr result (IsBarred Check.Level (S.state space.old)) }
-    ensures row { IfErr result (IsBarred Check.RowBytes (S.state space.old)) }
+    ensures level { IfErr result (IsBarred (S.state space.old) None) }
 {
     let mut next = start;
     for _turn in 0..space.taken(File::Main) {
@@ -134,8 +134,7 @@ pub fn after<S: Pages>(
     ensures cause { HasCause (S.state space.old) (S.state space.new) result }
     ensures fault { IfErr result (LookFault IsWalkCheck (S.state space.old) (S.state space.new)) }
     ensures page { IfErr result NamesMain }
-    ensures level { IfErr result (IsBarred Check.Level (S.state space.old)) }
-    ensures row { IfErr result (IsBarred Check.RowBytes (S.state space.old)) }
+    ensures level { IfErr result (IsBarred (S.state space.old) at) }
 {
     match at {
         None => first_along(space, table.first),
