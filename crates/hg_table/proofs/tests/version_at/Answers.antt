@@ -1,4 +1,4 @@
-use Rattle.hg_table.proofs.Standing.{on_ok_any, stands_looked}
+use Rattle.hg_table.proofs.Standing.{stands_looked}
 use Rattle.hg_table.proofs.tests.version_at.Goals as goal
 
 pub returns-clause-there : goal.returns-clause-there
