@@ -10,12 +10,12 @@ use Rattle.hg_base.specs.declared.File.TheVariants.{Main}
 use Rattle.hg_base.specs.declared.Place.{Place}
 use Rattle.hg_base.specs.declared.Table.{Table}
 use Rattle.hg_slot.specs.Slotted.{record_at}
-use Rattle.hg_table.specs.Chains.{IsLine, IsPath, has_page}
+use Rattle.hg_table.specs.Chains.{IsLine, IsChain, IsPath, has_page}
 use Rattle.hg_table.specs.Versions.{Placed, HoldsVersions, IsTable, in_pages, most_slots}
 use Rattle.hg_table.specs.Places.{behind, pages_behind, comes_behind, first_place}
-use Rattle.hg_table.specs.Calls.{HasStart}
+use Rattle.hg_table.specs.Calls.{HasStart, StandsOn}
 use Rattle.hg_table.specs.Steps.{Looks, HoldsLine, IsSound, IsFirstFull}
-use Rattle.hg_table.specs.Listing.{has_cases, pages_after, slots_after, slots_after-is, slots_after-none, behind_all}
+use Rattle.hg_table.specs.Listing.{has_own, has_cases, pages_after, slots_after, slots_after-is, slots_after-none, behind_all}
 use Rattle.hg_table.specs.TableLaws.{IsSameLink, line_stays, line-plain, all_map, distinct-apart, holds_stay, one_chain}
 use Rattle.hg_table.proofs.Seeing.{slot_small}
 use Rattle.hg_table.proofs.Places.{all_has, line-free}
@@ -82,6 +82,20 @@ rest_line a b t columns pages versions x next k table on e =
       holds = holds_stay a b columns table.held (pages_behind pages x) (looks_all a b (a.next (key_in Main x)) (pages_behind pages x) k l)
           (behind_all (λ y. HoldsVersions a columns y (table.held y)) pages x table.holds);
     }
+
+-- the pages behind one of a table's, whatever they hold
+pub line_rest : (a b : Space) (t : Table) (pages : List ℕ) (x : ℕ) (next : Option ℕ) → Looks a b → IsChain a t pages → has_page pages x ≡ true
+    → next ≡ b.next (key_in Main x) → IsLine b next (pages_behind pages x)
+line_rest a b t pages x next k chain on e =
+    let plain : IsPlain a (key_in Main x) = all_has (λ y. IsPlain a (key_in Main y)) pages x (line-plain a t.first pages chain.line) on in
+    let same : a.next (key_in Main x) ≡ next = sym (e ∙ (looks_page a b x k plain).next) in
+    subst (λ o. IsLine b o (pages_behind pages x)) same
+    (line_now a b (a.next (key_in Main x)) (pages_behind pages x) k (line_behind a t.first pages x on chain.line))
+
+-- what is on a page behind one is on one of all
+pub stands_behind : (pages : List ℕ) (x : ℕ) (o : Option Place) → StandsOn (pages_behind pages x) o → StandsOn pages o
+stands_behind pages x None h = tt
+stands_behind pages x (Some p) h = all_has (λ y. has_page pages y ≡ true) (pages_behind pages x) p.page (behind_all (λ y. has_page pages y ≡ true) pages x (has_own pages)) h
 
 -- the page of the place may be looked at
 pub place_sound : (a : Space) (t : Table) (p : Place) → NoPins a → HasStart a t (Some p) → IsSound a p.page

@@ -13,8 +13,8 @@ use Rattle.hg_slot.specs.Slotted.{record_at}
 use Rattle.hg_table.specs.Chains.{IsLine, has_page}
 use Rattle.hg_table.specs.Versions.{Placed, RowVersion, HoldsVersions, IsTable, Shows, in_slots, in_pages, most_slots}
 use Rattle.hg_table.specs.Places.{version_at}
-use Rattle.hg_table.specs.Calls.{HasPage, HasVersion}
-use Rattle.hg_table.specs.Steps.{IsSoundAt, main_page}
+use Rattle.hg_table.specs.Calls.{HasPage, HasVersion, main_page}
+use Rattle.hg_table.specs.Steps.{IsSoundAt}
 use Rattle.hg_table.specs.Listing.{or_else, version_at-append, slots_below, pages_here, pages_other, has_cases}
 use Rattle.hg_table.specs.TableLaws.{line-plain, distinct-apart, one_chain}
 use Rattle.hg_table.proofs.Seeing.{none_past, most_slots-is}

@@ -1,5 +1,6 @@
 -- The way along a line of pages.
 use Rattle.std.specs.Prelude.{◌≡◌, ℕ, ◌+◌, ◌<◌, ◌≤◌, ◌==◌, ◌||◌, Bool, true, false, List, [], ◌∷◌, ◌++◌, length, Option, Some, None}
+use Rattle.std.specs.List.{AllByRecursion}
 use Rattle.std.proofs.Common.{sym, ◌∙◌, ap, subst, refl, arith, append_assoc, append-nil, length-append}
 use Rattle.std.proofs.lemmas.Bool.{eq-eqb}
 use Rattle.hg_base.specs.Space.{Space, NoPins, IsFree, key_in, taken_in}
@@ -8,12 +9,13 @@ use Rattle.hg_base.specs.Steadiness.{IsPlain, IsSamePage}
 use Rattle.hg_base.specs.SteadyLaws.{Steady_then, Steady_same}
 use Rattle.hg_base.specs.declared.File.TheVariants.{Main}
 use Rattle.hg_slot.specs.Slotted.{record_at}
-use Rattle.hg_table.specs.Chains.{IsPath, has_page}
+use Rattle.hg_table.specs.Chains.{IsLine, IsPath, has_page}
 use Rattle.hg_table.specs.Versions.{Placed, RowVersion, HoldsVersions, Shows, in_slots, in_pages, most_slots}
 use Rattle.hg_table.specs.Places.{first_place}
-use Rattle.hg_table.specs.Calls.{none_mine}
-use Rattle.hg_table.specs.Steps.{Looks, HoldsLine, IsSound, IsFirstFull, main_page}
-use Rattle.hg_table.specs.Listing.{first_slot, slots_none}
+use Rattle.hg_table.specs.Calls.{none_mine, main_page}
+use Rattle.hg_table.specs.Steps.{Looks, HoldsLine, IsSound, IsFirstFull}
+use Rattle.hg_table.specs.Listing.{first_slot, slots_none, has_own}
+use Rattle.hg_table.specs.TableLaws.{line-plain}
 use Rattle.hg_table.proofs.Seeing.{slot_small}
 use Rattle.hg_table.proofs.Places.{all_has, line-free}
 
@@ -28,6 +30,16 @@ pub record Passed (a : Space) (start : Option ℕ) (h : HoldsLine a start) (next
 
 pub passed_none : (a : Space) (start : Option ℕ) (h : HoldsLine a start) → Passed a start h start 0
 passed_none a start h = record { done = []; rest = h.pages; is = refl; count = refl; path = h.line.path; none = refl }
+
+-- From here on the way goes along some of these pages, whatever they hold.
+pub record IsOnWay (a : Space) (pages : List ℕ) (next : Option ℕ) : Type 0 where
+  pub rest : List ℕ
+  pub path : IsPath a.next next rest
+  pub plain : AllByRecursion (λ x. IsPlain a (key_in Main x)) rest
+  pub among : AllByRecursion (λ x. has_page pages x ≡ true) rest
+
+pub way_starts : (a : Space) (start : Option ℕ) (pages : List ℕ) → IsLine a start pages → IsOnWay a pages start
+way_starts a start pages l = record { rest = pages; path = l.path; plain = line-plain a start pages l; among = has_own pages }
 
 -- looking twice
 pub looks_then : (a b c : Space) → Looks a b → Looks b c → Looks a c
@@ -66,6 +78,27 @@ sound_now a b x l h = record {
   told = (looks_page a b x l (record { taken = h.free.taken; no_heap = h.free.no_heap })).bytes ∙ h.told;
   slotted = h.slotted;
 }
+
+-- the page that the way is at
+pub record IsOnPage (a : Space) (pages : List ℕ) (x : ℕ) : Type 0 where
+  pub among : has_page pages x ≡ true
+  pub plain : IsPlain a (key_in Main x)
+  pub behind : IsOnWay a pages (a.next (key_in Main x))
+
+pub way_page : (a : Space) (pages : List ℕ) (x : ℕ) → IsOnWay a pages (Some x) → IsOnPage a pages x
+way_page a pages x w = go w.rest w.path w.plain w.among
+  where
+    go : (rest : List ℕ) → IsPath a.next (Some x) rest → AllByRecursion (λ y. IsPlain a (key_in Main y)) rest → AllByRecursion (λ y. has_page pages y ≡ true) rest → IsOnPage a pages x
+    go [] p k m = absurd (let z : ◌≡◌ {A = Option ℕ} (Some x) None = p in cc)
+    go (y ∷ rest) p k m =
+        let i : y ≡ x = (let z : ◌≡◌ {A = Option ℕ} (Some x) (Some y) = p.0 in cc) in
+        subst (IsOnPage a pages) i (record { among = m.0; plain = k.0; behind = record { rest = rest; path = p.1; plain = k.1; among = m.1 } })
+
+-- and the way behind it
+pub way_passed : (a b : Space) (pages : List ℕ) (x : ℕ) → Looks a b → IsOnWay a pages (Some x) → IsOnWay a pages (b.next (key_in Main x))
+way_passed a b pages x l w =
+    let h : IsOnPage a pages x = way_page a pages x w in
+    subst (IsOnWay a pages) (sym (looks_page a b x l h.plain).next) h.behind
 
 -- the next page of a line
 has_next : (done : List ℕ) (x : ℕ) (rest : List ℕ) → has_page (done ++ x ∷ rest) x ≡ true

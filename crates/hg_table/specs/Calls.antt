@@ -1,9 +1,10 @@
 -- What the calls on a table ask, what they do, and why they fail. Our own rule.
 use Rattle.std.specs.Prelude.{◌≡◌, ℕ, true, false, List, [], ◌∷◌, ◌++◌, length, Option, Some, None, IsSome, IsTrue, MatchOption, ⊤, ◌⊎◌}
-use Rattle.hg_base.specs.Space.{Space, key_in, at, IsFull}
+use Rattle.hg_base.specs.Space.{Space, key_in, at, IsFull, IsFree}
 use Rattle.hg_base.specs.Causes.{MainFailed, TempFailed, NoneFull, Rose}
 use Rattle.hg_base.specs.Steadiness.{Mine, these_pages}
 use Rattle.hg_base.specs.declared.File.TheVariants as file
+use Rattle.hg_base.specs.declared.PageId.{PageId}
 use Rattle.hg_base.specs.declared.Place.{Place}
 use Rattle.hg_base.specs.declared.Table.{Table}
 use Rattle.hg_base.specs.declared.Check.{Check}
@@ -15,6 +16,10 @@ use Rattle.hg_slot.specs.Slotted.{Fits}
 use Rattle.hg_table.specs.Chains.{IsChain, has_page}
 use Rattle.hg_table.specs.Versions.{Placed, IsTable}
 use Rattle.hg_table.specs.Places.{version_at}
+
+-- the page of the main file with this number
+abbrev pub main_page : ℕ → PageId
+main_page x = record { file = file.Main; no = x }
 
 -- a call that owns no page
 abbrev pub none_mine : Mine
@@ -61,6 +66,11 @@ pub record HasStart (s : Space) (t : Table) (start : Option Place) : Type 0 wher
   pub versions : List Placed
   pub table : IsTable s t columns pages versions
   pub page : MatchOption start ⊤ (λ place. IsTrue (has_page pages place.page))
+
+-- the place, if there is one, is on one of these pages
+abbrev pub StandsOn : List ℕ → Option Place → Type 0
+StandsOn pages None = ⊤
+StandsOn pages (Some place) = IsTrue (has_page pages place.page)
 
 -- One version more was put among the others.
 pub record PutsIn (old new : List Placed) (v : Placed) : Type 0 where
@@ -124,13 +134,14 @@ InsertFault a b fault.MainFull =
 InsertFault a b fault.TempFull = ⊥
 InsertFault a b (fault.Damaged page check) = (a.told ≡ false) × IsPageCheck check × NoneFull a.counts b.counts
 
--- What may be wrong with a version that is read or killed, and with a table that is walked.
+-- What may be wrong with a version that is read or killed, and with a table that is walked. A place
+-- whose page cannot be pinned is wrong by RowBytes, a page of a chain that cannot be by Level.
 abbrev pub IsVersionCheck : Check → Type 0
 IsVersionCheck Kind = ⊤
 IsVersionCheck Size = ⊤
 IsVersionCheck Frame = ⊥
 IsVersionCheck Link = ⊥
-IsVersionCheck Level = ⊤
+IsVersionCheck Level = ⊥
 IsVersionCheck Order = ⊥
 IsVersionCheck RowBytes = ⊤
 
@@ -141,7 +152,7 @@ IsWalkCheck Frame = ⊥
 IsWalkCheck Link = ⊥
 IsWalkCheck Level = ⊤
 IsWalkCheck Order = ⊤
-IsWalkCheck RowBytes = ⊥
+IsWalkCheck RowBytes = ⊤
 
 -- Why a call fails that takes no page: a device failed, or, where the space does not tell, one of
 -- these checks did.
@@ -151,6 +162,48 @@ LookFault checks a b fault.TempFault = TempFailed a.counts b.counts
 LookFault checks a b fault.MainFull = ⊥
 LookFault checks a b fault.TempFull = ⊥
 LookFault checks a b (fault.Damaged page check) = (a.told ≡ false) × checks check
+
+-- which page is named where one is damaged: the one with this number
+abbrev pub NamesPage : ℕ → PageFault → Type 0
+NamesPage x fault.MainFault = ⊤
+NamesPage x fault.TempFault = ⊤
+NamesPage x fault.MainFull = ⊤
+NamesPage x fault.TempFull = ⊤
+NamesPage x (fault.Damaged page check) = page ≡ main_page x
+
+-- the one with the number that is given; where none is given, no page is damaged
+abbrev pub NamesGiven : Option ℕ → PageFault → Type 0
+NamesGiven x fault.MainFault = ⊤
+NamesGiven x fault.TempFault = ⊤
+NamesGiven x fault.MainFull = ⊤
+NamesGiven x fault.TempFull = ⊤
+NamesGiven x (fault.Damaged page check) = MatchOption x ⊥ (λ no. page ≡ main_page no)
+
+-- a page of the main file
+abbrev pub NamesMain : PageFault → Type 0
+NamesMain fault.MainFault = ⊤
+NamesMain fault.TempFault = ⊤
+NamesMain fault.MainFull = ⊤
+NamesMain fault.TempFull = ⊤
+NamesMain (fault.Damaged page check) = page.file ≡ file.Main
+
+-- Which page of a walk cannot be pinned: by RowBytes that of the place where it starts, and by Level
+-- one of the chain, where that of the place can be.
+abbrev pub WalkBars : Space → Option Place → PageId → Check → Type 0
+WalkBars s start page Kind = ⊤
+WalkBars s start page Size = ⊤
+WalkBars s start page Frame = ⊤
+WalkBars s start page Link = ⊤
+WalkBars s start page Level = (IsFree s page → ⊥) × MatchOption start ⊤ (λ place. IsFree s (main_page place.page))
+WalkBars s start page Order = ⊤
+WalkBars s start page RowBytes = (IsFree s page → ⊥) × MatchOption start ⊥ (λ place. page ≡ main_page place.page)
+
+abbrev pub IsBarred : Space → Option Place → PageFault → Type 0
+IsBarred s start fault.MainFault = ⊤
+IsBarred s start fault.TempFault = ⊤
+IsBarred s start fault.MainFull = ⊤
+IsBarred s start fault.TempFull = ⊤
+IsBarred s start (fault.Damaged page check) = WalkBars s start page check
 
 -- A call that takes no page and finds no file full.
 pub record TakesNone (a b : Space) : Type 0 where

@@ -4,25 +4,39 @@ use Rattle.hg_base.specs.Space.{Space, key_in, at, IsFree}
 use Rattle.hg_base.specs.Causes.{NoneFull}
 use Rattle.hg_base.specs.Steadiness.{Steady}
 use Rattle.hg_base.specs.declared.File.TheVariants.{Main}
-use Rattle.hg_base.specs.declared.PageId.{PageId}
 use Rattle.hg_base.specs.declared.Place.{Place}
 use Rattle.hg_base.specs.declared.Table.{Table}
 use Rattle.hg_base.specs.declared.Check.{Check}
 use Rattle.hg_base.specs.declared.Check.TheVariants as check
+use Rattle.hg_base.specs.declared.pages.PageFault.{PageFault}
+use Rattle.hg_base.specs.declared.pages.PageFault.TheVariants as fault
 use Rattle.hg_slot.specs.Slotted.{record_at, IsSlotted, IsClean, Fits}
 use Rattle.hg_slot.specs.Changing.{IsInserted, Overwrites}
 use Rattle.std.specs.Int.{w32, to_le_bytes}
 use Rattle.std.specs.List.{AllByRecursion}
 use Rattle.hg_table.specs.Chains.{IsLine}
 use Rattle.hg_table.specs.Versions.{RowVersion, HoldsVersions, Shows}
-use Rattle.hg_table.specs.Calls.{none_mine, page_mine, insert_mine, TakesNone, HasNoRoom}
+use Rattle.hg_table.specs.Calls.{main_page, none_mine, page_mine, insert_mine, TakesNone, HasNoRoom}
 
--- the page of the main file with this number
-abbrev pub main_page : ℕ → PageId
-main_page x = record { file = Main; no = x }
+-- the check is this one
+abbrev pub IsThis : Check → Check → Type 0
+IsThis c d = d ≡ c
 
-abbrev pub IsLevel : Check → Type 0
-IsLevel c = c ≡ check.Level
+-- a page is damaged and cannot be pinned, or another fault
+abbrev pub IsNotFree : Space → PageFault → Type 0
+IsNotFree s fault.MainFault = ⊤
+IsNotFree s fault.TempFault = ⊤
+IsNotFree s fault.MainFull = ⊤
+IsNotFree s fault.TempFull = ⊤
+IsNotFree s (fault.Damaged page check) = IsFree s page → ⊥
+
+-- any fault but damage, and any but a full main file
+abbrev pub IsNoDamage : PageFault → Type 0
+IsNoDamage fault.MainFault = ⊤
+IsNoDamage fault.TempFault = ⊤
+IsNoDamage fault.MainFull = ⊤
+IsNoDamage fault.TempFull = ⊤
+IsNoDamage (fault.Damaged page check) = ⊥
 
 -- pages were looked at: nothing changed but counts
 pub record Looks (a b : Space) : Type 0 where

@@ -10,11 +10,11 @@ use hg_value::Row;
 ///
 /// Over a space that does not tell its bytes each call is safe and ends. What it finds damaged then
 /// it answers as [`PageFault::Damaged`], with the page and what was wrong: `Kind` and `Size` of a
-/// page that is no slotted page, `RowBytes` of a record that is no version, `Level` of a page that is
-/// named by a successor or by the place asked for and cannot be pinned, `Order` of a walk that passes
-/// more pages than are taken.
+/// page that is no slotted page, `RowBytes` of a place whose page cannot be pinned or that holds no
+/// version, `Level` of a page of the chain, the first or a successor, that cannot be pinned, `Order`
+/// of a walk that passes more pages than are taken.
 pub trait TableCalls {
-    ghost use Rattle.std.specs.Prelude.{◌≡◌, ◌≢◌, ℕ, ◌+◌, ◌≤◌, ◌⊎◌, true, false, List, length, Some, None, Ok, IfOk, IfErr, OnOk, OnErr, IfSome, option_map};
+    ghost use Rattle.std.specs.Prelude.{◌≡◌, ◌≢◌, ℕ, ◌+◌, ◌≤◌, ◌⊎◌, true, false, List, length, Some, None, Ok, Err, IfOk, IfErr, OnOk, OnErr, IfSome, option_map};
     ghost use Rattle.hg_base.specs.Space.{NoPins};
     ghost use Rattle.hg_base.specs.Causes.{HasCause, NoneFull};
     ghost use Rattle.hg_base.specs.Steadiness.{Steady};
@@ -25,7 +25,7 @@ pub trait TableCalls {
     ghost use Rattle.hg_table.specs.Chains.{IsChain};
     ghost use Rattle.hg_table.specs.Versions.{Placed, IsTable};
     ghost use Rattle.hg_table.specs.Places.{version_at, behind, first_place, sees, killed};
-    ghost use Rattle.hg_table.specs.Calls.{none_mine, page_mine, insert_mine, HasTable, HasPage, HasVersion, HasStart, Inserts, KeepsPages, AddsPage, InsertFault, LookFault, IsVersionCheck, IsWalkCheck, TakesNone, newborn};
+    ghost use Rattle.hg_table.specs.Calls.{none_mine, page_mine, insert_mine, HasTable, HasPage, HasVersion, HasStart, Inserts, KeepsPages, AddsPage, InsertFault, LookFault, IsVersionCheck, IsWalkCheck, NamesPage, NamesGiven, NamesMain, IsBarred, HasNoRoom, StandsOn, TakesNone, newborn};
 
     // where the table's pages stand
     ghost ends: { Self → TableOf };
@@ -62,7 +62,10 @@ pub trait TableCalls {
             (S.state space.new)) }
         ensures err_taken { OnErr result ((S.state space.new).taken ≡ (S.state space.old).taken) }
         ensures cause { HasCause (S.state space.old) (S.state space.new) result }
-        ensures fault { IfErr result (InsertFault (S.state space.old) (S.state space.new)) };
+        ensures fault { IfErr result (InsertFault (S.state space.old) (S.state space.new)) }
+        ensures page { IfErr result (NamesGiven (ends self.old).last) }
+        ensures full { result ≡ Err PageFault.MainFull → HasNoRoom (S.state space.old)
+            (ends self.old).last (8 + length (coded row.now)) };
 
     /// Sets the stamp under which a version died, also over an earlier one.
     fn kill<S: Pages>(&mut self, space: &mut S, at: Place, died: Stamp) -> Result<(), PageFault>
@@ -77,6 +80,8 @@ pub trait TableCalls {
         ensures same { ends self.new ≡ ends self.old }
         ensures chain { (pages : List ℕ) → IsChain (S.state space.old) (ends self.old) pages
             → IsChain (S.state space.new) (ends self.old) pages }
+        ensures links { (S.state space.new).next ≡ (S.state space.old).next }
+        ensures heaps { (S.state space.new).of_heap ≡ (S.state space.old).of_heap }
         ensures steady { OnOk result (Steady (page_mine at.page) (S.state space.old)
             (S.state space.new)) }
         ensures err_steady { OnErr result (Steady none_mine (S.state space.old)
@@ -84,7 +89,8 @@ pub trait TableCalls {
         ensures takes_none { TakesNone (S.state space.old) (S.state space.new) }
         ensures cause { HasCause (S.state space.old) (S.state space.new) result }
         ensures fault { IfErr result (LookFault IsVersionCheck (S.state space.old)
-            (S.state space.new)) };
+            (S.state space.new)) }
+        ensures page { IfErr result (NamesPage at.page) };
 
     /// Whether a version stands at a place and the snapshot sees it. Its row is put into `out` then;
     /// where it is not seen, `out` stays as it was.
@@ -106,12 +112,14 @@ pub trait TableCalls {
         ensures row { result ≡ Ok true → (pages : List ℕ) (versions : List Placed)
             → IsTable (S.state space.old) (ends self.now) columns pages versions
             → IfSome (version_at versions at) (λ v. out.new ≡ v.row) }
+        ensures width { result ≡ Ok true → length out.new ≡ columns }
         ensures unseen { result ≡ Ok false → out.new ≡ out.old }
         ensures steady { Steady none_mine (S.state space.old) (S.state space.new) }
         ensures takes_none { TakesNone (S.state space.old) (S.state space.new) }
         ensures cause { HasCause (S.state space.old) (S.state space.new) result }
         ensures fault { IfErr result (LookFault IsVersionCheck (S.state space.old)
-            (S.state space.new)) };
+            (S.state space.new)) }
+        ensures page { IfErr result (NamesPage at.page) };
 
     /// The place of the next version behind `at`, in order of pages and slots; of the first where `at`
     /// is None. None where no version is left. A version need not stand at `at` any more.
@@ -123,11 +131,16 @@ pub trait TableCalls {
             (versions : List Placed)
             → IsTable (S.state space.old) (ends self.now) columns pages versions
             → next ≡ first_place (behind pages at versions)) }
+        ensures on_pages { IfOk result (λ next. (pages : List ℕ)
+            → IsChain (S.state space.old) (ends self.now) pages → StandsOn pages at
+            → StandsOn pages next) }
         ensures steady { Steady none_mine (S.state space.old) (S.state space.new) }
         ensures takes_none { TakesNone (S.state space.old) (S.state space.new) }
         ensures cause { HasCause (S.state space.old) (S.state space.new) result }
         ensures fault { IfErr result (LookFault IsWalkCheck (S.state space.old)
-            (S.state space.new)) };
+            (S.state space.new)) }
+        ensures page { IfErr result NamesMain }
+        ensures level { IfErr result (IsBarred (S.state space.old) at) };
 
     /// The stamps of the version at a place, seen or not. Its row is put into `out`.
     fn version<S: Pages>(
@@ -148,11 +161,13 @@ pub trait TableCalls {
                   (s : StampOf). s.0) stamps.1;
               row = out.new;
             })) }
+        ensures width { OnOk result (length out.new ≡ columns) }
         ensures steady { Steady none_mine (S.state space.old) (S.state space.new) }
         ensures takes_none { TakesNone (S.state space.old) (S.state space.new) }
         ensures cause { HasCause (S.state space.old) (S.state space.new) result }
         ensures fault { IfErr result (LookFault IsVersionCheck (S.state space.old)
-            (S.state space.new)) };
+            (S.state space.new)) }
+        ensures page { IfErr result (NamesPage at.page) };
 }
 
 impl TableCalls for Table {

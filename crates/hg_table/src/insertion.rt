@@ -1,5 +1,5 @@
 //! Putting versions into a table.
-ghost use Rattle.std.specs.Prelude.{◌≡◌, ℕ, ◌+◌, ◌≤◌, ◌⊎◌, true, false, List, length, Some, None, IfOk, IfErr, IfSome, OnOk, OnErr, MatchOption};
+ghost use Rattle.std.specs.Prelude.{◌≡◌, ℕ, ◌+◌, ◌≤◌, ◌⊎◌, true, false, List, length, Some, None, Err, IfOk, IfErr, IfSome, OnOk, OnErr, MatchOption};
 ghost use Rattle.hg_base.specs.Space.{NoPins, key_in, at, IsFree, with_bytes};
 ghost use Rattle.hg_base.specs.Causes.{HasCause, NoneFull};
 ghost use Rattle.hg_base.specs.Steadiness.{Steady, IsPlain};
@@ -7,8 +7,8 @@ ghost use Rattle.hg_slot.specs.Slotted.{Fits, IsSlotted};
 ghost use Rattle.hg_slot.specs.Changing.{IsInserted, IsWrong};
 ghost use Rattle.hg_value.specs.Coding.{coded};
 ghost use Rattle.hg_table.specs.Chains.{IsChain};
-ghost use Rattle.hg_table.specs.Calls.{none_mine, insert_mine, HasTable, Inserts, KeepsPages, AddsPage, InsertFault, newborn};
-ghost use Rattle.hg_table.specs.Steps.{Looks, Refused, Tries, HoldsRecord, PutsRecord, MakesPage, AddsRecord};
+ghost use Rattle.hg_table.specs.Calls.{none_mine, insert_mine, HasTable, Inserts, KeepsPages, AddsPage, InsertFault, NamesPage, NamesGiven, HasNoRoom, newborn};
+ghost use Rattle.hg_table.specs.Steps.{Looks, Refused, Tries, HoldsRecord, PutsRecord, MakesPage, AddsRecord, IsNoDamage};
 
 use crate::open::{damaged, main_page};
 use crate::stored::record_of;
@@ -54,6 +54,8 @@ fn put_on<S: Pages>(space: &mut S, no: u32, bytes: &[u8]) -> Result<Option<u16>,
     ensures err { OnErr result (Looks (S.state space.old) (S.state space.new)) }
     ensures cause { HasCause (S.state space.old) (S.state space.new) result }
     ensures fault { IfErr result (InsertFault (S.state space.old) (S.state space.new)) }
+    ensures page { IfErr result (NamesPage no) }
+    ensures not_full { result ≡ Err PageFault.MainFull → ⊥ }
 {
     let pin = space.pin(main_page(no))?;
     let answer = put_in(space.bytes_mut(&pin), bytes);
@@ -73,6 +75,7 @@ fn new_page<S: Pages>(space: &mut S, bytes: &[u8]) -> Result<Place, PageFault>
     ensures err { OnErr result (Refused (S.state space.old) (S.state space.new)) }
     ensures cause { HasCause (S.state space.old) (S.state space.new) result }
     ensures fault { IfErr result (InsertFault (S.state space.old) (S.state space.new)) }
+    ensures whole { IfErr result IsNoDamage }
 {
     let pin = space.fresh(File::Main)?;
     let page = space.page_of(&pin);
@@ -95,6 +98,7 @@ fn add_page<S: Pages>(table: &mut Table, space: &mut S, bytes: &[u8]) -> Result<
     ensures err { OnErr result (Refused (S.state space.old) (S.state space.new)) }
     ensures cause { HasCause (S.state space.old) (S.state space.new) result }
     ensures fault { IfErr result (InsertFault (S.state space.old) (S.state space.new)) }
+    ensures whole { IfErr result IsNoDamage }
 {
     let place = new_page(space, bytes)?;
     match table.last {
@@ -132,6 +136,9 @@ pub fn insert<S: Pages>(
     ensures err { OnErr result (Refused (S.state space.old) (S.state space.new)) }
     ensures cause { HasCause (S.state space.old) (S.state space.new) result }
     ensures fault { IfErr result (InsertFault (S.state space.old) (S.state space.new)) }
+    ensures page { IfErr result (NamesGiven table.old.last) }
+    ensures full { result ≡ Err PageFault.MainFull → HasNoRoom (S.state space.old)
+        table.old.last (8 + length (coded row.now)) }
 {
     let record = record_of(row, born);
     if let Some(last) = table.last {

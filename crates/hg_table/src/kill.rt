@@ -5,7 +5,7 @@ ghost use Rattle.hg_base.specs.Space.{NoPins, key_in};
 ghost use Rattle.hg_base.specs.Causes.{HasCause};
 ghost use Rattle.hg_slot.specs.Slotted.{IsSlotted, record_at};
 ghost use Rattle.hg_slot.specs.Changing.{Overwrites};
-ghost use Rattle.hg_table.specs.Calls.{LookFault, IsVersionCheck, TakesNone};
+ghost use Rattle.hg_table.specs.Calls.{LookFault, IsVersionCheck, TakesNone, NamesPage};
 ghost use Rattle.hg_table.specs.Versions.{RowVersion};
 ghost use Rattle.hg_table.specs.Steps.{Looks, IsSoundAt, IsWrongRecord, ChangesPage, Kills, HoldsStamps};
 
@@ -48,11 +48,14 @@ pub fn kill<S: Pages>(space: &mut S, place: Place, died: Stamp) -> Result<(), Pa
     ensures ok { OnOk result (ChangesPage (S.state space.old) (S.state space.new) place.page
         (λ old new. Kills old new place.slot died.0)) }
     ensures err { OnErr result (Looks (S.state space.old) (S.state space.new)) }
+    ensures links { (S.state space.new).next ≡ (S.state space.old).next }
+    ensures heaps { (S.state space.new).of_heap ≡ (S.state space.old).of_heap }
     ensures cause { HasCause (S.state space.old) (S.state space.new) result }
     ensures fault { IfErr result (LookFault IsVersionCheck (S.state space.old)
         (S.state space.new)) }
+    ensures page { IfErr result (NamesPage place.page) }
 {
-    let pin = open(space, place.page)?;
+    let pin = open(space, place.page, Check::RowBytes)?;
     let answer = kill_in(space.bytes_mut(&pin), place.slot, died);
     space.unpin(pin);
     match answer {

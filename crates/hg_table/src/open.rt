@@ -2,8 +2,8 @@
 ghost use Rattle.std.specs.Prelude.{◌≡◌, true, IfOk, IfErr, OnOk, OnErr};
 ghost use Rattle.hg_base.specs.Space.{NoPins, IsFree, IsPinned, IsSame, key_in};
 ghost use Rattle.hg_base.specs.Causes.{HasCause, NoneFull};
-ghost use Rattle.hg_table.specs.Calls.{LookFault};
-ghost use Rattle.hg_table.specs.Steps.{main_page, IsLevel};
+ghost use Rattle.hg_table.specs.Calls.{LookFault, NamesPage, main_page};
+ghost use Rattle.hg_table.specs.Steps.{IsThis, IsNotFree};
 
 use hg_base::{Check, File, PageFault, PageId, Pages};
 
@@ -27,8 +27,8 @@ pub fn damaged(no: u32, check: Check) -> PageFault
     }
 }
 
-/// Pins a page of the main file. A page that cannot be pinned is damage of the check `Level`.
-pub fn open<S: Pages>(space: &mut S, no: u32) -> Result<S::Pin, PageFault>
+/// Pins a page of the main file. A page that cannot be pinned is damage of the check given.
+pub fn open<S: Pages>(space: &mut S, no: u32, check: Check) -> Result<S::Pin, PageFault>
     requires out { NoPins (S.state space.old) }
     requires free { (S.state space.old).told ≡ true → IsFree (S.state space.old) (main_page no) }
     ensures names { IfOk result (λ pin. S.pin_page pin ≡ main_page no) }
@@ -37,12 +37,15 @@ pub fn open<S: Pages>(space: &mut S, no: u32) -> Result<S::Pin, PageFault>
         (key_in File.Main no)) }
     ensures err { OnErr result (IsSame (S.state space.old) (S.state space.new)) }
     ensures cause { HasCause (S.state space.old) (S.state space.new) result }
-    ensures fault { IfErr result (LookFault IsLevel (S.state space.old) (S.state space.new)) }
+    ensures fault { IfErr result (LookFault (IsThis check) (S.state space.old)
+        (S.state space.new)) }
+    ensures page { IfErr result (NamesPage no) }
+    ensures barred { IfErr result (IsNotFree (S.state space.old)) }
     ensures none_full { NoneFull (S.state space.old).counts (S.state space.new).counts }
 {
     let page = main_page(no);
     if !space.can_pin(page) {
-        return Err(damaged(no, Check::Level));
+        return Err(damaged(no, check));
     }
     space.pin(page)
 }

@@ -1,5 +1,5 @@
 //! Reading one version.
-ghost use Rattle.std.specs.Prelude.{◌≡◌, true, false, Option, length, IfOk, IfErr, IfSome, option_map};
+ghost use Rattle.std.specs.Prelude.{◌≡◌, true, false, Option, length, IfOk, IfErr, IfSome, OnOk, option_map};
 ghost use Rattle.hg_base.specs.Space.{NoPins, key_in};
 ghost use Rattle.hg_base.specs.Causes.{HasCause};
 ghost use Rattle.hg_base.specs.declared.Stamp.{Stamp as StampOf};
@@ -7,7 +7,7 @@ ghost use Rattle.hg_slot.specs.Slotted.{record_at};
 ghost use Rattle.hg_table.specs.Marks.{committed};
 ghost use Rattle.hg_table.specs.Versions.{RowVersion, Shows};
 ghost use Rattle.hg_table.specs.Places.{sees};
-ghost use Rattle.hg_table.specs.Calls.{LookFault, IsVersionCheck};
+ghost use Rattle.hg_table.specs.Calls.{LookFault, IsVersionCheck, NamesPage};
 ghost use Rattle.hg_table.specs.Steps.{Looks, IsSoundAt, IsWrongAt, IsWrongVersion};
 
 use crate::open::{damaged, open};
@@ -32,6 +32,7 @@ pub fn read_in(
         → seen ≡ sees (committed stamps.now) snapshot.0 v) }
     ensures row { result ≡ Ok true → (v : Option RowVersion)
         → Shows columns (record_at page.now slot) v → IfSome v (λ w. out.new ≡ w.row) }
+    ensures width { result ≡ Ok true → length out.new ≡ columns }
     ensures unseen { result ≡ Ok false → out.new ≡ out.old }
     ensures wrong { IfErr result (IsWrongAt page.now columns slot) }
 {
@@ -67,6 +68,7 @@ pub fn version_in(
               (s : StampOf). s.0) stamps.1;
           row = out.new;
         })) }
+    ensures width { OnOk result (length out.new ≡ columns) }
     ensures wrong { IfErr result (IsWrongVersion page.now columns slot) }
 {
     let Some(record) = slot::peek(page, slot)? else {
@@ -100,13 +102,15 @@ pub fn read<S: Pages>(
     ensures row { result ≡ Ok true → (v : Option RowVersion)
         → IsSoundAt (S.state space.old) columns at.page at.slot v
         → IfSome v (λ w. out.new ≡ w.row) }
+    ensures width { result ≡ Ok true → length out.new ≡ columns }
     ensures unseen { result ≡ Ok false → out.new ≡ out.old }
     ensures looks { Looks (S.state space.old) (S.state space.new) }
     ensures cause { HasCause (S.state space.old) (S.state space.new) result }
     ensures fault { IfErr result (LookFault IsVersionCheck (S.state space.old)
         (S.state space.new)) }
+    ensures page { IfErr result (NamesPage at.page) }
 {
-    let pin = open(space, at.page)?;
+    let pin = open(space, at.page, Check::RowBytes)?;
     let answer = read_in(space.bytes(&pin), at.slot, columns, snapshot, stamps, out);
     space.unpin(pin);
     match answer {
@@ -133,12 +137,14 @@ pub fn version<S: Pages>(
               (s : StampOf). s.0) stamps.1;
           row = out.new;
         })) }
+    ensures width { OnOk result (length out.new ≡ columns) }
     ensures looks { Looks (S.state space.old) (S.state space.new) }
     ensures cause { HasCause (S.state space.old) (S.state space.new) result }
     ensures fault { IfErr result (LookFault IsVersionCheck (S.state space.old)
         (S.state space.new)) }
+    ensures page { IfErr result (NamesPage at.page) }
 {
-    let pin = open(space, at.page)?;
+    let pin = open(space, at.page, Check::RowBytes)?;
     let answer = version_in(space.bytes(&pin), at.slot, columns, out);
     space.unpin(pin);
     match answer {

@@ -70,6 +70,7 @@ pub fn row_of(bytes: &[u8], columns: u8, out: &mut Row) -> bool
     requires { 8 ≤ length bytes.now }
     ensures row { OnTrue result ((v : RowVersion) → IsStored columns bytes.now v
         → out.new ≡ v.row) }
+    ensures width { OnTrue result (length out.new ≡ columns) }
     ensures none { OnFalse result ((v : RowVersion) → IsStored columns bytes.now v → ⊥) }
 {
     let (_, row) = bytes.split_at(STAMPS);

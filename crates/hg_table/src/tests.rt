@@ -403,3 +403,67 @@ fn deaths(rt: HostRuntime) -> Result<(), Fail> {
     }
     Ok(())
 }
+
+/// The row 258, 'ab', NULL, NULL.
+fn small_row() -> Row {
+    let mut row = Row::new();
+    let _ = row.push(&Value::Int(258));
+    let _ = row.push(&Chars::parse("ab").map_or(Value::Null, Value::Text));
+    let _ = row.push(&Value::Null);
+    let _ = row.push(&Value::Null);
+    row
+}
+
+/// The stamps of the version at a place, and whether its row has these bytes.
+fn version_at<S: Pages>(
+    table: &Table,
+    space: &mut S,
+    place: Place,
+    bytes: &[u8],
+) -> Result<(Stamp, Option<Stamp>, bool), PageFault>
+    requires out { NoPins (S.state space.old) }
+    requires there { (S.state space.old).told ≡ true → HasVersion (S.state space.old) table.now 4 place }
+    ensures out { OnOk result (NoPins (S.state space.new)) }
+    ensures there { OnOk result ((S.state space.new).told ≡ true
+        → HasVersion (S.state space.new) table.now 4 place) }
+{
+    let mut out = Row::new();
+    let (born, died) = table.version(space, place, 4, &mut out)?;
+    Ok((born, died, out.bytes() == bytes))
+}
+
+/// The version of a row that was born under 7 and has these bytes: before it dies, once it died under
+/// 300, and once it died under 2 over that.
+fn two_deaths<S: Pages>(
+    space: &mut S,
+    bytes: &[u8],
+) -> Result<Option<[(Stamp, Option<Stamp>, bool); 3]>, PageFault>
+    requires { NoPins (S.state space.old) }
+{
+    let mut table = no_table(space);
+    let Some(place) = add(&mut table, space, &small_row(), Stamp(7))? else {
+        return Ok(None);
+    };
+    let alive = version_at(&table, space, place, bytes)?;
+    die(&mut table, space, place, Stamp(300))?;
+    let dead = version_at(&table, space, place, bytes)?;
+    die(&mut table, space, place, Stamp(2))?;
+    let again = version_at(&table, space, place, bytes)?;
+    Ok(Some([alive, dead, again]))
+}
+
+#[test]
+fn a_death_over_a_death(rt: HostRuntime) -> Result<(), Fail> {
+    let mut space = PlainSpace::new(rt.alloc());
+    // 258 is 2 and once 256; a is 97 and b is 98
+    let bytes = [1, 2, 1, 0, 0, 2, 2, 97, 98, 0, 0];
+    assert_eq!(rt;
+        two_deaths(&mut space, &bytes)?,
+        Some([
+            (Stamp(7), None, true),
+            (Stamp(7), Some(Stamp(300)), true),
+            (Stamp(7), Some(Stamp(2)), true)
+        ])
+    );
+    Ok(())
+}

@@ -1,15 +1,16 @@
 //! The way along a table's versions.
-ghost use Rattle.std.specs.Prelude.{◌≡◌, ℕ, ◌+◌, ◌<◌, ◌≤◌, true, List, length, Some, None, IsOk, IfOk, IfErr, OnOk};
+ghost use Rattle.std.specs.Prelude.{◌≡◌, ℕ, ◌+◌, ◌<◌, ◌≤◌, true, false, List, length, Some, None, IsOk, IfOk, IfErr, OnOk};
 ghost use Rattle.hg_base.specs.Space.{NoPins, key_in, IsFree};
 ghost use Rattle.hg_base.specs.Causes.{HasCause};
 ghost use Rattle.hg_base.specs.Steadiness.{IsPlain};
 ghost use Rattle.hg_base.specs.declared.Table.{Table as TableOf};
 ghost use Rattle.hg_slot.specs.Slotted.{IsSlotted};
 ghost use Rattle.hg_slot.specs.Changing.{IsWrong};
+ghost use Rattle.hg_table.specs.Chains.{IsLine, IsChain};
 ghost use Rattle.hg_table.specs.Versions.{Placed, RowVersion, IsTable, in_pages};
 ghost use Rattle.hg_table.specs.Places.{behind, first_place};
-ghost use Rattle.hg_table.specs.Calls.{HasStart, LookFault, IsWalkCheck};
-ghost use Rattle.hg_table.specs.Steps.{Looks, IsSound, IsNextSlot, HoldsLine, main_page};
+ghost use Rattle.hg_table.specs.Calls.{HasStart, LookFault, IsWalkCheck, NamesPage, NamesMain, IsBarred, StandsOn, main_page};
+ghost use Rattle.hg_table.specs.Steps.{Looks, IsSound, IsNextSlot, HoldsLine};
 
 use crate::open::{damaged, main_page, open};
 use hg_base::{Check, File, PageFault, Pages, Place, Table};
@@ -45,7 +46,8 @@ pub fn first_slot(page: &[u8]) -> Result<Option<u16>, Check>
 }
 
 /// Pins a page and looks for a slot that is not empty: on a page that is entered for the first, and
-/// else from `from` on.
+/// else from `from` on. Where it cannot be pinned, a page that is entered is a page of a chain, and
+/// another that of a place.
 fn look<S: Pages>(
     space: &mut S,
     no: u32,
@@ -61,8 +63,17 @@ fn look<S: Pages>(
     ensures looks { Looks (S.state space.old) (S.state space.new) }
     ensures cause { HasCause (S.state space.old) (S.state space.new) result }
     ensures fault { IfErr result (LookFault IsWalkCheck (S.state space.old) (S.state space.new)) }
+    ensures page { IfErr result (NamesPage no) }
+    ensures level { entering ≡ true → IfErr result (IsBarred (S.state space.old) None) }
+    ensures row { entering ≡ false → (slot : ℕ)
+        → IfErr result (IsBarred (S.state space.old) (Some (record { page = no; slot = slot }))) }
 {
-    let pin = open(space, no)?;
+    let check = if entering {
+        Check::Level
+    } else {
+        Check::RowBytes
+    };
+    let pin = open(space, no, check)?;
     let bytes = space.bytes(&pin);
     let found = if entering {
         first_slot(bytes)
@@ -82,9 +93,13 @@ fn first_along<S: Pages>(space: &mut S, start: Option<u32>) -> Result<Option<Pla
     requires line { (S.state space.old).told ≡ true → HoldsLine (S.state space.old) start }
     ensures first { IfOk result (λ first. (l : HoldsLine (S.state space.old) start)
         → first ≡ first_place (in_pages l.held l.pages)) }
+    ensures on_line { IfOk result (λ first. (pages : List ℕ)
+        → IsLine (S.state space.old) start pages → StandsOn pages first) }
     ensures looks { Looks (S.state space.old) (S.state space.new) }
     ensures cause { HasCause (S.state space.old) (S.state space.new) result }
     ensures fault { IfErr result (LookFault IsWalkCheck (S.state space.old) (S.state space.new)) }
+    ensures page { IfErr result NamesMain }
+    ensures level { IfErr result (IsBarred (S.state space.old) None) }
 {
     let mut next = start;
     for _turn in 0..space.taken(File::Main) {
@@ -113,9 +128,13 @@ pub fn after<S: Pages>(
     ensures next { IfOk result (λ next. (columns : ℕ) (pages : List ℕ) (versions : List Placed)
         → IsTable (S.state space.old) table.now columns pages versions
         → next ≡ first_place (behind pages at versions)) }
+    ensures on_pages { IfOk result (λ next. (pages : List ℕ)
+        → IsChain (S.state space.old) table.now pages → StandsOn pages at → StandsOn pages next) }
     ensures looks { Looks (S.state space.old) (S.state space.new) }
     ensures cause { HasCause (S.state space.old) (S.state space.new) result }
     ensures fault { IfErr result (LookFault IsWalkCheck (S.state space.old) (S.state space.new)) }
+    ensures page { IfErr result NamesMain }
+    ensures level { IfErr result (IsBarred (S.state space.old) at) }
 {
     match at {
         None => first_along(space, table.first),

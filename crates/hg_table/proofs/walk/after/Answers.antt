@@ -1,13 +1,14 @@
-use Rattle.std.specs.Prelude.{◌+◌, Option, Some}
-use Rattle.std.proofs.Common.{sym, ◌∙◌, ap, subst}
-use Rattle.std.proofs.lemmas.Result.{IfOk-weaker}
+use Rattle.std.specs.Prelude.{◌≡◌, ℕ, ◌+◌, true, Option, Some, IfErr}
+use Rattle.std.proofs.Common.{refl, sym, ◌∙◌, ap, subst}
+use Rattle.std.proofs.lemmas.Result.{IfOk-weaker, err_from_is_err_and}
 use Rattle.hg_base.specs.Space.{Space, key}
 use Rattle.hg_base.specs.declared.Place.{Place}
 use Rattle.hg_base.specs.declared.Table.{Table}
-use Rattle.hg_table.specs.Places.{behind, first_place}
-use Rattle.hg_table.specs.Calls.{HasStart}
+use Rattle.hg_table.specs.Places.{behind, pages_behind, first_place}
+use Rattle.hg_table.specs.Chains.{has_page}
+use Rattle.hg_table.specs.Calls.{HasStart, IsBarred, StandsOn}
 use Rattle.hg_table.specs.Steps.{IsNextSlot}
-use Rattle.hg_table.proofs.Following.{table_line, rest_line, place_sound, start_on, first_of_table, next_here, next_behind}
+use Rattle.hg_table.proofs.Following.{line_rest, stands_behind, table_line, rest_line, place_sound, start_on, first_of_table, next_here, next_behind}
 use Rattle.hg_table.proofs.walk.after.Goals as goal
 
 pub look-requires-clause-sound : goal.look-requires-clause-sound
@@ -23,6 +24,14 @@ returns-in-Some-2-clause-next g c = λ columns pages versions table.
     next_here a t columns pages versions c.in-Some.place c.in-Some-2.slot table (start_on a t columns pages versions c.in-Some.place table h)
     (λ page told. subst (IsNextSlot page (c.in-Some.place.slot + 1)) c.in-Some-2.is (c.in_ok-slot-in-Some.ensures.next page told))
     ∙ ap (λ (p : Option Place). first_place (behind pages p versions)) (sym c.in-Some.is)
+
+pub returns-in_err-slot-in-Some-clause-level : goal.returns-in_err-slot-in-Some-clause-level
+returns-in_err-slot-in-Some-clause-level g c =
+    let a : Space = g.S.Pages.state c.args.space.now in
+    let p = err_from_is_err_and c.from_residual.result c.from_residual.ensures.1 in
+    subst (λ o. IfErr c.from_residual.result (IsBarred a o)) (sym c.in-Some.is)
+    (subst (λ r. IfErr r (IsBarred a (Some c.in-Some.place))) (sym p.1)
+    (subst (IsBarred a (Some c.in-Some.place)) (sym p.2) (c.in_err-slot-in-Some.ensures.row refl c.in-Some.place.slot)))
 
 pub first_along-requires-in-Some-clause-line : goal.first_along-requires-in-Some-clause-line
 first_along-requires-in-Some-clause-line g c = λ told.
@@ -43,6 +52,19 @@ returns-in-None-clause-next g c =
     first_of_table a t columns pages versions next table (known (table_line a t columns pages versions table))
     ∙ ap (λ (p : Option Place). first_place (behind pages p versions)) (sym c.in-None.is))
     c.first_along.ensures.first
+
+pub returns-in_default-clause-on_pages : goal.returns-in_default-clause-on_pages
+returns-in_default-clause-on_pages g c =
+    let a : Space = g.S.Pages.state c.args.space.now in
+    let b : Space = g.S.Pages.state c.look.new.space in
+    let x : ℕ = c.in-Some.place.page in
+    IfOk-weaker c.first_along-in-Some.result _ _
+    (λ next known pages chain stands.
+    let on : has_page pages x ≡ true = subst (StandsOn pages) c.in-Some.is stands in
+    stands_behind pages x next
+    (known (pages_behind pages x) (line_rest a b c.args.table.now pages x c.next.result c.in_ok-slot-in-Some.ensures.looks chain on
+    (c.next.ensures ∙ ap (λ p. b.next (key p)) c.main_page.ensures))))
+    c.first_along-in-Some.ensures.on_line
 
 pub returns-in_default-clause-next : goal.returns-in_default-clause-next
 returns-in_default-clause-next g c =

@@ -4,7 +4,7 @@ use Rattle.hg_base.specs.Space.{Space, key}
 use Rattle.hg_base.specs.Causes.{Licensed}
 use Rattle.hg_table.specs.Calls.{LookFault, IsWalkCheck}
 use Rattle.hg_table.specs.Steps.{HoldsLine, IsNextSlot}
-use Rattle.hg_table.proofs.Walking.{Passed, line_ended, line_found, line_passed, line_short, looks_then, next_page, next_sound, not_told}
+use Rattle.hg_table.proofs.Walking.{IsOnWay, way_starts, way_passed, way_page, looks_same, passed_none, Passed, line_ended, line_found, line_passed, line_short, looks_then, next_page, next_sound, not_told}
 use Rattle.hg_table.proofs.walk.first_along.Goals as goal
 
 pub returns-in_default-clause-first : goal.returns-in_default-clause-first
@@ -32,6 +32,20 @@ returns-in-Some-2-clause-first g c = λ h.
     (subst (λ o. Passed a c.args.start h o c.loop-turn._turn) c.in-Some.is (c.loop-turn.invariant.passed h))
     (λ page told. subst (IsNextSlot page 0) c.in-Some-2.is (c.in_ok-slot.ensures.next page told))
 
+pub returns-in-Some-2-clause-on_line : goal.returns-in-Some-2-clause-on_line
+returns-in-Some-2-clause-on_line g c = λ pages line.
+    let a : Space = g.S.Pages.state c.args.space.now in
+    (way_page a pages c.in-Some.no (subst (IsOnWay a pages) c.in-Some.is (c.loop-turn.invariant.way pages line))).among
+
+pub loop-turn-init : goal.loop-turn-init
+loop-turn-init g c =
+    let a : Space = g.S.Pages.state c.args.space.now in
+    record {
+      looks = looks_same a c.requires.out;
+      passed = λ h. passed_none a c.args.start h;
+      way = λ pages line. way_starts a c.args.start pages line;
+    }
+
 pub loop-turn-preserved : goal.loop-turn-preserved
 loop-turn-preserved g c =
     let a : Space = g.S.Pages.state c.args.space.now in
@@ -40,6 +54,9 @@ loop-turn-preserved g c =
     let x : ℕ = c.in-Some.no in
     record {
       looks = looks_then a b d c.loop-turn.invariant.looks c.in_ok-slot.ensures.looks;
+      way = λ pages line. subst (IsOnWay a pages) (sym (c.next-next.ensures ∙ ap (λ p. d.next (key p)) c.main_page.ensures))
+          (way_passed a d pages x (looks_then a b d c.loop-turn.invariant.looks c.in_ok-slot.ensures.looks)
+          (subst (IsOnWay a pages) c.in-Some.is (c.loop-turn.invariant.way pages line)));
       passed = λ h. subst (λ o. Passed a c.args.start h o (c.loop-turn._turn + 1)) (sym (c.next-next.ensures ∙ ap (λ p. d.next (key p)) c.main_page.ensures))
           (line_passed a b d c.args.start h x c.loop-turn._turn c.loop-turn.invariant.looks c.in_ok-slot.ensures.looks
           (subst (λ o. Passed a c.args.start h o c.loop-turn._turn) c.in-Some.is (c.loop-turn.invariant.passed h))
