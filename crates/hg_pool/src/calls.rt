@@ -10,7 +10,7 @@ impl<M: PageDevice, T: PageDevice> Parts<M, T> {
     ghost use Rattle.hg_base.specs.Causes.{HasCause, Later, Licensed, NoneFull, PinFault, FreshFault, full_fault};
     ghost use Rattle.hg_pool.specs.Picture.{frame_at, place_at, taken_at, is_pinned};
     ghost use Rattle.hg_pool.specs.Round.{Stays, ComesIn, PassesNext, without_out};
-    ghost use Rattle.hg_pool.specs.Shown.{state_of, IsWhole, in_frame, frame_of, round_of};
+    ghost use Rattle.hg_pool.specs.Shown.{state_of, IsWhole, in_frame, frame_of, round_of, SameFrames, SameFramesBut};
     ghost use Rattle.hg_pool.specs.Work.{PinWork, FreshWork, IsLowest, IsUnused, CallsNone};
 
     pub(crate) fn pin(&mut self, page: PageId) -> Result<(), PageFault>
@@ -114,6 +114,8 @@ impl<M: PageDevice, T: PageDevice> Parts<M, T> {
         ensures whole { IsWhole M.PageDevice T.PageDevice self.new }
         ensures after { state_of M.PageDevice T.PageDevice self.new ≡ without_pin (state_of M.PageDevice T.PageDevice self.old) (key page) }
         ensures round { round_of self.new ≡ without_out (round_of self.old) (frame_of self.old page) }
+        ensures frames { SameFrames self.old self.new }
+        ensures counts { self.new.store.counts ≡ self.old.store.counts }
         ensures no_call { self.new.devices ≡ self.old.devices }
     {
         let at = self.store.places.at(page);
@@ -127,6 +129,8 @@ impl<M: PageDevice, T: PageDevice> Parts<M, T> {
         ensures whole { IsWhole M.PageDevice T.PageDevice self.new }
         ensures after { state_of M.PageDevice T.PageDevice self.new ≡ without_page (state_of M.PageDevice T.PageDevice self.old) (key page) }
         ensures round { round_of self.new ≡ round_of self.old }
+        ensures frames { SameFramesBut self.old self.new page }
+        ensures counts { self.new.store.counts ≡ self.old.store.counts }
         ensures no_call { self.new.devices ≡ self.old.devices }
     {
         match self.store.find(page) {
@@ -144,6 +148,8 @@ impl<M: PageDevice, T: PageDevice> Parts<M, T> {
         ensures whole { IsWhole M.PageDevice T.PageDevice self.new }
         ensures after { state_of M.PageDevice T.PageDevice self.new ≡ with_next (state_of M.PageDevice T.PageDevice self.old) (key page) next }
         ensures round { round_of self.new ≡ round_of self.old }
+        ensures frames { SameFrames self.old self.new }
+        ensures counts { self.new.store.counts ≡ self.old.store.counts }
         ensures no_call { self.new.devices ≡ self.old.devices }
     {
         self.store.maps.set_next(page, next);

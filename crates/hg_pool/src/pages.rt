@@ -3,7 +3,8 @@ ghost use Rattle.std.specs.Prelude.{◌≡◌, ◌<◌, true, false, IfOk, IfErr
 ghost use Rattle.hg_base.specs.Space.{key, IsPinned, IsMade, IsSame, IsFull, without_pin, without_page, with_next};
 ghost use Rattle.hg_base.specs.Causes.{HasCause, NoneFull, PinFault, FreshFault, full_fault};
 ghost use Rattle.hg_pool.specs.Round.{Stays, ComesIn, PassesNext, without_out};
-ghost use Rattle.hg_pool.specs.Shown.{state_of, in_frame, frame_of, counts_of_pool, round_of, main_device, temp_device, CalledNone};
+ghost use Rattle.hg_pool.specs.Shown.{state_of, in_frame, frame_of, counts_of_pool, round_of, main_device, temp_device, CalledNone,
+    SameFrames, SameFramesBut};
 ghost use Rattle.hg_pool.specs.Work.{PinWork, FreshWork, IsLowest, IsUnused, CallsNone};
 
 use crate::Pool;
@@ -107,6 +108,8 @@ impl<M: PageDevice, T: PageDevice> Pages for Pool<M, T> {
         requires { (state_of M.PageDevice T.PageDevice self.old).pinned (key pin.page) ≡ true }
         ensures after { state_of M.PageDevice T.PageDevice self.new ≡ without_pin (state_of M.PageDevice T.PageDevice self.old) (key pin.page) }
         ensures round { round_of self.new ≡ without_out (round_of self.old) (frame_of self.old pin.page) }
+        ensures frames { SameFrames self.old self.new }
+        ensures counts { counts_of_pool self.new ≡ counts_of_pool self.old }
         ensures calls_none { CalledNone self.old self.new }
     {
         let PoolPin { page } = pin;
@@ -119,6 +122,8 @@ impl<M: PageDevice, T: PageDevice> Pages for Pool<M, T> {
         requires no_heap { (state_of M.PageDevice T.PageDevice self.old).of_heap (key page) ≡ false }
         ensures after { state_of M.PageDevice T.PageDevice self.new ≡ without_page (state_of M.PageDevice T.PageDevice self.old) (key page) }
         ensures round { round_of self.new ≡ round_of self.old }
+        ensures frames { SameFramesBut self.old self.new page }
+        ensures counts { counts_of_pool self.new ≡ counts_of_pool self.old }
         ensures calls_none { CalledNone self.old self.new }
     {
         self.parts.release(page);
@@ -133,6 +138,8 @@ impl<M: PageDevice, T: PageDevice> Pages for Pool<M, T> {
         requires no_heap { (state_of M.PageDevice T.PageDevice self.old).of_heap (key page) ≡ false }
         ensures after { state_of M.PageDevice T.PageDevice self.new ≡ with_next (state_of M.PageDevice T.PageDevice self.old) (key page) next }
         ensures round { round_of self.new ≡ round_of self.old }
+        ensures frames { SameFrames self.old self.new }
+        ensures counts { counts_of_pool self.new ≡ counts_of_pool self.old }
         ensures calls_none { CalledNone self.old self.new }
     {
         self.parts.set_next(page, next);
