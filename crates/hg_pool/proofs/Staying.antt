@@ -1,8 +1,9 @@
 -- Which pages stay in frames where one frame changed, and behind several steps.
-use Rattle.std.specs.Prelude.{◌≡◌, ◌≢◌, ℕ, ◌<◌, true, false, List, length, None, Some, slice_set}
-use Rattle.std.proofs.Common.{sym, ◌∙◌, ap, refl, inl, inr}
+use Rattle.std.specs.Prelude.{◌≡◌, ◌≢◌, ℕ, ◌<◌, ◌-◌, ◌^◌, true, false, List, length, None, Some, slice_set}
+use Rattle.std.proofs.Common.{sym, ◌∙◌, ap, refl, inl, inr, arith}
 use Rattle.std.proofs.lemmas.Bool.{false≢true}
 use Rattle.std.proofs.lemmas.Bool.Decides.{eqb_tells}
+use Rattle.hg_io.specs.Count.{raised}
 use Rattle.hg_base.specs.Space.{at, key}
 use Rattle.hg_base.specs.declared.PageId.{PageId}
 use Rattle.hg_pool.specs.Picture.{frame_at, place_at, is_in, is_key_of}
@@ -44,6 +45,10 @@ filled-at frame place f x q was now =
       | inl h ↦ here-at frame place f x q h.1 ∙ now ∙ sym (ap (λ k. is_key_of q (frame k).page) h.1 ∙ ap (is_key_of q) was)
       | inr n ↦ other-at frame place f x q n.1
     ]
+
+-- a count that has not reached its end, and was raised, is another one
+pub raised-more : (n : ℕ) → n < 2 ^ 64 - 1 → raised n 1 ≡ n → ⊥
+raised-more n below same = absurd (omega arith)
 
 module _ {M T : Type 0} where
   -- whether a page is in a frame, where one frame changed

@@ -1,11 +1,11 @@
 -- What contracts see of a pool: its devices and what it keeps of them.
-use Rattle.std.specs.Prelude.{◌≡◌, ◌≢◌, ℕ, Bool, true, false, length}
+use Rattle.std.specs.Prelude.{◌≡◌, ◌≢◌, ℕ, Bool, true, false, Option, length}
 use Rattle.hg_io.specs.declared.device.PageDevice.{Ghosts}
 use Rattle.hg_base.specs.Space.{Space, key}
 use Rattle.hg_base.specs.declared.PageId.{PageId}
 use Rattle.hg_pool.specs.Disks.{Disks, disks_in}
 use Rattle.hg_pool.specs.Picture.{shown, picture_of, is_in, frame_at, place_at}
-use Rattle.hg_pool.specs.Round.{Round, round_in}
+use Rattle.hg_pool.specs.Round.{Round, IsNext, round_in}
 use Rattle.hg_pool.specs.Sound.{IsSound}
 use Rattle.hg_pool.specs.declared.PoolCounts.{PoolCounts}
 use Rattle.hg_pool.specs.declared.parts.Parts.{Parts}
@@ -35,6 +35,10 @@ module _ {M T : Type 0} where
   -- the frame of a page that is in one
   abbrev pub frame_of : Parts M T → PageId → ℕ
   frame_of s page = place_at s.store.places (key page)
+
+  -- the page of a frame, if it has one
+  abbrev pub page_in : Parts M T → ℕ → Option PageId
+  page_in s f = (frame_at s.store.frames.items f).page
 
   -- how many frames are in use
   abbrev pub current_of : Parts M T → ℕ
@@ -71,3 +75,9 @@ module _ {M T : Type 0} where
   pub record KeepsFrames (a b : Parts M T) (page : PageId) (f : ℕ) : Type 0 where
     pub stay : (q : PageId) → key q ≢ key page → in_frame a q ≡ true → frame_of a q ≢ f → (in_frame b q ≡ true) × (frame_of b q ≡ frame_of a q)
     pub none_came : (q : PageId) → key q ≢ key page → in_frame a q ≡ false → in_frame b q ≡ false
+
+  -- the page of the next frame left it at most: each other page is in the frame that it was in, and none came in
+  pub record ClearsNext (a b : Parts M T) : Type 0 where
+    pub frame : ℕ
+    pub next : IsNext (round_of a) frame
+    pub keeps : KeepsFramesAll a b frame
