@@ -1,11 +1,11 @@
 //! A pool is a space of pages.
-ghost use Rattle.std.specs.Prelude.{◌≡◌, ◌<◌, true, false, IfOk, IfErr, OnOk, OnErr, IsErrOf};
+ghost use Rattle.std.specs.Prelude.{◌≡◌, ◌<◌, ◌-◌, ◌^◌, true, false, IfOk, IfErr, OnOk, OnErr, IsOk, IsErrOf};
 ghost use Rattle.hg_base.specs.Space.{key, IsPinned, IsMade, IsSame, IsFull, without_pin, without_page, with_next};
 ghost use Rattle.hg_base.specs.Causes.{HasCause, NoneFull, PinFault, FreshFault, full_fault};
 ghost use Rattle.hg_pool.specs.Round.{Stays, ComesIn, PassesNext, without_out};
-ghost use Rattle.hg_pool.specs.Shown.{state_of, in_frame, frame_of, counts_of_pool, round_of, main_device, temp_device, CalledNone,
-    SameFrames, SameFramesBut};
-ghost use Rattle.hg_pool.specs.Work.{PinWork, FreshWork, IsLowest, IsUnused, CallsNone};
+ghost use Rattle.hg_pool.specs.Shown.{state_of, in_frame, frame_of, page_in, counts_of_pool, round_of, main_device, temp_device, CalledNone,
+    SameFrames, SameFramesBut, KeepsFrames, ClearsNext};
+ghost use Rattle.hg_pool.specs.Work.{PinWork, FreshWork, IsLowest, IsUnused, CallsNone, evicted};
 
 use crate::Pool;
 use hg_base::{File, PageFault, PageId, Pages};
@@ -54,6 +54,15 @@ impl<M: PageDevice, T: PageDevice> Pages for Pool<M, T> {
         ensures comes { OnOk result (in_frame self.old page ≡ false → ComesIn (round_of self.old) (round_of self.new) (frame_of self.new page)) }
         ensures passes_next { OnErr result (PassesNext (round_of self.old) (round_of self.new)) }
         ensures calls_none { in_frame self.old page ≡ true → CalledNone self.old self.new }
+        ensures stays_ok { in_frame self.old page ≡ true → IsOk result }
+        ensures keeps_frames { OnOk result (KeepsFrames self.old self.new page (frame_of self.new page)) }
+        ensures same_frames { in_frame self.old page ≡ true → SameFrames self.old self.new }
+        ensures err_frames { OnErr result (ClearsNext self.old self.new) }
+        ensures keeps_counts { in_frame self.old page ≡ true → counts_of_pool self.new ≡ counts_of_pool self.old }
+        ensures evicts { OnOk result (in_frame self.old page ≡ false → (counts_of_pool self.new).evictions
+            ≡ evicted (page_in self.old (frame_of self.new page)) (counts_of_pool self.old).evictions) }
+        ensures uncounted { counts_of_pool self.new ≡ counts_of_pool self.old → (counts_of_pool self.old).reads < 2 ^ 64 - 1
+            → (counts_of_pool self.old).writes < 2 ^ 64 - 1 → CalledNone self.old self.new }
     {
         self.parts.pin(page)?;
         Ok(PoolPin { page })
@@ -83,6 +92,14 @@ impl<M: PageDevice, T: PageDevice> Pages for Pool<M, T> {
         ensures passes_next { OnErr result ((IsFull (state_of M.PageDevice T.PageDevice self.old) file → ⊥) → PassesNext (round_of self.old) (round_of self.new)) }
         ensures unused { IsUnused (state_of M.PageDevice T.PageDevice self.old) → CallsNone (main_device self.old) (main_device self.new)
             (temp_device self.old) (temp_device self.new) result (full_fault file) }
+        ensures full_calls_none { IsFull (state_of M.PageDevice T.PageDevice self.old) file → CalledNone self.old self.new }
+        ensures keeps_frames { IfOk result (λ pin. KeepsFrames self.old self.new pin.page (frame_of self.new pin.page)) }
+        ensures err_frames { OnErr result (SameFrames self.old self.new) }
+        ensures evicts { IfOk result (λ pin. (counts_of_pool self.new).evictions
+            ≡ evicted (page_in self.old (frame_of self.new pin.page)) (counts_of_pool self.old).evictions) }
+        ensures none_evicted { OnErr result ((counts_of_pool self.new).evictions ≡ (counts_of_pool self.old).evictions) }
+        ensures uncounted { counts_of_pool self.new ≡ counts_of_pool self.old → (counts_of_pool self.old).reads < 2 ^ 64 - 1
+            → (counts_of_pool self.old).writes < 2 ^ 64 - 1 → CalledNone self.old self.new }
     {
         let page = self.parts.fresh(file)?;
         Ok(PoolPin { page })
