@@ -1,33 +1,20 @@
 -- Which pages stay in frames where one frame changed, and behind several steps.
-use Rattle.std.specs.Prelude.{◌≡◌, ◌≢◌, ℕ, ◌<◌, ◌-◌, ◌^◌, true, false, List, length, None, Some, slice_set}
-use Rattle.std.proofs.Common.{sym, ◌∙◌, ap, refl, inl, inr, arith}
+use Rattle.std.specs.Prelude.{◌≡◌, ◌≢◌, ℕ, ◌<◌, ◌-◌, ◌^◌, false, List, length, None, Some, slice_set}
+use Rattle.std.proofs.Common.{sym, ◌∙◌, ap, inl, inr, arith}
 use Rattle.std.proofs.lemmas.Bool.{false≢true}
 use Rattle.std.proofs.lemmas.Bool.Decides.{eqb_tells}
 use Rattle.hg_io.specs.Count.{raised}
 use Rattle.hg_base.specs.Space.{at, key}
 use Rattle.hg_base.specs.declared.PageId.{PageId}
 use Rattle.hg_pool.specs.Picture.{frame_at, place_at, is_in, is_key_of}
-use Rattle.hg_pool.specs.Keys.{at-here, at-other, is_key_of-other}
-use Rattle.hg_pool.specs.Loans.{frames-set}
+use Rattle.hg_pool.specs.Keys.{at-other, is_key_of-other}
+use Rattle.hg_pool.specs.FrameLaws.{here-at, other-at, inside-of}
 use Rattle.hg_pool.specs.Shown.{in_frame, frame_of, SameFrames, SameFramesBut, KeepsFramesAll, KeepsFrames}
 use Rattle.hg_pool.specs.declared.frames.Frame.{Frame}
 use Rattle.hg_pool.specs.declared.places.Places.{Places}
 use Rattle.hg_pool.specs.declared.parts.Parts.{Parts}
 
 -- One frame that changed.
-
-here-at : (frame : ℕ → Frame) (place : ℕ → ℕ) (f : ℕ) (x : Frame) (q : ℕ) → place q ≡ f → is_in (at frame f x) place q ≡ is_key_of q x.page
-here-at frame place f x q e = ap (λ (y : Frame). is_key_of q y.page) (ap (at frame f x) e ∙ at-here frame f x)
-
-other-at : (frame : ℕ → Frame) (place : ℕ → ℕ) (f : ℕ) (x : Frame) (q : ℕ) → place q ≢ f → is_in (at frame f x) place q ≡ is_in frame place q
-other-at frame place f x q n = ap (λ (y : Frame). is_key_of q y.page) (at-other frame f x (place q) n)
-
-kept-at : (frame : ℕ → Frame) (place : ℕ → ℕ) (f : ℕ) (x : Frame) (q : ℕ) → x.page ≡ (frame f).page → is_in (at frame f x) place q ≡ is_in frame place q
-kept-at frame place f x q e =
-    elim (eqb_tells (place q) f) [
-      | inl h ↦ here-at frame place f x q h.1 ∙ ap (is_key_of q) e ∙ sym (ap (λ k. is_key_of q (frame k).page) h.1)
-      | inr n ↦ other-at frame place f x q n.1
-    ]
 
 -- a frame of no page
 none-at : (frame : ℕ → Frame) (place : ℕ → ℕ) (f : ℕ) (x : Frame) (q : ℕ) → x.page ≡ None → is_in frame place q ≡ false → is_in (at frame f x) place q ≡ false
@@ -51,31 +38,12 @@ pub raised-more : (n : ℕ) → n < 2 ^ 64 - 1 → raised n 1 ≡ n → ⊥
 raised-more n below same = absurd (omega arith)
 
 module _ {M T : Type 0} where
-  -- whether a page is in a frame, where one frame changed
-  inside-of : (a b : Parts M T) (f : ℕ) (x : Frame) (q : PageId) → f < length a.store.frames.items → b.store.frames.items ≡ slice_set a.store.frames.items f x
-      → in_frame b q ≡ is_in (at (frame_at a.store.frames.items) f x) (place_at b.store.places) (key q)
-  inside-of a b f x q there frames =
-      ap (λ (l : List Frame). is_in (frame_at l) (place_at b.store.places) (key q)) frames
-      ∙ ap (λ g. is_in g (place_at b.store.places) (key q)) (frames-set a.store.frames.items f x there)
-
   -- frames and places that did not change
   pub frames-stay : (a b : Parts M T) → b.store.frames.items ≡ a.store.frames.items → b.store.places ≡ a.store.places → SameFrames a b
   frames-stay a b frames places =
       let inside : (q : PageId) → in_frame b q ≡ in_frame a q = λ q.
       ap (λ (l : List Frame). is_in (frame_at l) (place_at b.store.places) (key q)) frames
       ∙ ap (λ (p : Places). is_in (frame_at a.store.frames.items) (place_at p) (key q)) places in record {
-        stay = λ q h. (inside q ∙ h, ap (λ (p : Places). place_at p (key q)) places);
-        none_came = λ q h. inside q ∙ h;
-      }
-
-  -- a frame that changed, but not to another page
-  pub frame-kept : (a b : Parts M T) (f : ℕ) (x : Frame) → f < length a.store.frames.items → x.page ≡ (frame_at a.store.frames.items f).page
-      → b.store.frames.items ≡ slice_set a.store.frames.items f x → b.store.places ≡ a.store.places → SameFrames a b
-  frame-kept a b f x there page frames places =
-      let inside : (q : PageId) → in_frame b q ≡ in_frame a q = λ q.
-      inside-of a b f x q there frames
-      ∙ ap (λ (p : Places). is_in (at (frame_at a.store.frames.items) f x) (place_at p) (key q)) places
-      ∙ kept-at (frame_at a.store.frames.items) (place_at a.store.places) f x (key q) page in record {
         stay = λ q h. (inside q ∙ h, ap (λ (p : Places). place_at p (key q)) places);
         none_came = λ q h. inside q ∙ h;
       }

@@ -1,5 +1,5 @@
 -- What contracts see of a pool: its devices and what it keeps of them.
-use Rattle.std.specs.Prelude.{◌≡◌, ◌≢◌, ℕ, Bool, true, false, Option, length}
+use Rattle.std.specs.Prelude.{◌≡◌, ◌≢◌, ℕ, Bool, true, false, Option, None, length}
 use Rattle.hg_io.specs.declared.device.PageDevice.{Ghosts}
 use Rattle.hg_base.specs.Space.{Space, key}
 use Rattle.hg_base.specs.declared.PageId.{PageId}
@@ -81,3 +81,8 @@ module _ {M T : Type 0} where
     pub frame : ℕ
     pub next : IsNext (round_of a) frame
     pub keeps : KeepsFramesAll a b frame
+
+  -- no page is in a frame
+  pub record NoneIn (s : Parts M T) : Type 0 where
+    pub frames : (f : ℕ) → page_in s f ≡ None
+    pub pages : (q : PageId) → in_frame s q ≡ false

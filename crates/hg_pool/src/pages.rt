@@ -3,8 +3,21 @@ ghost use Rattle.std.specs.Prelude.{◌≡◌, ◌<◌, ◌-◌, ◌^◌, true, 
 ghost use Rattle.hg_base.specs.Space.{key, IsPinned, IsMade, IsSame, IsFull, without_pin, without_page, with_next};
 ghost use Rattle.hg_base.specs.Causes.{HasCause, NoneFull, PinFault, FreshFault, full_fault};
 ghost use Rattle.hg_pool.specs.Round.{Stays, ComesIn, PassesNext, without_out};
-ghost use Rattle.hg_pool.specs.Shown.{state_of, in_frame, frame_of, page_in, counts_of_pool, round_of, main_device, temp_device, CalledNone,
-    SameFrames, SameFramesBut, KeepsFrames, ClearsNext};
+ghost use Rattle.hg_pool.specs.Shown.{
+  state_of,
+  in_frame,
+  frame_of,
+  page_in,
+  counts_of_pool,
+  round_of,
+  main_device,
+  temp_device,
+  CalledNone,
+  SameFrames,
+  SameFramesBut,
+  KeepsFrames,
+  ClearsNext,
+};
 ghost use Rattle.hg_pool.specs.Work.{PinWork, FreshWork, IsLowest, IsUnused, CallsNone, evicted};
 
 use crate::Pool;
@@ -30,7 +43,8 @@ impl<M: PageDevice, T: PageDevice> Pages for Pool<M, T> {
 
     /// A page that is in no frame is read, once, into the frame that the round comes to next among
     /// those that no pin holds. A page whose bytes are newer than those on its device leaves that frame
-    /// only after a write that succeeded. After a fault each page is as it was.
+    /// only after a write that succeeded. After a fault each page is as it was. Pages in other frames
+    /// stay there, so that a pin of them succeeds and calls no device.
     fn pin(&mut self, page: PageId) -> Result<PoolPin, PageFault>
         requires taken { (state_of M.PageDevice T.PageDevice self.old).taken (key page) ≡ true }
         requires not_pinned { (state_of M.PageDevice T.PageDevice self.old).pinned (key page) ≡ false }
@@ -69,7 +83,7 @@ impl<M: PageDevice, T: PageDevice> Pages for Pool<M, T> {
     }
 
     /// It is the lowest page of its file that is not taken, and comes into the frame that `pin` would
-    /// bring a page into. Where the file is full no device is called.
+    /// bring a page into. Pages in other frames stay there. Where the file is full no device is called.
     fn fresh(&mut self, file: File) -> Result<PoolPin, PageFault>
         requires few { (state_of M.PageDevice T.PageDevice self.old).pins < 8 }
         ensures ok { IfOk result (λ pin. IsMade file (state_of M.PageDevice T.PageDevice self.old)

@@ -16,7 +16,8 @@ use Rattle.std.proofs.Common.{refl, slice_set}
 use Rattle.hg_pool.specs.Picture.{place_at}
 use Rattle.hg_pool.specs.declared.parts.Parts.{Parts}
 use Rattle.hg_pool.proofs.Passing.{place-set}
-use Rattle.hg_pool.proofs.Staying.{frame-kept, frame-filled}
+use Rattle.hg_pool.specs.FrameLaws.{frame-kept}
+use Rattle.hg_pool.proofs.Staying.{frame-filled}
 use Rattle.hg_pool.proofs.parts.Parts.load.Goals as goal
 
 pub returns-in-Err-clause-passes : goal.returns-in-Err-clause-passes

@@ -13,7 +13,8 @@ use Rattle.hg_pool.proofs.Rounds.{comes-in, stays-in}
 use Rattle.hg_pool.specs.Shown.{frame_of, page_in, SameFrames, KeepsFrames}
 use Rattle.hg_pool.specs.Work.{evicted}
 use Rattle.hg_pool.specs.declared.parts.Parts.{Parts}
-use Rattle.hg_pool.proofs.Staying.{frame-kept, same-then, but-then-same}
+use Rattle.hg_pool.specs.FrameLaws.{frame-kept}
+use Rattle.hg_pool.proofs.Staying.{same-then, but-then-same}
 use Rattle.hg_pool.proofs.parts.Parts.pin.Goals as goal
 
 pub returns-clause-whole : goal.returns-clause-whole

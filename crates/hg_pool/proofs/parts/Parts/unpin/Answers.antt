@@ -11,7 +11,7 @@ use Rattle.hg_pool.proofs.Calling.{lets-go}
 use Rattle.hg_pool.specs.Round.{round_in}
 use Rattle.hg_pool.specs.RoundLaws.{round-let_go}
 use Rattle.hg_pool.specs.declared.parts.Parts.{Parts}
-use Rattle.hg_pool.proofs.Staying.{frame-kept}
+use Rattle.hg_pool.specs.FrameLaws.{frame-kept}
 use Rattle.hg_pool.proofs.parts.Parts.unpin.Goals as goal
 
 pub returns-clause-whole : goal.returns-clause-whole

@@ -14,7 +14,8 @@ use Rattle.hg_pool.proofs.Passing.{wrote, wrote-not, recounted, counted-later}
 use Rattle.hg_pool.specs.Round.{round_in}
 use Rattle.hg_pool.specs.RoundLaws.{round-same}
 use Rattle.hg_pool.specs.declared.parts.Parts.{Parts}
-use Rattle.hg_pool.proofs.Staying.{frames-stay, frame-kept}
+use Rattle.hg_pool.specs.FrameLaws.{frame-kept}
+use Rattle.hg_pool.proofs.Staying.{frames-stay}
 use Rattle.hg_pool.proofs.parts.Parts.write_back.Goals as goal
 
 pub write-requires-clause-in_range : goal.write-requires-clause-in_range
