@@ -9,7 +9,7 @@ use Rattle.hg_base.specs.declared.PageId.{PageId}
 use Rattle.hg_pool.specs.Picture.{frame_at, place_at, is_in, is_key_of}
 use Rattle.hg_pool.specs.Keys.{at-here, at-other}
 use Rattle.hg_pool.specs.Loans.{after_write_of, written, frames-set, frame-in, and-left}
-use Rattle.hg_pool.specs.Shown.{state_of, in_frame, counts_of_pool, SameFrames}
+use Rattle.hg_pool.specs.Shown.{state_of, in_frame, page_in, counts_of_pool, SameFrames}
 use Rattle.hg_pool.specs.declared.frames.Frame.{Frame}
 use Rattle.hg_pool.specs.declared.places.Places.{Places}
 use Rattle.hg_pool.specs.declared.parts.Parts.{Parts}
@@ -27,6 +27,13 @@ kept-at frame place f x q e =
       | inr n ↦ other-at frame place f x q n.1
     ]
 
+page-kept : (frame : ℕ → Frame) (f : ℕ) (x : Frame) (g : ℕ) → x.page ≡ (frame f).page → (at frame f x g).page ≡ (frame g).page
+page-kept frame f x g e =
+    elim (eqb_tells g f) [
+      | inl h ↦ ap (λ (y : Frame). y.page) (ap (at frame f x) h.1 ∙ at-here frame f x) ∙ e ∙ sym (ap (λ k. (frame k).page) h.1)
+      | inr n ↦ ap (λ (y : Frame). y.page) (at-other frame f x g n.1)
+    ]
+
 module _ {M T : Type 0} where
   -- whether a page is in a frame, where one frame changed
   pub inside-of : (a b : Parts M T) (f : ℕ) (x : Frame) (q : PageId) → f < length a.store.frames.items → b.store.frames.items ≡ slice_set a.store.frames.items f x
@@ -34,6 +41,12 @@ module _ {M T : Type 0} where
   inside-of a b f x q there frames =
       ap (λ (l : List Frame). is_in (frame_at l) (place_at b.store.places) (key q)) frames
       ∙ ap (λ g. is_in g (place_at b.store.places) (key q)) (frames-set a.store.frames.items f x there)
+
+  -- the page of a frame, where one frame changed
+  pub page-of : (a b : Parts M T) (f : ℕ) (x : Frame) (g : ℕ) → f < length a.store.frames.items → b.store.frames.items ≡ slice_set a.store.frames.items f x
+      → page_in b g ≡ (at (frame_at a.store.frames.items) f x g).page
+  page-of a b f x g there frames =
+      ap (λ (l : List Frame). (frame_at l g).page) frames ∙ ap (λ (k : ℕ → Frame). (k g).page) (frames-set a.store.frames.items f x there)
 
   -- a frame that changed, but not to another page
   pub frame-kept : (a b : Parts M T) (f : ℕ) (x : Frame) → f < length a.store.frames.items → x.page ≡ (frame_at a.store.frames.items f).page
@@ -45,6 +58,7 @@ module _ {M T : Type 0} where
       ∙ kept-at (frame_at a.store.frames.items) (place_at a.store.places) f x (key q) page in record {
         stay = λ q h. (inside q ∙ h, ap (λ (p : Places). place_at p (key q)) places);
         none_came = λ q h. inside q ∙ h;
+        frames = λ g. page-of a b f x g there frames ∙ page-kept (frame_at a.store.frames.items) f x g page;
       }
 
   -- the page with that key is pinned, so that it is in a frame

@@ -1,5 +1,5 @@
 -- What contracts see of a pool: its devices and what it keeps of them.
-use Rattle.std.specs.Prelude.{◌≡◌, ◌≢◌, ℕ, Bool, true, false, Option, None, length}
+use Rattle.std.specs.Prelude.{◌≡◌, ◌≢◌, ℕ, Bool, true, false, Option, None, Some, length}
 use Rattle.hg_io.specs.declared.device.PageDevice.{Ghosts}
 use Rattle.hg_base.specs.Space.{Space, key}
 use Rattle.hg_base.specs.declared.PageId.{PageId}
@@ -56,25 +56,30 @@ module _ {M T : Type 0} where
     pub main : main_device b ≡ main_device a
     pub temp : temp_device b ≡ temp_device a
 
-  -- each page is in the frame that it was in, and no page came in
+  -- each page is in the frame that it was in, and no page came in, so that each frame has the page that it had
   pub record SameFrames (a b : Parts M T) : Type 0 where
     pub stay : (q : PageId) → in_frame a q ≡ true → (in_frame b q ≡ true) × (frame_of b q ≡ frame_of a q)
     pub none_came : (q : PageId) → in_frame a q ≡ false → in_frame b q ≡ false
+    pub frames : (g : ℕ) → page_in b g ≡ page_in a g
 
   -- the same of each page but this one
   pub record SameFramesBut (a b : Parts M T) (page : PageId) : Type 0 where
     pub stay : (q : PageId) → key q ≢ key page → in_frame a q ≡ true → (in_frame b q ≡ true) × (frame_of b q ≡ frame_of a q)
     pub none_came : (q : PageId) → key q ≢ key page → in_frame a q ≡ false → in_frame b q ≡ false
+    pub frames : (g : ℕ) → page_in a g ≢ Some page → page_in b g ≡ page_in a g
 
-  -- each page that was in a frame other than f is in it, and no page came in
+  -- each page that was in a frame other than f is in it, and no page came in, so that each other frame has the
+  -- page that it had
   pub record KeepsFramesAll (a b : Parts M T) (f : ℕ) : Type 0 where
     pub stay : (q : PageId) → in_frame a q ≡ true → frame_of a q ≢ f → (in_frame b q ≡ true) × (frame_of b q ≡ frame_of a q)
     pub none_came : (q : PageId) → in_frame a q ≡ false → in_frame b q ≡ false
+    pub frames : (g : ℕ) → g ≢ f → page_in b g ≡ page_in a g
 
   -- the same of each page but this one
   pub record KeepsFrames (a b : Parts M T) (page : PageId) (f : ℕ) : Type 0 where
     pub stay : (q : PageId) → key q ≢ key page → in_frame a q ≡ true → frame_of a q ≢ f → (in_frame b q ≡ true) × (frame_of b q ≡ frame_of a q)
     pub none_came : (q : PageId) → key q ≢ key page → in_frame a q ≡ false → in_frame b q ≡ false
+    pub frames : (g : ℕ) → g ≢ f → page_in b g ≡ page_in a g
 
   -- the page of the next frame left it at most: each other page is in the frame that it was in, and none came in
   pub record ClearsNext (a b : Parts M T) : Type 0 where

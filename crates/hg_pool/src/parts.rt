@@ -17,7 +17,7 @@ impl<M: PageDevice, T: PageDevice> Parts<M, T> {
     ghost use Rattle.hg_base.specs.Space.{key};
     ghost use Rattle.hg_pool.specs.Picture.{frame_at, place_at, taken_at};
     ghost use Rattle.hg_pool.specs.Keeping.{is_inside, IsFoundAt};
-    ghost use Rattle.hg_pool.specs.Shown.{IsWhole, page_in, SameFrames, SameFramesBut, KeepsFramesAll, KeepsFrames, ClearsNext};
+    ghost use Rattle.hg_pool.specs.Shown.{IsWhole, page_in, SameFrames, KeepsFramesAll, KeepsFrames, ClearsNext};
     ghost use Rattle.hg_pool.specs.Passing.{PassesParts, Clears, IsClean, IsRoom, AreEmpty, Reaches};
     ghost use Rattle.hg_pool.specs.Round.{PassesNext, round_in};
     ghost use Rattle.hg_pool.specs.Work.{RoseOnce, PinWork, evicted};
@@ -141,7 +141,7 @@ impl<M: PageDevice, T: PageDevice> Parts<M, T> {
         ensures round { round_in self.new.store ≡ round_in self.old.store }
         ensures read { self.new.store.counts ≡ record self.old.store.counts { reads = raised self.old.store.counts.reads 1 } }
         ensures once { RoseOnce self.old.store.counts.reads self.new.store.counts.reads }
-        ensures fills { OnOk result (SameFramesBut self.old self.new page) }
+        ensures fills { OnOk result (KeepsFrames self.old self.new page at) }
         ensures err_frames { OnErr result (SameFrames self.old self.new) }
     {
         self.store.count_read();

@@ -15,7 +15,7 @@ use Rattle.hg_pool.specs.Round.{PassesNext, with_out, round_in}
 use Rattle.hg_pool.proofs.Ranges.{free-place}
 use Rattle.hg_pool.specs.RoundLaws.{round-held}
 use Rattle.hg_pool.proofs.Rounds.{comes-in, noted-place, all-empty}
-use Rattle.hg_pool.specs.Shown.{frame_of, page_in, SameFrames, SameFramesBut, KeepsFrames}
+use Rattle.hg_pool.specs.Shown.{frame_of, page_in, SameFrames, KeepsFrames}
 use Rattle.hg_pool.specs.Work.{evicted}
 use Rattle.hg_pool.specs.declared.parts.Parts.{Parts}
 use Rattle.hg_pool.proofs.Passing.{place-set}
@@ -115,7 +115,7 @@ returns-clause-keeps_frames g c =
     let page : PageId = record { file = c.args.file; no = c.in-Some.no } in
     let in_range : c.in-Some.no < places_in z.places c.args.file = free-place z c.take.new.self c.args.file c.in-Some.no c.in_ok-at.ensures.passes.whole.shape c.in-Some.ensures.some in
     let place : frame_of b page ≡ i = ap (λ (y : Store). place_at y.places (key page)) c.set_new.ensures ∙ noted-place z page i in_range in
-    let fills : SameFramesBut m b page = frame-filled m b page i (new_frame page) room.there room.none refl
+    let fills : KeepsFrames m b page i = frame-filled m b page i (new_frame page) room.there room.none refl
     (ap (λ (y : Store). y.frames.items) c.set_new.ensures) (ap (λ (y : Store). place_at y.places) c.set_new.ensures ∙ place-set z.places page i in_range) in
     let P : ℕ → Type 0 = λ k. KeepsFrames a b page k in
     subst P (sym place) (keeps-then-but a m b page i c.in_ok-at.ensures.keeps fills)
