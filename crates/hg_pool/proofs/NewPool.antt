@@ -16,10 +16,12 @@ use Rattle.hg_pool.specs.Picture.{Picture, picture_of, shown, frame_at, place_at
 use Rattle.hg_pool.specs.Sound.{IsSound, pins_of, pinned_in}
 use Rattle.hg_pool.specs.Opening.{IsPossible, IsNewStore, new_space, limit_in, empty_frame}
 use Rattle.hg_pool.specs.Round.{first_round, round_in}
+use Rattle.hg_pool.specs.Shown.{NoneIn}
 use Rattle.hg_pool.specs.declared.Config.{Config}
 use Rattle.hg_pool.specs.declared.frames.Frame.{Frame}
 use Rattle.hg_pool.specs.declared.store.Answers.{Answers}
 use Rattle.hg_pool.specs.declared.store.Store.{Store}
+use Rattle.hg_pool.specs.declared.parts.Parts.{Parts}
 use Rattle.hg_pool.proofs.Steps.{none-apart}
 use Rattle.hg_pool.proofs.Rounds.{le_or_lt}
 
@@ -102,4 +104,11 @@ new-round c s h = λ i. record (round_in s) {
   current = (ap length h.frames ∙ length-replicate {A = Frame} c.pool empty_frame) i;
   hand = h.hand i;
   out = λ f. no-pin-of s.frames.items c.pool f h.frames i;
+}
+
+-- no page is in a frame of a new pool
+pub new-none_in : {M T : Type 0} (c : Config) (s : Parts M T) → IsNewStore c s.store → NoneIn s
+new-none_in c s h = record {
+  frames = λ f. no-page-in s.store.frames.items c.pool f h.frames;
+  pages = λ q. ap (is_key_of (key q)) (no-page-in s.store.frames.items c.pool (place_at s.store.places (key q)) h.frames);
 }

@@ -1,22 +1,18 @@
 -- The round over the frames: which frame is next, and what a change of one frame leaves of the round.
-use Rattle.std.specs.Prelude.{◌≡◌, ℕ, ◌+◌, ◌-◌, ◌<◌, ◌≤◌, ◌⊎◌, Bool, true, false, length, Option, None, Some, Ok, Err, slice_set}
-use Rattle.std.proofs.Common.{sym, ◌∙◌, ap, subst, refl, arith, length-set, inl, inr}
+use Rattle.std.specs.Prelude.{◌≡◌, ℕ, ◌+◌, ◌-◌, ◌<◌, ◌≤◌, ◌⊎◌, Bool, true, false, Option, None, Some, Ok, Err}
+use Rattle.std.proofs.Common.{sym, ◌∙◌, ap, subst, refl, arith, inl, inr}
 use Rattle.std.proofs.lemmas.Bool.{false≢true}
 use Rattle.std.proofs.lemmas.Bool.Decides.{nat_tests}
-use Rattle.hg_base.specs.Space.{at, key}
-use Rattle.hg_base.specs.Changes.{after-at, at-same}
+use Rattle.hg_base.specs.Space.{key}
 use Rattle.hg_base.specs.declared.PageId.{PageId}
 use Rattle.hg_pool.specs.Disks.{Disks}
 use Rattle.hg_pool.specs.Picture.{shown, picture_of, frame_at, place_at}
 use Rattle.hg_pool.specs.Sound.{IsSound}
-use Rattle.hg_pool.specs.Keeping.{places_in, with_place, with_frame}
+use Rattle.hg_pool.specs.Keeping.{places_in, with_place}
 use Rattle.hg_pool.specs.Keys.{at-here}
-use Rattle.hg_pool.specs.Loans.{frames-set}
 use Rattle.hg_pool.specs.Passing.{AreEmpty, Reaches}
-use Rattle.hg_pool.specs.RoundLaws.{round-held, round-let_go, round-same}
-use Rattle.hg_pool.specs.Round.{Round, IsNext, Stays, ComesIn, way_to, with_out, without_out, round_in}
+use Rattle.hg_pool.specs.Round.{Round, IsNext, Stays, ComesIn, way_to, with_out}
 use Rattle.hg_pool.specs.Work.{IsUnused, CallsNone}
-use Rattle.hg_pool.specs.declared.frames.Frame.{Frame}
 use Rattle.hg_pool.specs.declared.store.Store.{Store}
 use Rattle.hg_pool.proofs.Passing.{place-set}
 

@@ -12,3 +12,4 @@ pub mod Passing
 pub mod Work
 pub mod Loans
 pub mod RoundLaws
+pub mod FrameLaws

@@ -1,11 +1,11 @@
 -- What contracts see of a pool: its devices and what it keeps of them.
-use Rattle.std.specs.Prelude.{◌≡◌, ℕ, Bool, length}
+use Rattle.std.specs.Prelude.{◌≡◌, ◌≢◌, ℕ, Bool, true, false, Option, None, Some, length}
 use Rattle.hg_io.specs.declared.device.PageDevice.{Ghosts}
 use Rattle.hg_base.specs.Space.{Space, key}
 use Rattle.hg_base.specs.declared.PageId.{PageId}
 use Rattle.hg_pool.specs.Disks.{Disks, disks_in}
 use Rattle.hg_pool.specs.Picture.{shown, picture_of, is_in, frame_at, place_at}
-use Rattle.hg_pool.specs.Round.{Round, round_in}
+use Rattle.hg_pool.specs.Round.{Round, IsNext, round_in}
 use Rattle.hg_pool.specs.Sound.{IsSound}
 use Rattle.hg_pool.specs.declared.PoolCounts.{PoolCounts}
 use Rattle.hg_pool.specs.declared.parts.Parts.{Parts}
@@ -36,6 +36,10 @@ module _ {M T : Type 0} where
   abbrev pub frame_of : Parts M T → PageId → ℕ
   frame_of s page = place_at s.store.places (key page)
 
+  -- the page of a frame, if it has one
+  abbrev pub page_in : Parts M T → ℕ → Option PageId
+  page_in s f = (frame_at s.store.frames.items f).page
+
   -- how many frames are in use
   abbrev pub current_of : Parts M T → ℕ
   current_of s = length s.store.frames.items
@@ -51,3 +55,39 @@ module _ {M T : Type 0} where
   pub record CalledNone (a b : Parts M T) : Type 0 where
     pub main : main_device b ≡ main_device a
     pub temp : temp_device b ≡ temp_device a
+
+  -- each page is in the frame that it was in, and no page came in, so that each frame has the page that it had
+  pub record SameFrames (a b : Parts M T) : Type 0 where
+    pub stay : (q : PageId) → in_frame a q ≡ true → (in_frame b q ≡ true) × (frame_of b q ≡ frame_of a q)
+    pub none_came : (q : PageId) → in_frame a q ≡ false → in_frame b q ≡ false
+    pub frames : (g : ℕ) → page_in b g ≡ page_in a g
+
+  -- the same of each page but this one
+  pub record SameFramesBut (a b : Parts M T) (page : PageId) : Type 0 where
+    pub stay : (q : PageId) → key q ≢ key page → in_frame a q ≡ true → (in_frame b q ≡ true) × (frame_of b q ≡ frame_of a q)
+    pub none_came : (q : PageId) → key q ≢ key page → in_frame a q ≡ false → in_frame b q ≡ false
+    pub frames : (g : ℕ) → page_in a g ≢ Some page → page_in b g ≡ page_in a g
+
+  -- each page that was in a frame other than f is in it, and no page came in, so that each other frame has the
+  -- page that it had
+  pub record KeepsFramesAll (a b : Parts M T) (f : ℕ) : Type 0 where
+    pub stay : (q : PageId) → in_frame a q ≡ true → frame_of a q ≢ f → (in_frame b q ≡ true) × (frame_of b q ≡ frame_of a q)
+    pub none_came : (q : PageId) → in_frame a q ≡ false → in_frame b q ≡ false
+    pub frames : (g : ℕ) → g ≢ f → page_in b g ≡ page_in a g
+
+  -- the same of each page but this one
+  pub record KeepsFrames (a b : Parts M T) (page : PageId) (f : ℕ) : Type 0 where
+    pub stay : (q : PageId) → key q ≢ key page → in_frame a q ≡ true → frame_of a q ≢ f → (in_frame b q ≡ true) × (frame_of b q ≡ frame_of a q)
+    pub none_came : (q : PageId) → key q ≢ key page → in_frame a q ≡ false → in_frame b q ≡ false
+    pub frames : (g : ℕ) → g ≢ f → page_in b g ≡ page_in a g
+
+  -- the page of the next frame left it at most: each other page is in the frame that it was in, and none came in
+  pub record ClearsNext (a b : Parts M T) : Type 0 where
+    pub frame : ℕ
+    pub next : IsNext (round_of a) frame
+    pub keeps : KeepsFramesAll a b frame
+
+  -- no page is in a frame
+  pub record NoneIn (s : Parts M T) : Type 0 where
+    pub frames : (f : ℕ) → page_in s f ≡ None
+    pub pages : (q : PageId) → in_frame s q ≡ false

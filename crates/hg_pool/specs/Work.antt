@@ -1,5 +1,5 @@
 -- How much a call of a pool asks of its devices. Our own rule: a count stops at 2^64 - 1.
-use Rattle.std.specs.Prelude.{◌≡◌, ℕ, ◌+◌, ◌<◌, ◌≤◌, Bool, true, false, Result, OnOk, IfErr}
+use Rattle.std.specs.Prelude.{◌≡◌, ℕ, ◌+◌, ◌<◌, ◌≤◌, Bool, true, false, Option, None, Some, Result, OnOk, IfErr}
 use Rattle.hg_io.specs.Count.{raised}
 use Rattle.hg_base.specs.Space.{Space, key_in}
 use Rattle.hg_base.specs.declared.PageId.{PageId}
@@ -39,3 +39,8 @@ pub record CallsNone {M T X E : Type 0} (main now_main : M) (temp now_temp : T) 
   pub main_same : now_main ≡ main
   pub temp_same : now_temp ≡ temp
   pub only_full : IfErr r (λ e. e ≡ full)
+
+-- the count of evictions after the page of a frame left it, if the frame had one
+abbrev pub evicted : Option PageId → ℕ → ℕ
+evicted None n = n
+evicted (Some page) n = raised n 1

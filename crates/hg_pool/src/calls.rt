@@ -5,13 +5,13 @@ use hg_base::{File, PageFault, PageId};
 use hg_io::PageDevice;
 
 impl<M: PageDevice, T: PageDevice> Parts<M, T> {
-    ghost use Rattle.std.specs.Prelude.{◌≡◌, ◌<◌, true, false, None, Some, OnOk, OnErr, IfOk, IfErr, IsErrOf, length};
+    ghost use Rattle.std.specs.Prelude.{◌≡◌, ◌<◌, ◌-◌, ◌^◌, true, false, None, Some, OnOk, OnErr, IfOk, IfErr, IsOk, IsErrOf, length};
     ghost use Rattle.hg_base.specs.Space.{key, IsPinned, IsMade, IsSame, IsFull, without_pin, without_page, with_next};
     ghost use Rattle.hg_base.specs.Causes.{HasCause, Later, Licensed, NoneFull, PinFault, FreshFault, full_fault};
     ghost use Rattle.hg_pool.specs.Picture.{frame_at, place_at, taken_at, is_pinned};
     ghost use Rattle.hg_pool.specs.Round.{Stays, ComesIn, PassesNext, without_out};
-    ghost use Rattle.hg_pool.specs.Shown.{state_of, IsWhole, in_frame, frame_of, round_of};
-    ghost use Rattle.hg_pool.specs.Work.{PinWork, FreshWork, IsLowest, IsUnused, CallsNone};
+    ghost use Rattle.hg_pool.specs.Shown.{state_of, IsWhole, in_frame, frame_of, page_in, round_of, SameFrames, SameFramesBut, KeepsFrames, ClearsNext};
+    ghost use Rattle.hg_pool.specs.Work.{PinWork, FreshWork, IsLowest, IsUnused, CallsNone, evicted};
 
     pub(crate) fn pin(&mut self, page: PageId) -> Result<(), PageFault>
         requires whole { IsWhole M.PageDevice T.PageDevice self.old }
@@ -31,6 +31,15 @@ impl<M: PageDevice, T: PageDevice> Parts<M, T> {
         ensures comes { OnOk result (in_frame self.old page ≡ false → ComesIn (round_of self.old) (round_of self.new) (frame_of self.new page)) }
         ensures passes_next { OnErr result (PassesNext (round_of self.old) (round_of self.new)) }
         ensures no_call { in_frame self.old page ≡ true → self.new.devices ≡ self.old.devices }
+        ensures stays_ok { in_frame self.old page ≡ true → IsOk result }
+        ensures keeps_frames { OnOk result (KeepsFrames self.old self.new page (frame_of self.new page)) }
+        ensures same_frames { in_frame self.old page ≡ true → SameFrames self.old self.new }
+        ensures err_frames { OnErr result (ClearsNext self.old self.new) }
+        ensures keeps_counts { in_frame self.old page ≡ true → self.new.store.counts ≡ self.old.store.counts }
+        ensures evicts { OnOk result (in_frame self.old page ≡ false → self.new.store.counts.evictions
+            ≡ evicted (page_in self.old (frame_of self.new page)) self.old.store.counts.evictions) }
+        ensures uncounted { self.new.store.counts ≡ self.old.store.counts → self.old.store.counts.reads < 2 ^ 64 - 1
+            → self.old.store.counts.writes < 2 ^ 64 - 1 → self.new.devices ≡ self.old.devices }
     {
         let at = self.bring(page)?;
         self.store.hold(at);
@@ -57,6 +66,14 @@ impl<M: PageDevice, T: PageDevice> Parts<M, T> {
         ensures passes_next { OnErr result ((IsFull (state_of M.PageDevice T.PageDevice self.old) file → ⊥) → PassesNext (round_of self.old) (round_of self.new)) }
         ensures unused { IsUnused (state_of M.PageDevice T.PageDevice self.old) → CallsNone self.old.devices.main self.new.devices.main
             self.old.devices.temp self.new.devices.temp result (full_fault file) }
+        ensures full_calls_none { IsFull (state_of M.PageDevice T.PageDevice self.old) file → self.new.devices ≡ self.old.devices }
+        ensures keeps_frames { IfOk result (λ page. KeepsFrames self.old self.new page (frame_of self.new page)) }
+        ensures err_frames { OnErr result (SameFrames self.old self.new) }
+        ensures evicts { IfOk result (λ page. self.new.store.counts.evictions
+            ≡ evicted (page_in self.old (frame_of self.new page)) self.old.store.counts.evictions) }
+        ensures none_evicted { OnErr result (self.new.store.counts.evictions ≡ self.old.store.counts.evictions) }
+        ensures uncounted { self.new.store.counts ≡ self.old.store.counts → self.old.store.counts.reads < 2 ^ 64 - 1
+            → self.old.store.counts.writes < 2 ^ 64 - 1 → self.new.devices ≡ self.old.devices }
     {
         if self.store.is_full(file) {
             return Err(self.full(file));
@@ -85,6 +102,7 @@ impl<M: PageDevice, T: PageDevice> Parts<M, T> {
         ensures counts { self.new.store.counts ≡ self.old.store.counts }
         ensures round { round_of self.new ≡ round_of self.old }
         ensures no_call { self.new.devices ≡ self.old.devices }
+        ensures frames { SameFrames self.old self.new }
     {
         match file {
             File::Main => {
@@ -114,6 +132,8 @@ impl<M: PageDevice, T: PageDevice> Parts<M, T> {
         ensures whole { IsWhole M.PageDevice T.PageDevice self.new }
         ensures after { state_of M.PageDevice T.PageDevice self.new ≡ without_pin (state_of M.PageDevice T.PageDevice self.old) (key page) }
         ensures round { round_of self.new ≡ without_out (round_of self.old) (frame_of self.old page) }
+        ensures frames { SameFrames self.old self.new }
+        ensures counts { self.new.store.counts ≡ self.old.store.counts }
         ensures no_call { self.new.devices ≡ self.old.devices }
     {
         let at = self.store.places.at(page);
@@ -127,6 +147,8 @@ impl<M: PageDevice, T: PageDevice> Parts<M, T> {
         ensures whole { IsWhole M.PageDevice T.PageDevice self.new }
         ensures after { state_of M.PageDevice T.PageDevice self.new ≡ without_page (state_of M.PageDevice T.PageDevice self.old) (key page) }
         ensures round { round_of self.new ≡ round_of self.old }
+        ensures frames { SameFramesBut self.old self.new page }
+        ensures counts { self.new.store.counts ≡ self.old.store.counts }
         ensures no_call { self.new.devices ≡ self.old.devices }
     {
         match self.store.find(page) {
@@ -144,6 +166,8 @@ impl<M: PageDevice, T: PageDevice> Parts<M, T> {
         ensures whole { IsWhole M.PageDevice T.PageDevice self.new }
         ensures after { state_of M.PageDevice T.PageDevice self.new ≡ with_next (state_of M.PageDevice T.PageDevice self.old) (key page) next }
         ensures round { round_of self.new ≡ round_of self.old }
+        ensures frames { SameFrames self.old self.new }
+        ensures counts { self.new.store.counts ≡ self.old.store.counts }
         ensures no_call { self.new.devices ≡ self.old.devices }
     {
         self.store.maps.set_next(page, next);

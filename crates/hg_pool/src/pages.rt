@@ -1,10 +1,24 @@
 //! A pool is a space of pages.
-ghost use Rattle.std.specs.Prelude.{◌≡◌, ◌<◌, true, false, IfOk, IfErr, OnOk, OnErr, IsErrOf};
+ghost use Rattle.std.specs.Prelude.{◌≡◌, ◌<◌, ◌-◌, ◌^◌, true, false, IfOk, IfErr, OnOk, OnErr, IsOk, IsErrOf};
 ghost use Rattle.hg_base.specs.Space.{key, IsPinned, IsMade, IsSame, IsFull, without_pin, without_page, with_next};
 ghost use Rattle.hg_base.specs.Causes.{HasCause, NoneFull, PinFault, FreshFault, full_fault};
 ghost use Rattle.hg_pool.specs.Round.{Stays, ComesIn, PassesNext, without_out};
-ghost use Rattle.hg_pool.specs.Shown.{state_of, in_frame, frame_of, counts_of_pool, round_of, main_device, temp_device, CalledNone};
-ghost use Rattle.hg_pool.specs.Work.{PinWork, FreshWork, IsLowest, IsUnused, CallsNone};
+ghost use Rattle.hg_pool.specs.Shown.{
+  state_of,
+  in_frame,
+  frame_of,
+  page_in,
+  counts_of_pool,
+  round_of,
+  main_device,
+  temp_device,
+  CalledNone,
+  SameFrames,
+  SameFramesBut,
+  KeepsFrames,
+  ClearsNext,
+};
+ghost use Rattle.hg_pool.specs.Work.{PinWork, FreshWork, IsLowest, IsUnused, CallsNone, evicted};
 
 use crate::Pool;
 use hg_base::{File, PageFault, PageId, Pages};
@@ -29,7 +43,8 @@ impl<M: PageDevice, T: PageDevice> Pages for Pool<M, T> {
 
     /// A page that is in no frame is read, once, into the frame that the round comes to next among
     /// those that no pin holds. A page whose bytes are newer than those on its device leaves that frame
-    /// only after a write that succeeded. After a fault each page is as it was.
+    /// only after a write that succeeded. After a fault each page is as it was. Pages in other frames
+    /// stay there, so that a pin of them succeeds and calls no device.
     fn pin(&mut self, page: PageId) -> Result<PoolPin, PageFault>
         requires taken { (state_of M.PageDevice T.PageDevice self.old).taken (key page) ≡ true }
         requires not_pinned { (state_of M.PageDevice T.PageDevice self.old).pinned (key page) ≡ false }
@@ -53,13 +68,22 @@ impl<M: PageDevice, T: PageDevice> Pages for Pool<M, T> {
         ensures comes { OnOk result (in_frame self.old page ≡ false → ComesIn (round_of self.old) (round_of self.new) (frame_of self.new page)) }
         ensures passes_next { OnErr result (PassesNext (round_of self.old) (round_of self.new)) }
         ensures calls_none { in_frame self.old page ≡ true → CalledNone self.old self.new }
+        ensures stays_ok { in_frame self.old page ≡ true → IsOk result }
+        ensures keeps_frames { OnOk result (KeepsFrames self.old self.new page (frame_of self.new page)) }
+        ensures same_frames { in_frame self.old page ≡ true → SameFrames self.old self.new }
+        ensures err_frames { OnErr result (ClearsNext self.old self.new) }
+        ensures keeps_counts { in_frame self.old page ≡ true → counts_of_pool self.new ≡ counts_of_pool self.old }
+        ensures evicts { OnOk result (in_frame self.old page ≡ false → (counts_of_pool self.new).evictions
+            ≡ evicted (page_in self.old (frame_of self.new page)) (counts_of_pool self.old).evictions) }
+        ensures uncounted { counts_of_pool self.new ≡ counts_of_pool self.old → (counts_of_pool self.old).reads < 2 ^ 64 - 1
+            → (counts_of_pool self.old).writes < 2 ^ 64 - 1 → CalledNone self.old self.new }
     {
         self.parts.pin(page)?;
         Ok(PoolPin { page })
     }
 
     /// It is the lowest page of its file that is not taken, and comes into the frame that `pin` would
-    /// bring a page into. Where the file is full no device is called.
+    /// bring a page into. Pages in other frames stay there. Where the file is full no device is called.
     fn fresh(&mut self, file: File) -> Result<PoolPin, PageFault>
         requires few { (state_of M.PageDevice T.PageDevice self.old).pins < 8 }
         ensures ok { IfOk result (λ pin. IsMade file (state_of M.PageDevice T.PageDevice self.old)
@@ -82,6 +106,14 @@ impl<M: PageDevice, T: PageDevice> Pages for Pool<M, T> {
         ensures passes_next { OnErr result ((IsFull (state_of M.PageDevice T.PageDevice self.old) file → ⊥) → PassesNext (round_of self.old) (round_of self.new)) }
         ensures unused { IsUnused (state_of M.PageDevice T.PageDevice self.old) → CallsNone (main_device self.old) (main_device self.new)
             (temp_device self.old) (temp_device self.new) result (full_fault file) }
+        ensures full_calls_none { IsFull (state_of M.PageDevice T.PageDevice self.old) file → CalledNone self.old self.new }
+        ensures keeps_frames { IfOk result (λ pin. KeepsFrames self.old self.new pin.page (frame_of self.new pin.page)) }
+        ensures err_frames { OnErr result (SameFrames self.old self.new) }
+        ensures evicts { IfOk result (λ pin. (counts_of_pool self.new).evictions
+            ≡ evicted (page_in self.old (frame_of self.new pin.page)) (counts_of_pool self.old).evictions) }
+        ensures none_evicted { OnErr result ((counts_of_pool self.new).evictions ≡ (counts_of_pool self.old).evictions) }
+        ensures uncounted { counts_of_pool self.new ≡ counts_of_pool self.old → (counts_of_pool self.old).reads < 2 ^ 64 - 1
+            → (counts_of_pool self.old).writes < 2 ^ 64 - 1 → CalledNone self.old self.new }
     {
         let page = self.parts.fresh(file)?;
         Ok(PoolPin { page })
@@ -107,6 +139,8 @@ impl<M: PageDevice, T: PageDevice> Pages for Pool<M, T> {
         requires { (state_of M.PageDevice T.PageDevice self.old).pinned (key pin.page) ≡ true }
         ensures after { state_of M.PageDevice T.PageDevice self.new ≡ without_pin (state_of M.PageDevice T.PageDevice self.old) (key pin.page) }
         ensures round { round_of self.new ≡ without_out (round_of self.old) (frame_of self.old pin.page) }
+        ensures frames { SameFrames self.old self.new }
+        ensures counts { counts_of_pool self.new ≡ counts_of_pool self.old }
         ensures calls_none { CalledNone self.old self.new }
     {
         let PoolPin { page } = pin;
@@ -119,6 +153,8 @@ impl<M: PageDevice, T: PageDevice> Pages for Pool<M, T> {
         requires no_heap { (state_of M.PageDevice T.PageDevice self.old).of_heap (key page) ≡ false }
         ensures after { state_of M.PageDevice T.PageDevice self.new ≡ without_page (state_of M.PageDevice T.PageDevice self.old) (key page) }
         ensures round { round_of self.new ≡ round_of self.old }
+        ensures frames { SameFramesBut self.old self.new page }
+        ensures counts { counts_of_pool self.new ≡ counts_of_pool self.old }
         ensures calls_none { CalledNone self.old self.new }
     {
         self.parts.release(page);
@@ -133,6 +169,8 @@ impl<M: PageDevice, T: PageDevice> Pages for Pool<M, T> {
         requires no_heap { (state_of M.PageDevice T.PageDevice self.old).of_heap (key page) ≡ false }
         ensures after { state_of M.PageDevice T.PageDevice self.new ≡ with_next (state_of M.PageDevice T.PageDevice self.old) (key page) next }
         ensures round { round_of self.new ≡ round_of self.old }
+        ensures frames { SameFrames self.old self.new }
+        ensures counts { counts_of_pool self.new ≡ counts_of_pool self.old }
         ensures calls_none { CalledNone self.old self.new }
     {
         self.parts.set_next(page, next);

@@ -12,15 +12,15 @@ pub(crate) struct Parts<M, T> {
 }
 
 impl<M: PageDevice, T: PageDevice> Parts<M, T> {
-    ghost use Rattle.std.specs.Prelude.{◌≡◌, ◌<◌, true, false, Ok, None, Some, OnOk, OnErr, IfOk, length};
+    ghost use Rattle.std.specs.Prelude.{◌≡◌, ◌<◌, ◌-◌, ◌^◌, true, false, Ok, None, Some, OnOk, OnErr, IfOk, IsOk, length};
     ghost use Rattle.hg_io.specs.Count.{raised};
     ghost use Rattle.hg_base.specs.Space.{key};
     ghost use Rattle.hg_pool.specs.Picture.{frame_at, place_at, taken_at};
     ghost use Rattle.hg_pool.specs.Keeping.{is_inside, IsFoundAt};
-    ghost use Rattle.hg_pool.specs.Shown.{IsWhole};
+    ghost use Rattle.hg_pool.specs.Shown.{IsWhole, page_in, SameFrames, KeepsFramesAll, KeepsFrames, ClearsNext};
     ghost use Rattle.hg_pool.specs.Passing.{PassesParts, Clears, IsClean, IsRoom, AreEmpty, Reaches};
     ghost use Rattle.hg_pool.specs.Round.{PassesNext, round_in};
-    ghost use Rattle.hg_pool.specs.Work.{RoseOnce, PinWork};
+    ghost use Rattle.hg_pool.specs.Work.{RoseOnce, PinWork, evicted};
 
     /// Writes the frame's page to its device.
     fn write_back(&mut self, at: usize, page: PageId) -> Result<(), PageFault>
@@ -35,6 +35,9 @@ impl<M: PageDevice, T: PageDevice> Parts<M, T> {
         ensures round { round_in self.new.store ≡ round_in self.old.store }
         ensures writes { RoseOnce self.old.store.counts.writes self.new.store.counts.writes }
         ensures evictions { self.new.store.counts.evictions ≡ self.old.store.counts.evictions }
+        ensures page { page_in self.new at ≡ page_in self.old at }
+        ensures frames { SameFrames self.old self.new }
+        ensures written { self.new.store.counts.writes ≡ raised self.old.store.counts.writes 1 }
     {
         self.store.count_write();
         match self
@@ -65,6 +68,10 @@ impl<M: PageDevice, T: PageDevice> Parts<M, T> {
         ensures no_fault { OnErr result ((frame_at self.old.store.frames.items at).page ≡ None → ⊥) }
         ensures writes { RoseOnce self.old.store.counts.writes self.new.store.counts.writes }
         ensures evictions { self.new.store.counts.evictions ≡ self.old.store.counts.evictions }
+        ensures page { page_in self.new at ≡ page_in self.old at }
+        ensures frames { SameFrames self.old self.new }
+        ensures uncounted { self.new.store.counts.writes ≡ self.old.store.counts.writes → self.old.store.counts.writes < 2 ^ 64 - 1
+            → self.new.devices ≡ self.old.devices }
     {
         match self.store.unwritten(at) {
             Some(page) => self.write_back(at, page),
@@ -85,6 +92,8 @@ impl<M: PageDevice, T: PageDevice> Parts<M, T> {
         ensures no_call { self.new.devices ≡ self.old.devices }
         ensures writes { self.new.store.counts.writes ≡ self.old.store.counts.writes }
         ensures evictions { RoseOnce self.old.store.counts.evictions self.new.store.counts.evictions }
+        ensures keeps { KeepsFramesAll self.old self.new at }
+        ensures evicts { self.new.store.counts.evictions ≡ evicted (page_in self.old at) self.old.store.counts.evictions }
     {
         if self.store.frames[at].page.is_none() {
             return;
@@ -106,6 +115,12 @@ impl<M: PageDevice, T: PageDevice> Parts<M, T> {
         ensures no_fault { OnErr result (AreEmpty self.old.store → ⊥) }
         ensures writes { RoseOnce self.old.store.counts.writes self.new.store.counts.writes }
         ensures evictions { RoseOnce self.old.store.counts.evictions self.new.store.counts.evictions }
+        ensures keeps { IfOk result (λ f. KeepsFramesAll self.old self.new f) }
+        ensures err_frames { OnErr result (SameFrames self.old self.new) }
+        ensures evicts { IfOk result (λ f. self.new.store.counts.evictions ≡ evicted (page_in self.old f) self.old.store.counts.evictions) }
+        ensures none_evicted { OnErr result (self.new.store.counts.evictions ≡ self.old.store.counts.evictions) }
+        ensures uncounted { self.new.store.counts.writes ≡ self.old.store.counts.writes → self.old.store.counts.writes < 2 ^ 64 - 1
+            → self.new.devices ≡ self.old.devices }
     {
         let at = self.store.victim();
         self.clean(at)?;
@@ -126,6 +141,8 @@ impl<M: PageDevice, T: PageDevice> Parts<M, T> {
         ensures round { round_in self.new.store ≡ round_in self.old.store }
         ensures read { self.new.store.counts ≡ record self.old.store.counts { reads = raised self.old.store.counts.reads 1 } }
         ensures once { RoseOnce self.old.store.counts.reads self.new.store.counts.reads }
+        ensures fills { OnOk result (KeepsFrames self.old self.new page at) }
+        ensures err_frames { OnErr result (SameFrames self.old self.new) }
     {
         self.store.count_read();
         let frame = &mut self.store.frames[at];
@@ -158,6 +175,15 @@ impl<M: PageDevice, T: PageDevice> Parts<M, T> {
         ensures passes_next { OnErr result (PassesNext (round_in self.old.store) (round_in self.new.store)) }
         ensures work { PinWork (is_inside self.old.store (key page)) self.old.store.counts self.new.store.counts result }
         ensures no_call { is_inside self.old.store (key page) ≡ true → self.new.devices ≡ self.old.devices }
+        ensures stays_ok { is_inside self.old.store (key page) ≡ true → IsOk result }
+        ensures keeps_frames { IfOk result (λ f. KeepsFrames self.old self.new page f) }
+        ensures err_frames { OnErr result (ClearsNext self.old self.new) }
+        ensures keeps_counts { is_inside self.old.store (key page) ≡ true → self.new.store.counts ≡ self.old.store.counts }
+        ensures same_frames { is_inside self.old.store (key page) ≡ true → SameFrames self.old self.new }
+        ensures evicts { IfOk result (λ f. is_inside self.old.store (key page) ≡ false
+            → self.new.store.counts.evictions ≡ evicted (page_in self.old f) self.old.store.counts.evictions) }
+        ensures uncounted { self.new.store.counts ≡ self.old.store.counts → self.old.store.counts.reads < 2 ^ 64 - 1
+            → self.old.store.counts.writes < 2 ^ 64 - 1 → self.new.devices ≡ self.old.devices }
     {
         if let Some(at) = self.store.find(page) {
             return Ok(at);

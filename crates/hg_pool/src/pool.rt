@@ -34,7 +34,7 @@ impl<M: PageDevice, T: PageDevice> Pool<M, T> {
     ghost use Rattle.hg_base.specs.Space.{NoPins};
     ghost use Rattle.hg_pool.specs.Disks.{disk_of};
     ghost use Rattle.hg_pool.specs.Opening.{IsPossible, new_space, no_counts};
-    ghost use Rattle.hg_pool.specs.Shown.{state_of, main_device, temp_device, current_of, counts_of_pool, round_of};
+    ghost use Rattle.hg_pool.specs.Shown.{state_of, main_device, temp_device, current_of, counts_of_pool, round_of, NoneIn};
     ghost use Rattle.hg_pool.specs.Round.{first_round};
 
     /// Reserves the frames and the page maps, and opens a pool in which no page is taken. The only error
@@ -46,6 +46,7 @@ impl<M: PageDevice, T: PageDevice> Pool<M, T> {
         ensures no_pins { IfOk result (λ pool. NoPins (state_of M.PageDevice T.PageDevice pool)) }
         ensures counts { IfOk result (λ pool. counts_of_pool pool ≡ no_counts) }
         ensures round { IfOk result (λ pool. round_of pool ≡ first_round config.now.pool) }
+        ensures none_in { IfOk result (λ pool. NoneIn pool) }
         ensures main { IfOk result (λ pool. main_device pool ≡ main) }
         ensures temp { IfOk result (λ pool. temp_device pool ≡ temp) }
         ensures handed_back { IfErr result (λ devices. devices ≡ record { 0 = main; 1 = temp }) }

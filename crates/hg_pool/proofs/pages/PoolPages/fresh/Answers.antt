@@ -10,6 +10,9 @@ use Rattle.hg_pool.specs.Work.{IsUnused, CallsNone}
 use Rattle.hg_pool.specs.declared.parts.Parts.{Parts}
 use Rattle.hg_pool.specs.declared.pages.PoolPin.{PoolPin}
 use Rattle.hg_pool.proofs.Rounds.{calls-none-ok, calls-none-err}
+use Rattle.std.proofs.Common.{◌<◌, ◌-◌, ◌^◌}
+use Rattle.hg_pool.specs.Shown.{page_in, SameFrames, KeepsFrames}
+use Rattle.hg_pool.specs.Work.{evicted}
 use Rattle.hg_pool.proofs.pages.PoolPages.fresh.Goals as goal
 
 pub returns-in_err-page-clause-err : goal.returns-in_err-page-clause-err
@@ -77,3 +80,65 @@ returns-clause-unused g c =
     → CallsNone (main_device s) (main_device new) (temp_device s) (temp_device new) (Ok page) (full_fault c.args.file) in
     λ unused. calls-none-ok (main_device c.args.self.now) (main_device new) (temp_device c.args.self.now) (temp_device new) page pin (full_fault c.args.file)
     (subst P c.self.view_is c.in_ok-page.ensures.unused unused)
+
+pub returns-clause-keeps_frames : goal.returns-clause-keeps_frames
+returns-clause-keeps_frames g c =
+    let P : Parts g.row.M.Denot g.row.T.Denot → Type 0 = λ s. KeepsFrames s c.fresh.new.self c.in_ok-page.page (frame_of c.fresh.new.self c.in_ok-page.page) in
+    subst P c.self.view_is c.in_ok-page.ensures.keeps_frames
+
+pub returns-in_err-page-clause-err_frames : goal.returns-in_err-page-clause-err_frames
+returns-in_err-page-clause-err_frames g c =
+    let p = err_from_is_err_and c.from_residual.result c.from_residual.ensures.1 in
+    let P : Parts g.row.M.Denot g.row.T.Denot → Type 0 = λ s. SameFrames s c.fresh.new.self in
+    let Q : Result PoolPin PageFault → Type 0 = λ r. OnErr r (P c.args.self.now) in
+    subst Q (sym p.1) (subst P c.self.view_is c.in_err-page.ensures.err_frames)
+
+pub returns-clause-evicts : goal.returns-clause-evicts
+returns-clause-evicts g c =
+    let P : Parts g.row.M.Denot g.row.T.Denot → Type 0 = λ s. (counts_of_pool c.fresh.new.self).evictions ≡ evicted (page_in s (frame_of c.fresh.new.self c.in_ok-page.page)) (counts_of_pool s).evictions in
+    subst P c.self.view_is c.in_ok-page.ensures.evicts
+
+pub returns-in_err-page-clause-none_evicted : goal.returns-in_err-page-clause-none_evicted
+returns-in_err-page-clause-none_evicted g c =
+    let p = err_from_is_err_and c.from_residual.result c.from_residual.ensures.1 in
+    let P : Parts g.row.M.Denot g.row.T.Denot → Type 0 = λ s. (counts_of_pool c.fresh.new.self).evictions ≡ (counts_of_pool s).evictions in
+    let Q : Result PoolPin PageFault → Type 0 = λ r. OnErr r (P c.args.self.now) in
+    subst Q (sym p.1) (subst P c.self.view_is c.in_err-page.ensures.none_evicted)
+
+pub returns-clause-uncounted : goal.returns-clause-uncounted
+returns-clause-uncounted g c =
+    let new : Parts g.row.M.Denot g.row.T.Denot = c.fresh.new.self in
+    let P : Parts g.row.M.Denot g.row.T.Denot → Type 0 = λ s. counts_of_pool new ≡ counts_of_pool s → (counts_of_pool s).reads < 2 ^ 64 - 1
+    → (counts_of_pool s).writes < 2 ^ 64 - 1 → new.devices ≡ s.devices in
+    λ same reads writes. let devices = subst P c.self.view_is c.in_ok-page.ensures.uncounted same reads writes in record {
+      main = ap (λ d. d.main) devices;
+      temp = ap (λ d. d.temp) devices;
+    }
+
+pub returns-in_err-page-clause-uncounted : goal.returns-in_err-page-clause-uncounted
+returns-in_err-page-clause-uncounted g c =
+    let new : Parts g.row.M.Denot g.row.T.Denot = c.fresh.new.self in
+    let P : Parts g.row.M.Denot g.row.T.Denot → Type 0 = λ s. counts_of_pool new ≡ counts_of_pool s → (counts_of_pool s).reads < 2 ^ 64 - 1
+    → (counts_of_pool s).writes < 2 ^ 64 - 1 → new.devices ≡ s.devices in
+    λ same reads writes. let devices = subst P c.self.view_is c.in_err-page.ensures.uncounted same reads writes in record {
+      main = ap (λ d. d.main) devices;
+      temp = ap (λ d. d.temp) devices;
+    }
+
+pub returns-clause-full_calls_none : goal.returns-clause-full_calls_none
+returns-clause-full_calls_none g c =
+    let new : Parts g.row.M.Denot g.row.T.Denot = c.fresh.new.self in
+    let P : Parts g.row.M.Denot g.row.T.Denot → Type 0 = λ s. IsFull (state_of g.M.PageDevice g.T.PageDevice s) c.args.file → new.devices ≡ s.devices in
+    λ full. let devices = subst P c.self.view_is c.in_ok-page.ensures.full_calls_none full in record {
+      main = ap (λ d. d.main) devices;
+      temp = ap (λ d. d.temp) devices;
+    }
+
+pub returns-in_err-page-clause-full_calls_none : goal.returns-in_err-page-clause-full_calls_none
+returns-in_err-page-clause-full_calls_none g c =
+    let new : Parts g.row.M.Denot g.row.T.Denot = c.fresh.new.self in
+    let P : Parts g.row.M.Denot g.row.T.Denot → Type 0 = λ s. IsFull (state_of g.M.PageDevice g.T.PageDevice s) c.args.file → new.devices ≡ s.devices in
+    λ full. let devices = subst P c.self.view_is c.in_err-page.ensures.full_calls_none full in record {
+      main = ap (λ d. d.main) devices;
+      temp = ap (λ d. d.temp) devices;
+    }

@@ -6,6 +6,9 @@ use Rattle.hg_pool.specs.Round.{Stays, ComesIn, PassesNext}
 use Rattle.hg_pool.specs.Shown.{state_of, in_frame, frame_of, round_of}
 use Rattle.hg_pool.specs.declared.parts.Parts.{Parts}
 use Rattle.hg_pool.specs.declared.pages.PoolPin.{PoolPin}
+use Rattle.std.proofs.Common.{◌<◌, ◌-◌, ◌^◌, ap}
+use Rattle.hg_pool.specs.Shown.{page_in, counts_of_pool, SameFrames, KeepsFrames, ClearsNext}
+use Rattle.hg_pool.specs.Work.{evicted}
 use Rattle.hg_pool.proofs.pages.PoolPages.pin.Goals as goal
 
 pub returns-in_err-pin-clause-err : goal.returns-in_err-pin-clause-err
@@ -38,3 +41,60 @@ returns-clause-comes g c =
     let page = c.args.page in
     let P : Parts g.row.M.Denot g.row.T.Denot → Type 0 = λ s. in_frame s page ≡ false → ComesIn (round_of s) (round_of c.pin.new.self) (frame_of c.pin.new.self page) in
     subst P c.self.view_is c.in_ok-pin.ensures.comes
+
+pub returns-clause-keeps_frames : goal.returns-clause-keeps_frames
+returns-clause-keeps_frames g c =
+    let P : Parts g.row.M.Denot g.row.T.Denot → Type 0 = λ s. KeepsFrames s c.pin.new.self c.args.page (frame_of c.pin.new.self c.args.page) in
+    subst P c.self.view_is c.in_ok-pin.ensures.keeps_frames
+
+pub returns-clause-same_frames : goal.returns-clause-same_frames
+returns-clause-same_frames g c =
+    let P : Parts g.row.M.Denot g.row.T.Denot → Type 0 = λ s. in_frame s c.args.page ≡ true → SameFrames s c.pin.new.self in
+    subst P c.self.view_is c.in_ok-pin.ensures.same_frames
+
+pub returns-in_err-pin-clause-same_frames : goal.returns-in_err-pin-clause-same_frames
+returns-in_err-pin-clause-same_frames g c =
+    let P : Parts g.row.M.Denot g.row.T.Denot → Type 0 = λ s. in_frame s c.args.page ≡ true → SameFrames s c.pin.new.self in
+    subst P c.self.view_is c.in_err-pin.ensures.same_frames
+
+pub returns-in_err-pin-clause-err_frames : goal.returns-in_err-pin-clause-err_frames
+returns-in_err-pin-clause-err_frames g c =
+    let p = err_from_is_err_and c.from_residual.result c.from_residual.ensures.1 in
+    let P : Parts g.row.M.Denot g.row.T.Denot → Type 0 = λ s. ClearsNext s c.pin.new.self in
+    let Q : Result PoolPin PageFault → Type 0 = λ r. OnErr r (P c.args.self.now) in
+    subst Q (sym p.1) (subst P c.self.view_is c.in_err-pin.ensures.err_frames)
+
+pub returns-clause-keeps_counts : goal.returns-clause-keeps_counts
+returns-clause-keeps_counts g c =
+    let P : Parts g.row.M.Denot g.row.T.Denot → Type 0 = λ s. in_frame s c.args.page ≡ true → counts_of_pool c.pin.new.self ≡ counts_of_pool s in
+    subst P c.self.view_is c.in_ok-pin.ensures.keeps_counts
+
+pub returns-in_err-pin-clause-keeps_counts : goal.returns-in_err-pin-clause-keeps_counts
+returns-in_err-pin-clause-keeps_counts g c =
+    let P : Parts g.row.M.Denot g.row.T.Denot → Type 0 = λ s. in_frame s c.args.page ≡ true → counts_of_pool c.pin.new.self ≡ counts_of_pool s in
+    subst P c.self.view_is c.in_err-pin.ensures.keeps_counts
+
+pub returns-clause-evicts : goal.returns-clause-evicts
+returns-clause-evicts g c =
+    let P : Parts g.row.M.Denot g.row.T.Denot → Type 0 = λ s. in_frame s c.args.page ≡ false → (counts_of_pool c.pin.new.self).evictions ≡ evicted (page_in s (frame_of c.pin.new.self c.args.page)) (counts_of_pool s).evictions in
+    subst P c.self.view_is c.in_ok-pin.ensures.evicts
+
+pub returns-clause-uncounted : goal.returns-clause-uncounted
+returns-clause-uncounted g c =
+    let new : Parts g.row.M.Denot g.row.T.Denot = c.pin.new.self in
+    let P : Parts g.row.M.Denot g.row.T.Denot → Type 0 = λ s. counts_of_pool new ≡ counts_of_pool s → (counts_of_pool s).reads < 2 ^ 64 - 1
+    → (counts_of_pool s).writes < 2 ^ 64 - 1 → new.devices ≡ s.devices in
+    λ same reads writes. let devices = subst P c.self.view_is c.in_ok-pin.ensures.uncounted same reads writes in record {
+      main = ap (λ d. d.main) devices;
+      temp = ap (λ d. d.temp) devices;
+    }
+
+pub returns-in_err-pin-clause-uncounted : goal.returns-in_err-pin-clause-uncounted
+returns-in_err-pin-clause-uncounted g c =
+    let new : Parts g.row.M.Denot g.row.T.Denot = c.pin.new.self in
+    let P : Parts g.row.M.Denot g.row.T.Denot → Type 0 = λ s. counts_of_pool new ≡ counts_of_pool s → (counts_of_pool s).reads < 2 ^ 64 - 1
+    → (counts_of_pool s).writes < 2 ^ 64 - 1 → new.devices ≡ s.devices in
+    λ same reads writes. let devices = subst P c.self.view_is c.in_err-pin.ensures.uncounted same reads writes in record {
+      main = ap (λ d. d.main) devices;
+      temp = ap (λ d. d.temp) devices;
+    }

@@ -1,7 +1,18 @@
 use Rattle.std.proofs.Common.{◌∙◌, ap}
 use Rattle.hg_base.specs.Space.{key, with_next}
 use Rattle.hg_pool.specs.Shown.{state_of}
+use Rattle.std.proofs.Common.{subst}
+use Rattle.hg_pool.specs.declared.parts.Parts.{Parts}
+use Rattle.hg_pool.specs.Shown.{SameFrames, counts_of_pool}
 use Rattle.hg_pool.proofs.pages.PoolPages.set_next.Goals as goal
 
 pub returns-clause-after : goal.returns-clause-after
 returns-clause-after g c = c.set_next.ensures.after ∙ ap (λ s. with_next (state_of g.M.PageDevice g.T.PageDevice s) (key c.args.page) c.args.next) c.self.view_is
+
+pub returns-clause-frames : goal.returns-clause-frames
+returns-clause-frames g c =
+    let P : Parts g.row.M.Denot g.row.T.Denot → Type 0 = λ s. SameFrames s c.set_next.new.self in
+    subst P c.self.view_is c.set_next.ensures.frames
+
+pub returns-clause-counts : goal.returns-clause-counts
+returns-clause-counts g c = c.set_next.ensures.counts ∙ ap (λ s. counts_of_pool s) c.self.view_is

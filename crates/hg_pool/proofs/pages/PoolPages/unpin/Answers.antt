@@ -2,6 +2,9 @@ use Rattle.std.proofs.Common.{◌∙◌, ap}
 use Rattle.hg_base.specs.Space.{key, without_pin}
 use Rattle.hg_pool.specs.Round.{without_out}
 use Rattle.hg_pool.specs.Shown.{state_of, round_of, frame_of}
+use Rattle.std.proofs.Common.{subst}
+use Rattle.hg_pool.specs.declared.parts.Parts.{Parts}
+use Rattle.hg_pool.specs.Shown.{SameFrames, counts_of_pool}
 use Rattle.hg_pool.proofs.pages.PoolPages.unpin.Goals as goal
 
 pub returns-clause-after : goal.returns-clause-after
@@ -9,3 +12,11 @@ returns-clause-after g c = c.unpin.ensures.after ∙ ap (λ s. without_pin (stat
 
 pub returns-clause-round : goal.returns-clause-round
 returns-clause-round g c = c.unpin.ensures.round ∙ ap (λ s. without_out (round_of s) (frame_of s c.args.pin.page)) c.self.view_is
+
+pub returns-clause-frames : goal.returns-clause-frames
+returns-clause-frames g c =
+    let P : Parts g.row.M.Denot g.row.T.Denot → Type 0 = λ s. SameFrames s c.unpin.new.self in
+    subst P c.self.view_is c.unpin.ensures.frames
+
+pub returns-clause-counts : goal.returns-clause-counts
+returns-clause-counts g c = c.unpin.ensures.counts ∙ ap (λ s. counts_of_pool s) c.self.view_is

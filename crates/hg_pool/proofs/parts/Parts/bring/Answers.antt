@@ -5,6 +5,10 @@ use Rattle.hg_pool.specs.Passing.{Passes}
 use Rattle.hg_pool.specs.declared.store.Store.{Store}
 use Rattle.std.proofs.lemmas.Result.{err_from_is_err_and}
 use Rattle.hg_pool.proofs.Passing.{passes-then, passes-err, passes-ok}
+use Rattle.std.proofs.Common.{OnErr}
+use Rattle.hg_pool.specs.Shown.{ClearsNext}
+use Rattle.hg_pool.specs.declared.parts.Parts.{Parts}
+use Rattle.hg_pool.proofs.Staying.{same-keeps, keeps-then-same}
 use Rattle.hg_pool.proofs.parts.Parts.bring.Goals as goal
 
 pub returns-in_err-load-clause-passes : goal.returns-in_err-load-clause-passes
@@ -29,3 +33,22 @@ returns-clause-passes g c =
     let u : Unit {0} = tt in
     passes-then d e k s c.room.new.self.store c.load.new.self.store (Ok c.in_ok-at.at) (Ok c.in_ok-at.at) c.in_ok-at.ensures.passes
     (passes-ok e k c.room.new.self.store c.load.new.self.store u c.in_ok-at.at c.in_ok-load.ensures.passes)
+
+pub returns-in_err-at-clause-err_frames : goal.returns-in_err-at-clause-err_frames
+returns-in_err-at-clause-err_frames g c =
+    let a : Parts g.row.M.Denot g.row.T.Denot = c.args.self.now in
+    let b : Parts g.row.M.Denot g.row.T.Denot = c.room.new.self in
+    let p = err_from_is_err_and c.from_residual.result c.from_residual.ensures.1 in
+    let passed = c.in_err-at.ensures.passes_next in
+    let P : Result ℕ PageFault → Type 0 = λ r. OnErr r (ClearsNext a b) in
+    subst P (sym p.1) (record { frame = passed.frame; next = passed.next; keeps = same-keeps a b passed.frame c.in_err-at.ensures.err_frames })
+
+pub returns-in_err-load-clause-err_frames : goal.returns-in_err-load-clause-err_frames
+returns-in_err-load-clause-err_frames g c =
+    let a : Parts g.row.M.Denot g.row.T.Denot = c.args.self.now in
+    let m : Parts g.row.M.Denot g.row.T.Denot = c.room.new.self in
+    let b : Parts g.row.M.Denot g.row.T.Denot = c.load.new.self in
+    let f : ℕ = c.in_ok-at.at in
+    let p = err_from_is_err_and c.from_residual-in_err-load.result c.from_residual-in_err-load.ensures.1 in
+    let P : Result ℕ PageFault → Type 0 = λ r. OnErr r (ClearsNext a b) in
+    subst P (sym p.1) (record { frame = f; next = c.in_ok-at.ensures.reaches.next; keeps = keeps-then-same a m b f c.in_ok-at.ensures.keeps c.in_err-load.ensures.err_frames })

@@ -7,6 +7,9 @@ use Rattle.hg_pool.specs.declared.store.Store.{Store}
 use Rattle.hg_pool.proofs.Passing.{cleared, recounted}
 use Rattle.hg_pool.specs.Round.{round_in}
 use Rattle.hg_pool.specs.RoundLaws.{round-same}
+use Rattle.hg_pool.specs.declared.parts.Parts.{Parts}
+use Rattle.hg_pool.specs.declared.frames.Frame.{Frame}
+use Rattle.hg_pool.proofs.Staying.{frame-emptied}
 use Rattle.hg_pool.proofs.parts.Parts.empty.Goals as goal
 
 pub returns-clause-passes : goal.returns-clause-passes
@@ -26,3 +29,14 @@ returns-clause-round g c =
     let i : ℕ = c.args.at in
     ap round_in c.count_eviction.ensures.counted ∙ ap round_in c.set_empty.ensures
     ∙ round-same s i (record (frame_at s.frames.items i) { page = None }) c.requires.there refl
+
+pub returns-clause-keeps : goal.returns-clause-keeps
+returns-clause-keeps g c =
+    let a : Parts g.row.M.Denot g.row.T.Denot = c.args.self.now in
+    let b : Parts g.row.M.Denot g.row.T.Denot = record a { store = c.count_eviction.new.self } in
+    let s : Store = a.store in
+    let i : ℕ = c.args.at in
+    let x : Frame = record (frame_at s.frames.items i) { page = None } in
+    let after : c.count_eviction.new.self ≡ record (with_frame s i x) { counts = c.count_eviction.new.self.counts } =
+    recounted c.count_eviction.new.self c.set_empty.new.self _ c.count_eviction.ensures.counted ∙ ap (λ (y : Store). record y { counts = c.count_eviction.new.self.counts }) c.set_empty.ensures in
+    frame-emptied a b i x c.requires.there refl (ap (λ (z : Store). z.frames.items) after) (ap (λ (z : Store). z.places) after)

@@ -15,6 +15,11 @@ use Rattle.hg_pool.specs.Round.{PassesNext, with_out, round_in}
 use Rattle.hg_pool.proofs.Ranges.{free-place}
 use Rattle.hg_pool.specs.RoundLaws.{round-held}
 use Rattle.hg_pool.proofs.Rounds.{comes-in, noted-place, all-empty}
+use Rattle.hg_pool.specs.Shown.{frame_of, page_in, SameFrames, KeepsFrames}
+use Rattle.hg_pool.specs.Work.{evicted}
+use Rattle.hg_pool.specs.declared.parts.Parts.{Parts}
+use Rattle.hg_pool.proofs.Passing.{place-set}
+use Rattle.hg_pool.proofs.Staying.{frame-filled, keeps-then-but}
 use Rattle.hg_pool.proofs.parts.Parts.fresh.Goals as goal
 
 pub unreachable-requires : goal.unreachable-requires
@@ -98,3 +103,43 @@ returns-in_err-at-clause-unused g c =
     let s : Store = c.args.self.now.store in
     let d : Disks = disks_in g.M.PageDevice g.T.PageDevice c.args.self.now.devices in
     λ unused. absurd (c.in_err-at.ensures.no_fault (all-empty d s c.requires.whole unused))
+
+pub returns-clause-keeps_frames : goal.returns-clause-keeps_frames
+returns-clause-keeps_frames g c =
+    let a : Parts g.row.M.Denot g.row.T.Denot = c.args.self.now in
+    let m : Parts g.row.M.Denot g.row.T.Denot = c.room.new.self in
+    let b : Parts g.row.M.Denot g.row.T.Denot = record m { store = c.set_new.new.self } in
+    let z : Store = m.store in
+    let i : ℕ = c.in_ok-at.at in
+    let room = c.in_ok-at.ensures.room in
+    let page : PageId = record { file = c.args.file; no = c.in-Some.no } in
+    let in_range : c.in-Some.no < places_in z.places c.args.file = free-place z c.take.new.self c.args.file c.in-Some.no c.in_ok-at.ensures.passes.whole.shape c.in-Some.ensures.some in
+    let place : frame_of b page ≡ i = ap (λ (y : Store). place_at y.places (key page)) c.set_new.ensures ∙ noted-place z page i in_range in
+    let fills : KeepsFrames m b page i = frame-filled m b page i (new_frame page) room.there room.none refl
+    (ap (λ (y : Store). y.frames.items) c.set_new.ensures) (ap (λ (y : Store). place_at y.places) c.set_new.ensures ∙ place-set z.places page i in_range) in
+    let P : ℕ → Type 0 = λ k. KeepsFrames a b page k in
+    subst P (sym place) (keeps-then-but a m b page i c.in_ok-at.ensures.keeps fills)
+
+pub returns-clause-evicts : goal.returns-clause-evicts
+returns-clause-evicts g c =
+    let a : Parts g.row.M.Denot g.row.T.Denot = c.args.self.now in
+    let z : Store = c.room.new.self.store in
+    let i : ℕ = c.in_ok-at.at in
+    let page : PageId = record { file = c.args.file; no = c.in-Some.no } in
+    let in_range : c.in-Some.no < places_in z.places c.args.file = free-place z c.take.new.self c.args.file c.in-Some.no c.in_ok-at.ensures.passes.whole.shape c.in-Some.ensures.some in
+    let place : place_at c.set_new.new.self.places (key page) ≡ i = ap (λ (y : Store). place_at y.places (key page)) c.set_new.ensures ∙ noted-place z page i in_range in
+    ap (λ (y : Store). y.counts.evictions) c.set_new.ensures ∙ c.in_ok-at.ensures.evicts
+    ∙ ap (λ (k : ℕ). evicted (page_in a k) a.store.counts.evictions) (sym place)
+
+pub returns-clause-uncounted : goal.returns-clause-uncounted
+returns-clause-uncounted g c =
+    λ same reads writes. c.in_ok-at.ensures.uncounted (sym (ap (λ (y : Store). y.counts.writes) c.set_new.ensures) ∙ ap (λ n. n.writes) same) writes
+
+pub returns-in_err-at-clause-uncounted : goal.returns-in_err-at-clause-uncounted
+returns-in_err-at-clause-uncounted g c = λ same reads writes. c.in_err-at.ensures.uncounted (ap (λ n. n.writes) same) writes
+
+pub returns-in_err-at-clause-err_frames : goal.returns-in_err-at-clause-err_frames
+returns-in_err-at-clause-err_frames g c =
+    let p = err_from_is_err_and c.from_residual.result c.from_residual.ensures.1 in
+    let P : Result PageId PageFault → Type 0 = λ r. OnErr r (SameFrames c.args.self.now c.room.new.self) in
+    subst P (sym p.1) c.in_err-at.ensures.err_frames

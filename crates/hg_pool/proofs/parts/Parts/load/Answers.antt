@@ -12,6 +12,12 @@ use Rattle.hg_pool.proofs.Passing.{read-not, read-in, recounted, counted-later}
 use Rattle.hg_pool.proofs.Ranges.{has-place}
 use Rattle.hg_pool.specs.Round.{round_in}
 use Rattle.hg_pool.specs.RoundLaws.{round-same}
+use Rattle.std.proofs.Common.{refl, slice_set}
+use Rattle.hg_pool.specs.Picture.{place_at}
+use Rattle.hg_pool.specs.declared.parts.Parts.{Parts}
+use Rattle.hg_pool.proofs.Passing.{place-set}
+use Rattle.hg_pool.specs.FrameLaws.{frame-kept}
+use Rattle.hg_pool.proofs.Staying.{frame-filled}
 use Rattle.hg_pool.proofs.parts.Parts.load.Goals as goal
 
 pub returns-in-Err-clause-passes : goal.returns-in-Err-clause-passes
@@ -79,3 +85,31 @@ returns-in-Ok-clause-round g c =
     (ap (λ (y : Frame). y.pinned) (c.fill.ensures.rest ∙ ap (λ (y : Frame). record y { bytes = c.fill.new.frame.bytes })
     (frame-here w.frames.items i c.index_mut-frame.result.now there c.index_mut-frame.ensures.value)))
     ∙ ap round_in c.count_read.ensures.counted
+
+pub returns-in-Err-clause-err_frames : goal.returns-in-Err-clause-err_frames
+returns-in-Err-clause-err_frames g c =
+    let a : Parts g.row.M.Denot g.row.T.Denot = c.args.self.now in
+    let s : Store = a.store in
+    let i : ℕ = c.args.at in
+    let w : Store = c.count_read.new.self in
+    let y : Frame = c.fill.new.frame in
+    let b : Parts g.row.M.Denot g.row.T.Denot = record { devices = c.fill.new.self; store = record (with_frame w i y) { answers = c.count.new.self } } in
+    let moved : w ≡ record s { counts = w.counts } = recounted w s _ c.count_read.ensures.counted in
+    let here : c.index_mut-frame.result.now ≡ frame_at s.frames.items i =
+    frame-here s.frames.items i c.index_mut-frame.result.now c.requires.room.there
+    (c.index_mut-frame.ensures.value ∙ ap (λ (z : Store). slice_index_or z.frames.items i c.index_mut-frame.result.now) moved) in
+    frame-kept a b i y c.requires.room.there (ap (λ (x : Frame). x.page) c.fill.ensures.rest ∙ ap (λ (x : Frame). x.page) here)
+    (ap (λ (z : Store). slice_set z.frames.items i y) moved) (ap (λ (z : Store). z.places) moved)
+
+pub returns-in-Ok-clause-fills : goal.returns-in-Ok-clause-fills
+returns-in-Ok-clause-fills g c =
+    let a : Parts g.row.M.Denot g.row.T.Denot = c.args.self.now in
+    let s : Store = a.store in
+    let i : ℕ = c.args.at in
+    let p : PageId = c.args.page in
+    let w : Store = c.count_read.new.self in
+    let x : Frame = record c.fill.new.frame { page = Some p; dirty = false } in
+    let b : Parts g.row.M.Denot g.row.T.Denot = record { devices = c.fill.new.self; store = record (with_frame w i x) { places = c.set.new.self } } in
+    let moved : w ≡ record s { counts = w.counts } = recounted w s _ c.count_read.ensures.counted in
+    frame-filled a b p i x c.requires.room.there c.requires.room.none refl (ap (λ (z : Store). slice_set z.frames.items i x) moved)
+    (ap place_at c.set.ensures ∙ ap (λ (z : Store). place_at (with_place z.places p i)) moved ∙ place-set s.places p i (has-place s p c.requires.whole.shape c.requires.taken))

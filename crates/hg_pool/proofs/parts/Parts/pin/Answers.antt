@@ -1,4 +1,4 @@
-use Rattle.std.proofs.Common.{◌≡◌, ℕ, ◌+◌, ◌<◌, ◌∙◌, ap, sym, subst, refl, Ok, true, false, arith}
+use Rattle.std.proofs.Common.{◌≡◌, ℕ, ◌+◌, ◌<◌, ◌∙◌, ap, sym, subst, refl, Ok, true, false, length, arith}
 use Rattle.hg_base.specs.Space.{key, IsPinned}
 use Rattle.hg_pool.specs.Disks.{Disks, disks_in}
 use Rattle.hg_pool.specs.Picture.{shown, picture_of, frame_at, place_at}
@@ -10,6 +10,11 @@ use Rattle.hg_pool.proofs.Calling.{holds-pin, still-free, pinned-behind}
 use Rattle.hg_pool.specs.Round.{with_out, round_in}
 use Rattle.hg_pool.specs.RoundLaws.{round-held}
 use Rattle.hg_pool.proofs.Rounds.{comes-in, stays-in}
+use Rattle.hg_pool.specs.Shown.{frame_of, page_in, SameFrames, KeepsFrames}
+use Rattle.hg_pool.specs.Work.{evicted}
+use Rattle.hg_pool.specs.declared.parts.Parts.{Parts}
+use Rattle.hg_pool.specs.FrameLaws.{frame-kept}
+use Rattle.hg_pool.proofs.Staying.{same-then, but-then-same}
 use Rattle.hg_pool.proofs.parts.Parts.pin.Goals as goal
 
 pub returns-clause-whole : goal.returns-clause-whole
@@ -72,3 +77,43 @@ returns-clause-comes g c =
     ap round_in c.hold.ensures ∙ round-held z i (record (frame_at z.frames.items i) { pinned = true }) c.in_ok-at.ensures.found.there refl in
     let place : place_at c.hold.new.self.places (key c.args.page) ≡ i = ap (λ (y : Store). place_at y.places (key c.args.page)) c.hold.ensures ∙ sym c.in_ok-at.ensures.found.place in
     λ outside. comes-in (round_in s) (round_in z) (round_in c.hold.new.self) i _ (c.in_ok-at.ensures.reaches outside) held place
+
+-- a pin of a frame leaves the pages in theirs
+held-stays : {M T : Type 0} (a : Parts M T) (z : Store) (i : ℕ) → i < length a.store.frames.items
+    → z ≡ record (with_frame a.store i (record (frame_at a.store.frames.items i) { pinned = true })) { pins = a.store.pins + 1 } → SameFrames a (record a { store = z })
+held-stays a z i there e = frame-kept a (record a { store = z }) i (record (frame_at a.store.frames.items i) { pinned = true }) there refl
+    (ap (λ (y : Store). y.frames.items) e) (ap (λ (y : Store). y.places) e)
+
+pub returns-clause-keeps_frames : goal.returns-clause-keeps_frames
+returns-clause-keeps_frames g c =
+    let a : Parts g.row.M.Denot g.row.T.Denot = c.args.self.now in
+    let m : Parts g.row.M.Denot g.row.T.Denot = c.bring.new.self in
+    let b : Parts g.row.M.Denot g.row.T.Denot = record m { store = c.hold.new.self } in
+    let i : ℕ = c.in_ok-at.at in
+    let page = c.args.page in
+    let place : frame_of b page ≡ i = ap (λ (y : Store). place_at y.places (key page)) c.hold.ensures ∙ sym c.in_ok-at.ensures.found.place in
+    let P : ℕ → Type 0 = λ k. KeepsFrames a b page k in
+    subst P (sym place) (but-then-same a m b page i c.in_ok-at.ensures.keeps_frames (held-stays m c.hold.new.self i c.in_ok-at.ensures.found.there c.hold.ensures))
+
+pub returns-clause-same_frames : goal.returns-clause-same_frames
+returns-clause-same_frames g c =
+    let a : Parts g.row.M.Denot g.row.T.Denot = c.args.self.now in
+    let m : Parts g.row.M.Denot g.row.T.Denot = c.bring.new.self in
+    let b : Parts g.row.M.Denot g.row.T.Denot = record m { store = c.hold.new.self } in
+    let i : ℕ = c.in_ok-at.at in
+    λ inside. same-then a m b (c.in_ok-at.ensures.same_frames inside) (held-stays m c.hold.new.self i c.in_ok-at.ensures.found.there c.hold.ensures)
+
+pub returns-clause-keeps_counts : goal.returns-clause-keeps_counts
+returns-clause-keeps_counts g c = λ inside. ap (λ (z : Store). z.counts) c.hold.ensures ∙ c.in_ok-at.ensures.keeps_counts inside
+
+pub returns-clause-evicts : goal.returns-clause-evicts
+returns-clause-evicts g c =
+    let a : Parts g.row.M.Denot g.row.T.Denot = c.args.self.now in
+    let page = c.args.page in
+    let i : ℕ = c.in_ok-at.at in
+    let place : place_at c.hold.new.self.places (key page) ≡ i = ap (λ (y : Store). place_at y.places (key page)) c.hold.ensures ∙ sym c.in_ok-at.ensures.found.place in
+    λ outside. ap (λ (z : Store). z.counts.evictions) c.hold.ensures ∙ c.in_ok-at.ensures.evicts outside
+    ∙ ap (λ (k : ℕ). evicted (page_in a k) a.store.counts.evictions) (sym place)
+
+pub returns-clause-uncounted : goal.returns-clause-uncounted
+returns-clause-uncounted g c = λ same reads writes. c.in_ok-at.ensures.uncounted (sym (ap (λ (z : Store). z.counts) c.hold.ensures) ∙ same) reads writes

@@ -9,6 +9,8 @@ use Rattle.hg_pool.specs.declared.store.Store.{Store}
 use Rattle.hg_pool.proofs.Calling.{gives-back, gives-back-out}
 use Rattle.hg_pool.specs.Round.{round_in}
 use Rattle.hg_pool.specs.RoundLaws.{round-same}
+use Rattle.hg_pool.specs.declared.parts.Parts.{Parts}
+use Rattle.hg_pool.proofs.Staying.{frames-stay, frame-emptied, keeps-held, same-but}
 use Rattle.hg_pool.proofs.parts.Parts.release.Goals as goal
 
 pub returns-in-Some-clause-whole : goal.returns-in-Some-clause-whole
@@ -53,3 +55,22 @@ pub returns-in-Some-clause-round : goal.returns-in-Some-clause-round
 returns-in-Some-clause-round g c =
     let s : Store = c.args.self.now.store in
     ap round_in c.set_empty.ensures ∙ round-same s c.in-Some.at (record (frame_at s.frames.items c.in-Some.at) { page = None }) c.in-Some.ensures.found.there refl
+
+pub returns-in-Some-clause-frames : goal.returns-in-Some-clause-frames
+returns-in-Some-clause-frames g c =
+    let a : Parts g.row.M.Denot g.row.T.Denot = c.args.self.now in
+    let b : Parts g.row.M.Denot g.row.T.Denot = record a { store = record c.set_empty.new.self { maps = c.release.new.self } } in
+    let i = c.in-Some.at in
+    let found = c.in-Some.ensures.found in
+    keeps-held a b c.args.page i found.holds
+    (frame-emptied a b i (record (frame_at a.store.frames.items i) { page = None }) found.there refl
+    (ap (λ (z : Store). z.frames.items) c.set_empty.ensures) (ap (λ (z : Store). z.places) c.set_empty.ensures))
+
+pub returns-in-None-clause-frames : goal.returns-in-None-clause-frames
+returns-in-None-clause-frames g c =
+    let a : Parts g.row.M.Denot g.row.T.Denot = c.args.self.now in
+    let b : Parts g.row.M.Denot g.row.T.Denot = record a { store = record a.store { maps = c.release-in-None.new.self } } in
+    same-but a b c.args.page (frames-stay a b refl refl)
+
+pub returns-in-Some-clause-counts : goal.returns-in-Some-clause-counts
+returns-in-Some-clause-counts g c = ap (λ (z : Store). z.counts) c.set_empty.ensures

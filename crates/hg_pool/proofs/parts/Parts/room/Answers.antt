@@ -7,6 +7,11 @@ use Rattle.std.proofs.lemmas.Result.{err_from_is_err_and}
 use Rattle.hg_pool.proofs.Passing.{moved-hand, passes-then, passes-err, passes-ok}
 use Rattle.hg_pool.specs.Picture.{frame_at}
 use Rattle.hg_pool.specs.Round.{PassesNext, round_in}
+use Rattle.std.specs.Prelude.{◌<◌, ◌-◌, ◌^◌}
+use Rattle.hg_pool.specs.Shown.{page_in, SameFrames}
+use Rattle.hg_pool.specs.Work.{evicted}
+use Rattle.hg_pool.specs.declared.parts.Parts.{Parts}
+use Rattle.hg_pool.proofs.Staying.{frames-stay, same-then, same-then-keeps}
 use Rattle.hg_pool.proofs.parts.Parts.room.Goals as goal
 
 pub returns-in_err-clean-clause-passes : goal.returns-in_err-clean-clause-passes
@@ -71,3 +76,52 @@ pub returns-clause-no_call : goal.returns-clause-no_call
 returns-clause-no_call g c =
     λ h. c.empty.ensures.no_call
     ∙ c.in_ok-clean.ensures.no_call (victim-empty c.args.self.now.store c.victim-at.new.self (c.victim-at.result + 1) c.victim-at.result c.victim-at.ensures.hand h)
+
+-- the hand alone moved
+hand-stays : {M T : Type 0} (a : Parts M T) (z : Store) (hand : ℕ) → z ≡ record a.store { hand = hand } → SameFrames a (record a { store = z })
+hand-stays a z hand e = frames-stay a (record a { store = z }) (ap (λ (y : Store). y.frames.items) e) (ap (λ (y : Store). y.places) e)
+
+pub returns-in_err-clean-clause-err_frames : goal.returns-in_err-clean-clause-err_frames
+returns-in_err-clean-clause-err_frames g c =
+    let a : Parts g.row.M.Denot g.row.T.Denot = c.args.self.now in
+    let m : Parts g.row.M.Denot g.row.T.Denot = record a { store = c.victim-at.new.self } in
+    let b : Parts g.row.M.Denot g.row.T.Denot = c.clean.new.self in
+    let p = err_from_is_err_and c.from_residual.result c.from_residual.ensures.1 in
+    let P : Result ℕ PageFault → Type 0 = λ r. OnErr r (SameFrames a b) in
+    subst P (sym p.1) (same-then a m b (hand-stays a c.victim-at.new.self (c.victim-at.result + 1) c.victim-at.ensures.hand) c.in_err-clean.ensures.frames)
+
+pub returns-clause-keeps : goal.returns-clause-keeps
+returns-clause-keeps g c =
+    let a : Parts g.row.M.Denot g.row.T.Denot = c.args.self.now in
+    let m : Parts g.row.M.Denot g.row.T.Denot = record a { store = c.victim-at.new.self } in
+    let k : Parts g.row.M.Denot g.row.T.Denot = c.clean.new.self in
+    let b : Parts g.row.M.Denot g.row.T.Denot = c.empty.new.self in
+    same-then-keeps a k b c.victim-at.result
+    (same-then a m k (hand-stays a c.victim-at.new.self (c.victim-at.result + 1) c.victim-at.ensures.hand) c.in_ok-clean.ensures.frames) c.empty.ensures.keeps
+
+pub returns-clause-evicts : goal.returns-clause-evicts
+returns-clause-evicts g c =
+    let a : Parts g.row.M.Denot g.row.T.Denot = c.args.self.now in
+    let k : Parts g.row.M.Denot g.row.T.Denot = c.clean.new.self in
+    let f : ℕ = c.victim-at.result in
+    c.empty.ensures.evicts
+    ∙ ap (λ o. evicted o k.store.counts.evictions) (c.in_ok-clean.ensures.page ∙ ap (λ (z : Store). (frame_at z.frames.items f).page) c.victim-at.ensures.hand)
+    ∙ ap (evicted (page_in a f)) (c.in_ok-clean.ensures.evictions ∙ ap (λ (z : Store). z.counts.evictions) c.victim-at.ensures.hand)
+
+pub returns-in_err-clean-clause-none_evicted : goal.returns-in_err-clean-clause-none_evicted
+returns-in_err-clean-clause-none_evicted g c =
+    let p = err_from_is_err_and c.from_residual.result c.from_residual.ensures.1 in
+    let P : Result ℕ PageFault → Type 0 = λ r. OnErr r (c.clean.new.self.store.counts.evictions ≡ c.args.self.now.store.counts.evictions) in
+    subst P (sym p.1) (c.in_err-clean.ensures.evictions ∙ ap (λ (z : Store). z.counts.evictions) c.victim-at.ensures.hand)
+
+pub returns-in_err-clean-clause-uncounted : goal.returns-in_err-clean-clause-uncounted
+returns-in_err-clean-clause-uncounted g c =
+    let b : Parts g.row.M.Denot g.row.T.Denot = c.clean.new.self in
+    let P : Store → Type 0 = λ y. b.store.counts.writes ≡ y.counts.writes → y.counts.writes < 2 ^ 64 - 1 → b.devices ≡ c.args.self.now.devices in
+    subst P c.victim-at.ensures.hand c.in_err-clean.ensures.uncounted
+
+pub returns-clause-uncounted : goal.returns-clause-uncounted
+returns-clause-uncounted g c =
+    let b : Parts g.row.M.Denot g.row.T.Denot = c.clean.new.self in
+    let P : Store → Type 0 = λ y. b.store.counts.writes ≡ y.counts.writes → y.counts.writes < 2 ^ 64 - 1 → b.devices ≡ c.args.self.now.devices in
+    λ same below. c.empty.ensures.no_call ∙ subst P c.victim-at.ensures.hand c.in_ok-clean.ensures.uncounted (sym c.empty.ensures.writes ∙ same) below

@@ -5,10 +5,13 @@ use Rattle.hg_pool.specs.Picture.{shown, picture_of, frame_at, place_at}
 use Rattle.hg_pool.specs.Sound.{IsSound}
 use Rattle.hg_pool.specs.Keeping.{with_frame, is_inside}
 use Rattle.hg_pool.specs.Loans.{frame-in, and-left}
+use Rattle.hg_pool.specs.declared.frames.Frame.{Frame}
 use Rattle.hg_pool.specs.declared.store.Store.{Store}
 use Rattle.hg_pool.proofs.Calling.{lets-go}
 use Rattle.hg_pool.specs.Round.{round_in}
 use Rattle.hg_pool.specs.RoundLaws.{round-let_go}
+use Rattle.hg_pool.specs.declared.parts.Parts.{Parts}
+use Rattle.hg_pool.specs.FrameLaws.{frame-kept}
 use Rattle.hg_pool.proofs.parts.Parts.unpin.Goals as goal
 
 pub returns-clause-whole : goal.returns-clause-whole
@@ -38,3 +41,17 @@ returns-clause-round g c =
     ap round_in c.let_go.ensures
     ∙ ap (λ (k : ℕ). round_in (with_frame s k (record (frame_at s.frames.items k) { pinned = false }))) c.at-at.ensures
     ∙ round-let_go s i (record (frame_at s.frames.items i) { pinned = false }) there refl
+
+pub returns-clause-frames : goal.returns-clause-frames
+returns-clause-frames g c =
+    let a : Parts g.row.M.Denot g.row.T.Denot = c.args.self.now in
+    let s : Store = a.store in
+    let i : ℕ = place_at s.places (key c.args.page) in
+    let x : Frame = record (frame_at s.frames.items i) { pinned = false } in
+    let there : i < length s.frames.items = frame-in s.frames.items i (key c.args.page) (and-left (is_inside s (key c.args.page)) (frame_at s.frames.items i).pinned c.requires.pinned) in
+    let after : c.let_go.new.self ≡ record (with_frame s i x) { pins = s.pins - 1 } =
+    c.let_go.ensures ∙ ap (λ (k : ℕ). record (with_frame s k (record (frame_at s.frames.items k) { pinned = false })) { pins = s.pins - 1 }) c.at-at.ensures in
+    frame-kept a (record a { store = c.let_go.new.self }) i x there refl (ap (λ (z : Store). z.frames.items) after) (ap (λ (z : Store). z.places) after)
+
+pub returns-clause-counts : goal.returns-clause-counts
+returns-clause-counts g c = ap (λ (z : Store). z.counts) c.let_go.ensures

@@ -10,9 +10,12 @@ use Rattle.hg_pool.specs.declared.store.Answers.{Answers}
 use Rattle.hg_pool.specs.declared.store.Store.{Store}
 use Rattle.hg_pool.proofs.Counting.{frame-here}
 use Rattle.hg_pool.proofs.Ranges.{held-on-device}
-use Rattle.hg_pool.proofs.Passing.{wrote, wrote-not, counted-later}
+use Rattle.hg_pool.proofs.Passing.{wrote, wrote-not, recounted, counted-later}
 use Rattle.hg_pool.specs.Round.{round_in}
 use Rattle.hg_pool.specs.RoundLaws.{round-same}
+use Rattle.hg_pool.specs.declared.parts.Parts.{Parts}
+use Rattle.hg_pool.specs.FrameLaws.{frame-kept}
+use Rattle.hg_pool.proofs.Staying.{frames-stay}
 use Rattle.hg_pool.proofs.parts.Parts.write_back.Goals as goal
 
 pub write-requires-clause-in_range : goal.write-requires-clause-in_range
@@ -59,3 +62,21 @@ returns-in-Ok-clause-round g c =
     let P : Store → Type 0 = λ z. i < length z.frames.items in
     let there : i < length w.frames.items = subst P (sym c.count_write.ensures.counted) c.requires.there in
     ap round_in c.set_clean.ensures ∙ round-same w i (record (frame_at w.frames.items i) { dirty = false }) there refl ∙ ap round_in c.count_write.ensures.counted
+
+pub returns-in-Err-clause-frames : goal.returns-in-Err-clause-frames
+returns-in-Err-clause-frames g c =
+    let a : Parts g.row.M.Denot g.row.T.Denot = c.args.self.now in
+    let b : Parts g.row.M.Denot g.row.T.Denot = record { devices = c.write.new.self; store = record c.count_write.new.self { answers = c.count.new.self } } in
+    frames-stay a b (ap (λ (z : Store). z.frames.items) c.count_write.ensures.counted) (ap (λ (z : Store). z.places) c.count_write.ensures.counted)
+
+pub returns-in-Ok-clause-frames : goal.returns-in-Ok-clause-frames
+returns-in-Ok-clause-frames g c =
+    let a : Parts g.row.M.Denot g.row.T.Denot = c.args.self.now in
+    let b : Parts g.row.M.Denot g.row.T.Denot = record { devices = c.write.new.self; store = c.set_clean.new.self } in
+    let s : Store = a.store in
+    let w : Store = c.count_write.new.self in
+    let i : ℕ = c.args.at in
+    let x : Frame = record (frame_at s.frames.items i) { dirty = false } in
+    let after : c.set_clean.new.self ≡ record (with_frame s i x) { counts = w.counts } =
+    c.set_clean.ensures ∙ ap (λ (z : Store). with_frame z i (record (frame_at z.frames.items i) { dirty = false })) (recounted w s _ c.count_write.ensures.counted) in
+    frame-kept a b i x c.requires.there refl (ap (λ (z : Store). z.frames.items) after) (ap (λ (z : Store). z.places) after)

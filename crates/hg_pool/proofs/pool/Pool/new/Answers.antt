@@ -1,5 +1,6 @@
 use Rattle.hg_pool.specs.Disks.{Disks, disk_of}
-use Rattle.hg_pool.proofs.NewPool.{new-sound, new-shown, new-no_pins, new-round}
+use Rattle.hg_pool.specs.declared.parts.Parts.{Parts}
+use Rattle.hg_pool.proofs.NewPool.{new-sound, new-shown, new-no_pins, new-round, new-none_in}
 use Rattle.hg_pool.proofs.pool.Pool.new.Goals as goal
 
 pub invariant_of-result : goal.invariant_of-result
@@ -19,3 +20,8 @@ returns-in-Ok-clause-no_pins g c =
 
 pub returns-in-Ok-clause-round : goal.returns-in-Ok-clause-round
 returns-in-Ok-clause-round g c = new-round c.args.config.now c.in-Ok.store c.in-Ok.ensures
+
+pub returns-in-Ok-clause-none_in : goal.returns-in-Ok-clause-none_in
+returns-in-Ok-clause-none_in g c =
+    let s : Parts g.row.M.Denot g.row.T.Denot = record { devices = record { main = c.args.main; temp = c.args.temp }; store = c.in-Ok.store } in
+    new-none_in c.args.config.now s c.in-Ok.ensures
