@@ -22,7 +22,7 @@ use Rattle.hg_table.specs.Calls.{main_page, none_mine, page_mine, insert_mine, T
 abbrev pub IsThis : Check → Check → Type 0
 IsThis c d = d ≡ c
 
--- a page is damaged and cannot be pinned, or another fault
+-- the page that is named where one is damaged cannot be pinned
 abbrev pub IsNotFree : Space → PageFault → Type 0
 IsNotFree s fault.MainFault = ⊤
 IsNotFree s fault.TempFault = ⊤
@@ -30,7 +30,7 @@ IsNotFree s fault.MainFull = ⊤
 IsNotFree s fault.TempFull = ⊤
 IsNotFree s (fault.Damaged page check) = IsFree s page → ⊥
 
--- any fault but damage, and any but a full main file
+-- any fault but damage
 abbrev pub IsNoDamage : PageFault → Type 0
 IsNoDamage fault.MainFault = ⊤
 IsNoDamage fault.TempFault = ⊤
