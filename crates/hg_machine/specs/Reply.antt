@@ -28,8 +28,8 @@ pub data Reply : Type 0 where
   device_fault : (file : File) → Reply
   -- all pages of the main file are in use
   main_full : Reply
-  -- a page holds what no writer put there; no line of the machine, but of an engine over devices that
-  -- give back other bytes than they were given
+  -- a page holds what no writer put there; it comes only over devices that do not tell, which may give
+  -- back other bytes than they were given
   damaged : (page : PageId) (check : Check) → Reply
   stamps_used_up : Reply
 

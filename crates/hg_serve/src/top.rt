@@ -37,8 +37,9 @@ const REQUESTS: u32 = 4;
 ///
 /// In the clauses, the outside is what source, sink and devices tell at one moment: the bytes left, the
 /// count of bytes given, the bytes written, and the devices' own counts of faults. What is said of the
-/// replies holds for every script and every history of faults; that they are a run of the plain machine
-/// holds where both devices tell their pages.
+/// replies holds for every script and every history of faults. Where both devices tell their pages, the
+/// plain machine is that of tables as lists of rows; over others it may give any rows, and say that a
+/// page is damaged.
 pub fn run<S: Source, K: Sink, M: PageDevice, T: PageDevice>(
     alloc: Global,
     words: &Vec<String>,
