@@ -32,7 +32,7 @@ fn may_create(entries: &[Entry], name: &Name, columns: &[Name]) -> bool
 }
 
 impl Tables {
-    ghost use Rattle.std.specs.Prelude.{◌≡◌, ◌≤◌, ◌<◌, false, true, [], ◌∷◌, List, length, MatchBool, None, IfOk, vec_capacity};
+    ghost use Rattle.std.specs.Prelude.{◌≡◌, ◌<◌, false, [], List, MatchBool, None, IfOk};
     ghost use Rattle.hg_machine.specs.CreateTable.{CreatesTable};
     ghost use Rattle.hg_machine.specs.Reply.{Reply as Line};
     ghost use Rattle.hg_base.specs.Space.{Space};

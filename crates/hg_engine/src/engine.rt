@@ -24,10 +24,9 @@ pub struct Engine<M: PageDevice, T: PageDevice> {
 }
 
 impl<M: PageDevice, T: PageDevice> Engine<M, T> {
-    ghost use Rattle.std.specs.Prelude.{◌≡◌, ◌<◌, ◌≤◌, ◌↔◌, ◌&&◌, true, false, IfOk, IfErr, Some};
+    ghost use Rattle.std.specs.Prelude.{◌≡◌, ◌<◌, ◌↔◌, ◌&&◌, true, false, IfOk, IfErr};
     ghost use Rattle.hg_machine.specs.State.{first_state};
     ghost use Rattle.hg_pool.specs.Opening.{IsPossible};
-    ghost use Rattle.hg_pool.specs.Shown.{main_device, temp_device};
     ghost use Rattle.hg_machine.specs.CreateTable.{CreatesTable};
     ghost use Rattle.hg_machine.specs.Insert.{Inserts};
     ghost use Rattle.hg_machine.specs.Run.{Turn};

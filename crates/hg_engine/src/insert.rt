@@ -11,11 +11,10 @@ use hg_model::Name;
 use hg_reply::{Reply, ReplyLine};
 
 impl Tables {
-    ghost use Rattle.std.specs.Prelude.{◌≡◌, ◌≢◌, ◌<◌, ◌^◌, ◌≤◌, ℕ, false, true, [], ◌∷◌, List, length, MatchBool, MatchOption, None, Some, IfErr, OnOk, slice_get, slice_set};
-    ghost use Rattle.hg_base.specs.Space.{Space, NoPins};
-    ghost use Rattle.hg_base.specs.Causes.{Later, Rose};
+    ghost use Rattle.std.specs.Prelude.{◌≡◌, ◌<◌, ◌^◌, false, [], List, length, MatchBool, MatchOption, None, Some, slice_get};
+    ghost use Rattle.hg_base.specs.Space.{NoPins};
     ghost use Rattle.hg_machine.specs.Insert.{Inserts};
-    ghost use Rattle.hg_machine.specs.Reply.{Reply as Line, main_full};
+    ghost use Rattle.hg_machine.specs.Reply.{Reply as Line};
     ghost use Rattle.hg_machine.specs.State.{State};
     ghost use Rattle.hg_table.specs.Marks.{last, Draws};
     ghost use Rattle.hg_engine.specs.Putting.{HaveColumns};

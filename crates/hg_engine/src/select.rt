@@ -12,8 +12,8 @@ use hg_reply::{Reply, ReplyLine};
 const SLOTS: u64 = 128;
 
 impl Tables {
-    ghost use Rattle.std.specs.Prelude.{◌≡◌, ◌≢◌, ◌<◌, ◌≤◌, ◌+◌, ℕ, false, true, [], ◌∷◌, List, length, MatchOption, None, Some, IsSome, IfErr, IfOk, IfSome, slice_get};
-    ghost use Rattle.hg_base.specs.Space.{Space, NoPins};
+    ghost use Rattle.std.specs.Prelude.{◌≡◌, ◌<◌, ◌+◌, ℕ, false, true, [], List, length, MatchOption, None, Some, IsSome, IfErr, IfOk, IfSome, slice_get};
+    ghost use Rattle.hg_base.specs.Space.{NoPins};
     ghost use Rattle.hg_base.specs.Steadiness.{Steady};
     ghost use Rattle.hg_machine.specs.Reply.{Reply as Line};
     ghost use Rattle.hg_machine.specs.Run.{Turn};

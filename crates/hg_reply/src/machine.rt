@@ -19,7 +19,7 @@ pub enum Next {
 /// device does not tell its pages, the machine may give any rows, and say that a page is damaged; all
 /// else it does as ever.
 pub trait Machine {
-    ghost use Rattle.std.specs.Prelude.{◌≡◌, ◌<◌, ◌≤◌, ◌↔◌, ℕ, List, Bool, true, false, IsSome, is_some};
+    ghost use Rattle.std.specs.Prelude.{◌≡◌, ◌<◌, ◌≤◌, ◌↔◌, ℕ, List, Bool, true, false, is_some};
     ghost use Rattle.hg_machine.specs.Reply.{Reply as Line};
     ghost use Rattle.hg_machine.specs.Run.{Begins, Turn};
     ghost use Rattle.hg_machine.specs.State.{State};

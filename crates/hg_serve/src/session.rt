@@ -114,7 +114,7 @@ pub struct Session {
 impl Session {
     ghost use Rattle.std.specs.Prelude.{◌≡◌, ◌≤◌, ◌∷◌, [], ◌++◌, ℕ, List, true, false, take, OnOk, OnErr};
     ghost use Rattle.hg_io.specs.Count.{Rose, HasCause};
-    ghost use Rattle.hg_machine.specs.Script.{Line, whole_lines, lines_of};
+    ghost use Rattle.hg_machine.specs.Script.{whole_lines, lines_of};
     ghost use Rattle.hg_machine.specs.State.{State};
     ghost use Rattle.hg_serve.specs.Output.{Seen, seen, NoneFell, Passes, Breaks};
     ghost use Rattle.hg_serve.specs.Session.{AnswersLine, BreaksInLine};
