@@ -1,5 +1,5 @@
 -- When a call over a space may fail, and what it counts. Our own rule.
-use Rattle.std.specs.Prelude.{◌≡◌, ℕ, ◌+◌, ◌-◌, ◌^◌, ◌≤◌, min, false, Result, Ok, Err, Option, None, Some, IfSome, ⊤, ◌⊎◌}
+use Rattle.std.specs.Prelude.{◌≡◌, ℕ, ◌+◌, ◌-◌, ◌^◌, ◌≤◌, min, false, Result, Ok, Err, Option, None, Some, IfSome, ⊤}
 use Rattle.hg_base.specs.Space.{Space, Counts, IsFull}
 use Rattle.hg_base.specs.declared.File.{File}
 use Rattle.hg_base.specs.declared.File.TheVariants as file

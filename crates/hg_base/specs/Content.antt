@@ -5,7 +5,7 @@
 --
 -- An object is named by its place in the order of placing: here 0 to 3. A page's objects lie one
 -- behind the other from offset 64 on, each on a grid of 16 bytes.
-use Rattle.std.specs.Prelude.{◌≡◌, ℕ, ◌+◌, ◌-◌, ◌*◌, ◌/◌, ◌<◌, ◌≤◌, List, [], ◌∷◌, ◌++◌, length, map, sum_by, flat_map, slice_index_or, Option, None, Some, ⊤}
+use Rattle.std.specs.Prelude.{ℕ, ◌+◌, ◌-◌, ◌*◌, ◌/◌, List, [], ◌∷◌, ◌++◌, length, map, sum_by, flat_map, slice_index_or, Option}
 
 -- A link leads to another object of the heap, or to nothing.
 pub data Object : Type 0 where

@@ -1,5 +1,5 @@
 -- What holds of the heaps of every space that has them. Our own rule.
-use Rattle.std.specs.Prelude.{◌≡◌, ℕ, ◌+◌, ◌<◌, ◌≤◌, ◌↔◌, true, List, [], ◌∷◌, length, Option, None, Some, IsTrue, ⊤}
+use Rattle.std.specs.Prelude.{◌≡◌, ℕ, ◌+◌, ◌<◌, ◌≤◌, true, List, [], ◌∷◌, length, Option, None, Some, ⊤}
 use Rattle.std.specs.List.{AllByRecursion}
 use Rattle.hg_base.specs.Content.{Object, row_object, directory, Objects, placed, page_end, Standing, locked, unlocked, draining, Heap}
 use Rattle.hg_base.specs.Lines.{AreApart, has_page}

@@ -7,7 +7,7 @@
 --
 -- An object: 2 bytes of length, 1 byte of kind (1 a row, 2 a directory), 5 zeros, 8 bytes of link (zero
 -- in a directory), its payload (8 bytes for each link of a directory), zeros up to the grid of 16.
-use Rattle.std.specs.Prelude.{◌≡◌, ℕ, ◌+◌, ◌-◌, ◌*◌, ◌<◌, ◌≤◌, List, [], ◌∷◌, ◌++◌, take, drop, length, replicate, flat_map, Option, None, Some, ⊤}
+use Rattle.std.specs.Prelude.{◌≡◌, ℕ, ◌-◌, ◌*◌, ◌<◌, ◌≤◌, List, [], ◌∷◌, ◌++◌, take, drop, length, replicate, flat_map, Option, None, Some, ⊤}
 use Rattle.std.specs.Int.{w16, w32, w64, to_le_bytes}
 use Rattle.std.specs.List.{AllByRecursion}
 use Rattle.hg_base.specs.Content.{Object, row_object, directory, Objects, payload_length, object_size, page_end, address_of}

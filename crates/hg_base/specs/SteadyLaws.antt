@@ -124,6 +124,7 @@ HasCause_behind a b c f t p h = record {
     may_be_one fault.MainFull h = tt
     may_be_one fault.TempFull h = tt
     may_be_one (fault.Damaged page check) h = sym t ∙ h
+
     may_be_found : (f : Option PageFault) → IfSome f (MayBeFound b) → IfSome f (MayBeFound a)
     may_be_found None h = tt
     may_be_found (Some f) h = may_be_one f h
@@ -163,6 +164,7 @@ none_full a b f n h =
     one fault.MainFull n = absurd n
     one fault.TempFull n = absurd n
     one (fault.Damaged page check) n = record { main_full = refl; temp_full = refl }
+
     same : (f : Option PageFault) → IfSome f FindsNoneFull → NoneFull a.counts (counts_after a.counts f)
     same None n = record { main_full = refl; temp_full = refl }
     same (Some f) n = one f n

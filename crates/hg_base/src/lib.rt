@@ -12,10 +12,10 @@ mod plain;
 mod tests;
 
 pub use addr::Addr;
+use arrayvec::ArrayVec;
 pub use bytes::{get_u16, get_u32, get_u64, put_u16, put_u32, put_u64};
 pub use pages::{Heaps, PageFault, Pages};
 pub use plain::{PlainPin, PlainSpace};
-use arrayvec::ArrayVec;
 use std::marker::Model;
 
 /// The number of a frame of the pool, counted from 0. A frame has 4,096 bytes.
@@ -102,7 +102,10 @@ impl Place {
         ensures none { IfNone result (2 ^ 48 ≤ number) }
     {
         match u32::try_from(number / 65_536) {
-            Ok(page) => Some(Place { page, slot: (number % 65_536) as u16 }),
+            Ok(page) => Some(Place {
+                page,
+                slot: (number % 65_536) as u16,
+            }),
             Err(_) => None,
         }
     }
