@@ -1,21 +1,33 @@
--- When a call over a space may fail. Our own rule.
-use Rattle.std.specs.Prelude.{◌≡◌, ℕ, ◌+◌, ◌-◌, ◌^◌, ◌≤◌, min, false, Result, IfErr}
+-- When a call over a space may fail, and what it counts. Our own rule.
+use Rattle.std.specs.Prelude.{◌≡◌, ℕ, ◌+◌, ◌-◌, ◌^◌, ◌≤◌, min, false, Result, Ok, Err, Option, None, Some, IfSome, ⊤}
 use Rattle.hg_base.specs.Space.{Space, Counts, IsFull}
 use Rattle.hg_base.specs.declared.File.{File}
 use Rattle.hg_base.specs.declared.File.TheVariants as file
 use Rattle.hg_base.specs.declared.pages.PageFault.{PageFault}
 use Rattle.hg_base.specs.declared.pages.PageFault.TheVariants as fault
 
+-- A count after one more: it goes up to 2 ^ 64 - 1 and then stays there.
+abbrev pub one_more : ℕ → ℕ
+one_more n = min (n + 1) (2 ^ 64 - 1)
+
 -- A count rose, or it stands at its end.
 abbrev pub Rose : ℕ → ℕ → Type 0
-Rose before now = min (before + 1) (2 ^ 64 - 1) ≤ now
+Rose before now = one_more before ≤ now
 
--- The device of the main file failed: its own count rose, and so did that of the space.
-abbrev pub MainFailed : Counts → Counts → Type 0
-MainFailed a b = Rose a.main b.main × Rose a.main_device b.main_device
+-- The counts behind a call that found this fault, or none: the fault's own count is one more, the
+-- device's and that of the space, and no other is; damage is not counted.
+abbrev pub counts_after : Counts → Option PageFault → Counts
+counts_after n None = n
+counts_after n (Some fault.MainFault) = record n { main_device = one_more n.main_device; main = one_more n.main }
+counts_after n (Some fault.TempFault) = record n { temp_device = one_more n.temp_device; temp = one_more n.temp }
+counts_after n (Some fault.MainFull) = record n { main_full = one_more n.main_full }
+counts_after n (Some fault.TempFull) = record n { temp_full = one_more n.temp_full }
+counts_after n (Some (fault.Damaged page check)) = n
 
-abbrev pub TempFailed : Counts → Counts → Type 0
-TempFailed a b = Rose a.temp b.temp × Rose a.temp_device b.temp_device
+-- the fault that an answer tells, if any; other types of answers have a function like it
+abbrev pub fault_of : {T : Type 0} → Result T PageFault → Option PageFault
+fault_of (Ok x) = None
+fault_of (Err f) = Some f
 
 -- No count fell.
 pub record Later (a b : Counts) : Type 0 where
@@ -26,45 +38,57 @@ pub record Later (a b : Counts) : Type 0 where
   pub main_full : a.main_full ≤ b.main_full
   pub temp_full : a.temp_full ≤ b.temp_full
 
--- The files were not found full meanwhile.
-pub record NoneFull (a b : Counts) : Type 0 where
-  pub main_full : b.main_full ≡ a.main_full
-  pub temp_full : b.temp_full ≡ a.temp_full
+-- Damage is never found where the space tells its bytes.
+abbrev pub MayBeFound : Space → PageFault → Type 0
+MayBeFound a fault.MainFault = ⊤
+MayBeFound a fault.TempFault = ⊤
+MayBeFound a fault.MainFull = ⊤
+MayBeFound a fault.TempFull = ⊤
+MayBeFound a (fault.Damaged page check) = a.told ≡ false
 
--- A fault of a device comes only where that device's count rose; a full file only where that
--- file's count rose; damage never where the space tells its bytes.
-abbrev pub Licensed : Space → Space → PageFault → Type 0
-Licensed a b fault.MainFault = MainFailed a.counts b.counts
-Licensed a b fault.TempFault = TempFailed a.counts b.counts
-Licensed a b fault.MainFull = Rose a.counts.main_full b.counts.main_full
-Licensed a b fault.TempFull = Rose a.counts.temp_full b.counts.temp_full
-Licensed a b (fault.Damaged page check) = a.told ≡ false
-
--- Every fault of a call over a space has its cause in that call.
-pub record HasCause {T : Type 0} (a b : Space) (r : Result T PageFault) : Type 0 where
+-- The fault of a call over a space, if it found one, has its cause in that call: each count is as
+-- it was but the fault's own, which is one more. Without a fault each count is as it was.
+pub record HasCause (a b : Space) (found : Option PageFault) : Type 0 where
   pub later : Later a.counts b.counts
-  pub failed : IfErr r (λ f. Licensed a b f)
+  pub counts : b.counts ≡ counts_after a.counts found
+  pub damage : IfSome found (λ f. MayBeFound a f)
 
--- A pin fails by a device alone, and finds no file full.
-abbrev pub PinFault : Space → Space → PageFault → Type 0
-PinFault a b fault.MainFault = MainFailed a.counts b.counts
-PinFault a b fault.TempFault = TempFailed a.counts b.counts
-PinFault a b fault.MainFull = ⊥
-PinFault a b fault.TempFull = ⊥
-PinFault a b (fault.Damaged page check) = ⊥
-
--- A new page fails by a device, or where its own file is full. The count of that file's full
--- answers rises with such an answer, and with no other.
-abbrev pub FreshFault : File → Space → Space → PageFault → Type 0
-FreshFault f a b fault.MainFault = MainFailed a.counts b.counts × NoneFull a.counts b.counts
-FreshFault f a b fault.TempFault = TempFailed a.counts b.counts × NoneFull a.counts b.counts
-FreshFault f a b fault.MainFull =
-    (f ≡ file.Main) × IsFull a f × Rose a.counts.main_full b.counts.main_full × (b.counts.temp_full ≡ a.counts.temp_full)
-FreshFault f a b fault.TempFull =
-    (f ≡ file.Temp) × IsFull a f × Rose a.counts.temp_full b.counts.temp_full × (b.counts.main_full ≡ a.counts.main_full)
-FreshFault f a b (fault.Damaged page check) = ⊥
+-- the fault of a file's device
+abbrev pub device_fault : File → PageFault
+device_fault file.Main = fault.MainFault
+device_fault file.Temp = fault.TempFault
 
 -- the fault of a file that is full
 abbrev pub full_fault : File → PageFault
 full_fault file.Main = fault.MainFull
 full_fault file.Temp = fault.TempFull
+
+-- A pin fails by a device alone.
+abbrev pub PinFault : PageFault → Type 0
+PinFault fault.MainFault = ⊤
+PinFault fault.TempFault = ⊤
+PinFault fault.MainFull = ⊥
+PinFault fault.TempFull = ⊥
+PinFault (fault.Damaged page check) = ⊥
+
+-- A new page fails by a device, or where all pages of its own file are taken.
+abbrev pub FreshFault : File → Space → PageFault → Type 0
+FreshFault f a fault.MainFault = ⊤
+FreshFault f a fault.TempFault = ⊤
+FreshFault f a fault.MainFull = (f ≡ file.Main) × IsFull a f
+FreshFault f a fault.TempFull = (f ≡ file.Temp) × IsFull a f
+FreshFault f a (fault.Damaged page check) = ⊥
+
+-- What such a cause says of the counts alone, for those above who count faults.
+
+-- The device of the main file failed: its own count rose, and so did that of the space.
+abbrev pub MainFailed : Counts → Counts → Type 0
+MainFailed a b = Rose a.main b.main × Rose a.main_device b.main_device
+
+abbrev pub TempFailed : Counts → Counts → Type 0
+TempFailed a b = Rose a.temp b.temp × Rose a.temp_device b.temp_device
+
+-- The files were not found full meanwhile.
+pub record NoneFull (a b : Counts) : Type 0 where
+  pub main_full : b.main_full ≡ a.main_full
+  pub temp_full : b.temp_full ≡ a.temp_full

@@ -25,15 +25,17 @@ pub record IsSamePage (a b : Space) (q : ℕ) : Type 0 where
   pub bytes : b.bytes q ≡ a.bytes q
   pub next : b.next q ≡ a.next q
 
--- No pin is out before and after; what is not mine is there as before and nothing was taken but
--- what is mine; and no count of faults or of full files fell.
+-- No pin is out before and after. Of what is not mine nothing changed: the same pages are taken and of
+-- a heap, also those of heaps of others, the taken ones of no heap have their bytes and successors,
+-- and heaps, caps and peaks are as before. No count of faults or of full files fell.
 pub record Steady (mine : Mine) (a b : Space) : Type 0 where
   pub pins_before : NoPins a
   pub pins_after : NoPins b
   pub told : b.told ≡ a.told
   pub limit : b.limit ≡ a.limit
+  pub taken : (q : ℕ) → (mine.pages q → ⊥) → b.taken q ≡ a.taken q
+  pub of_heap : (q : ℕ) → (mine.pages q → ⊥) → b.of_heap q ≡ a.of_heap q
   pub pages : (q : ℕ) → (mine.pages q → ⊥) → IsPlain a q → IsSamePage a b q
-  pub none_taken : (q : ℕ) → (mine.pages q → ⊥) → IsPlain b q → IsPlain a q
   pub heaps : (h : ℕ) → (mine.heaps h → ⊥) → b.heaps.heap h ≡ a.heaps.heap h
   pub current : b.heaps.current ≡ a.heaps.current
   pub caps : (r : ℕ) → b.heaps.cap r ≡ a.heaps.cap r

@@ -1,8 +1,8 @@
 -- Laws of what every call over a space keeps: they join call to call.
-use Rattle.std.specs.Prelude.{◌≡◌, ℕ, Result, Ok, Err}
-use Rattle.std.proofs.Common.{sym, ◌∙◌, subst, refl, arith}
+use Rattle.std.specs.Prelude.{◌≡◌, ℕ, Option, None, Some, IfSome, ⊤}
+use Rattle.std.proofs.Common.{sym, ◌∙◌, ap, subst, refl, arith}
 use Rattle.hg_base.specs.Space.{Space, Counts, NoPins, IsSame}
-use Rattle.hg_base.specs.Causes.{Later, Licensed, HasCause}
+use Rattle.hg_base.specs.Causes.{Later, HasCause, MayBeFound, MainFailed, TempFailed, NoneFull, counts_after}
 use Rattle.hg_base.specs.Steadiness.{Mine, Steady, IsPlain, IsSamePage}
 use Rattle.hg_base.specs.declared.pages.PageFault.{PageFault}
 use Rattle.hg_base.specs.declared.pages.PageFault.TheVariants as fault
@@ -47,7 +47,8 @@ Steady_same m a h = record {
   told = refl;
   limit = refl;
   pages = λ q _ p. record { taken = refl; of_heap = refl; bytes = refl; next = refl };
-  none_taken = λ q _ p. p;
+  taken = λ q _. refl;
+  of_heap = λ q _. refl;
   heaps = λ h _. refl;
   current = refl;
   caps = λ r. refl;
@@ -63,7 +64,8 @@ Steady_then m a b c p r = record {
   told = r.told ∙ p.told;
   limit = r.limit ∙ p.limit;
   pages = λ q n h. IsSamePage_then a b c q (p.pages q n h) (r.pages q n (IsPlain_stays a b q (p.pages q n h) h));
-  none_taken = λ q n h. p.none_taken q n (r.none_taken q n h);
+  taken = λ q n. r.taken q n ∙ p.taken q n;
+  of_heap = λ q n. r.of_heap q n ∙ p.of_heap q n;
   heaps = λ h n. r.heaps h n ∙ p.heaps h n;
   current = r.current ∙ p.current;
   caps = λ q. r.caps q ∙ p.caps q;
@@ -80,7 +82,8 @@ Steady_wider m w a b pages heaps requests p = record {
   told = p.told;
   limit = p.limit;
   pages = λ q n h. p.pages q (λ x. n (pages q x)) h;
-  none_taken = λ q n h. p.none_taken q (λ x. n (pages q x)) h;
+  taken = λ q n. p.taken q (λ x. n (pages q x));
+  of_heap = λ q n. p.of_heap q (λ x. n (pages q x));
   heaps = λ h n. p.heaps h (λ x. n (heaps h x));
   current = p.current;
   caps = p.caps;
@@ -98,7 +101,8 @@ Steady_refused m a b h e l =
       told = refl;
       limit = refl;
       pages = λ q _ p. record { taken = refl; of_heap = refl; bytes = refl; next = refl };
-      none_taken = λ q _ p. record { taken = p.taken; no_heap = p.no_heap };
+      taken = λ q _. refl;
+      of_heap = λ q _. refl;
       heaps = λ h _. refl;
       current = refl;
       caps = λ r. refl;
@@ -106,20 +110,64 @@ Steady_refused m a b h e l =
       counts = l;
     }) l
 
--- a cause in the second of two calls is one in both
-pub Licensed_behind : (a b c : Space) (f : PageFault) → b.told ≡ a.told → Later a.counts b.counts → Licensed b c f → Licensed a c f
-Licensed_behind a b c fault.MainFault t l h = (let seen = h.0 in omega arith, let own = h.1 in omega arith)
-Licensed_behind a b c fault.TempFault t l h = (let seen = h.0 in omega arith, let own = h.1 in omega arith)
-Licensed_behind a b c fault.MainFull t l h = omega arith
-Licensed_behind a b c fault.TempFull t l h = omega arith
-Licensed_behind a b c (fault.Damaged page check) t l h = sym t ∙ h
-
-pub HasCause_behind : {T : Type 0} (m : Mine) (a b c : Space) (r : Result T PageFault) → Steady m a b → HasCause b c r → HasCause a c r
-HasCause_behind m a b c (Ok x) p h = record { later = Later_then a.counts b.counts c.counts p.counts h.later; failed = h.failed }
-HasCause_behind m a b c (Err f) p h = record {
-  later = Later_then a.counts b.counts c.counts p.counts h.later;
-  failed = Licensed_behind a b c f p.told p.counts h.failed;
+-- a cause in the second of two calls, of which the first found no fault, is one in both
+pub HasCause_behind : (a b c : Space) (f : Option PageFault) → b.told ≡ a.told → HasCause a b None → HasCause b c f → HasCause a c f
+HasCause_behind a b c f t p h = record {
+  later = Later_then a.counts b.counts c.counts p.later h.later;
+  counts = h.counts ∙ ap (λ n. counts_after n f) p.counts;
+  damage = may_be_found f h.damage;
 }
+  where
+    may_be_one : (f : PageFault) → MayBeFound b f → MayBeFound a f
+    may_be_one fault.MainFault h = tt
+    may_be_one fault.TempFault h = tt
+    may_be_one fault.MainFull h = tt
+    may_be_one fault.TempFull h = tt
+    may_be_one (fault.Damaged page check) h = sym t ∙ h
+
+    may_be_found : (f : Option PageFault) → IfSome f (MayBeFound b) → IfSome f (MayBeFound a)
+    may_be_found None h = tt
+    may_be_found (Some f) h = may_be_one f h
+
+-- nothing happened, and nothing failed
+pub HasCause_none : (a b : Space) → b.counts ≡ a.counts → HasCause a b None
+HasCause_none a b e = record {
+  later = let P : Counts → Type 0 = λ n. Later a.counts n in subst P (sym e) (Later_same a.counts);
+  counts = e;
+  damage = tt;
+}
+
+-- the counts of a device that failed rose
+pub main_failed : (a b : Space) → HasCause a b (Some fault.MainFault) → MainFailed a.counts b.counts
+main_failed a b h =
+    let P : Counts → Type 0 = λ n. MainFailed a.counts n in subst P (sym h.counts) (omega arith, omega arith)
+
+pub temp_failed : (a b : Space) → HasCause a b (Some fault.TempFault) → TempFailed a.counts b.counts
+temp_failed a b h =
+    let P : Counts → Type 0 = λ n. TempFailed a.counts n in subst P (sym h.counts) (omega arith, omega arith)
+
+-- a call that found no file full leaves the counts of full files
+abbrev pub FindsNoneFull : PageFault → Type 0
+FindsNoneFull fault.MainFault = ⊤
+FindsNoneFull fault.TempFault = ⊤
+FindsNoneFull fault.MainFull = ⊥
+FindsNoneFull fault.TempFull = ⊥
+FindsNoneFull (fault.Damaged page check) = ⊤
+
+pub none_full : (a b : Space) (f : Option PageFault) → IfSome f FindsNoneFull → HasCause a b f → NoneFull a.counts b.counts
+none_full a b f n h =
+    let P : Counts → Type 0 = λ c. NoneFull a.counts c in subst P (sym h.counts) (same f n)
+  where
+    one : (f : PageFault) → FindsNoneFull f → NoneFull a.counts (counts_after a.counts (Some f))
+    one fault.MainFault n = record { main_full = refl; temp_full = refl }
+    one fault.TempFault n = record { main_full = refl; temp_full = refl }
+    one fault.MainFull n = absurd n
+    one fault.TempFull n = absurd n
+    one (fault.Damaged page check) n = record { main_full = refl; temp_full = refl }
+
+    same : (f : Option PageFault) → IfSome f FindsNoneFull → NoneFull a.counts (counts_after a.counts f)
+    same None n = record { main_full = refl; temp_full = refl }
+    same (Some f) n = one f n
 
 -- Two spaces that agree in each part are one. Whoever implements `Pages` over structures of its own
 -- proves its equations by this.

@@ -12,8 +12,9 @@ mod plain;
 mod tests;
 
 pub use addr::Addr;
+use arrayvec::ArrayVec;
 pub use bytes::{get_u16, get_u32, get_u64, put_u16, put_u32, put_u64};
-pub use pages::{PageFault, Pages};
+pub use pages::{Heaps, PageFault, Pages};
 pub use plain::{PlainPin, PlainSpace};
 use std::marker::Model;
 
@@ -82,6 +83,49 @@ pub struct PageId {
 pub struct Table {
     pub first: Option<u32>,
     pub last: Option<u32>,
+}
+
+impl Place {
+    ghost use Rattle.std.specs.Prelude.{◌≡◌, ◌≤◌, ◌+◌, ◌*◌, ◌^◌, IfSome, IfNone};
+
+    /// The place as one number, as the entries of an index tree have it: the page's number times
+    /// 65,536, plus the slot.
+    pub fn number(self) -> u64
+        ensures { result ≡ self.page * 65536 + self.slot }
+    {
+        self.page as u64 * 65_536 + self.slot as u64
+    }
+
+    /// The place that a number stands for, if it is one: its page's number is below 2^32.
+    pub fn of_number(number: u64) -> Option<Place>
+        ensures some { IfSome result (λ place. place.page * 65536 + place.slot ≡ number) }
+        ensures none { IfNone result (2 ^ 48 ≤ number) }
+    {
+        match u32::try_from(number / 65_536) {
+            Ok(page) => Some(Place {
+                page,
+                slot: (number % 65_536) as u16,
+            }),
+            Err(_) => None,
+        }
+    }
+}
+
+/// Where an ordered tree of keys and places stands: its file, and the number of the page at its top.
+/// Its pages are linked by their successors from there on.
+#[derive(Clone, Copy, PartialEq, Eq, Debug)]
+pub struct Tree {
+    pub file: File,
+    pub top: u32,
+}
+
+/// An index of a table: its tree, the table's columns that make its key, in order, and whether no two
+/// rows may have one key.
+#[derive(Drop)]
+pub struct Index {
+    pub tree: Tree,
+    pub columns: ArrayVec<u8, 16>,
+    pub unique: bool,
 }
 
 /// What a reader of a page found wrong with it.

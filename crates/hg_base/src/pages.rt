@@ -1,6 +1,6 @@
 //! The seam between the buffer pool and everything that is kept on pages.
 
-use crate::{Check, File, PageId};
+use crate::{Check, File, PageId, Request};
 
 /// Why a call over pages failed.
 #[derive(Clone, Copy, PartialEq, Eq, Debug)]
@@ -28,7 +28,7 @@ pub trait Pages {
     ghost use Rattle.std.specs.Borrow.{sem};
     ghost use Rattle.hg_base.specs.Lending.{LendsBytes};
     ghost use Rattle.hg_base.specs.Space.{Space, key, IsPinned, IsMade, IsSame, IsFree, IsFull, IsWithinLimit, without_pin, without_page, with_bytes, with_next, full_count, taken_in};
-    ghost use Rattle.hg_base.specs.Causes.{HasCause, NoneFull, PinFault, FreshFault, full_fault};
+    ghost use Rattle.hg_base.specs.Causes.{HasCause, PinFault, FreshFault, fault_of, full_fault};
     ghost use Rattle.hg_base.specs.declared.PageId.{PageId};
 
     /// The right to a page's bytes. It must be spent by `unpin`.
@@ -50,18 +50,16 @@ pub trait Pages {
         ensures names { IfOk result (λ pin. pin_page pin ≡ page) }
         ensures ok { OnOk result (IsPinned (state self.old) (state self.new) (key page)) }
         ensures err { OnErr result (IsSame (state self.old) (state self.new)) }
-        ensures cause { HasCause (state self.old) (state self.new) result }
-        ensures fault { IfErr result (PinFault (state self.old) (state self.new)) }
-        ensures none_full { NoneFull (state self.old).counts (state self.new).counts };
+        ensures fault { IfErr result PinFault }
+        ensures cause { HasCause (state self.old) (state self.new) (fault_of result) };
 
     /// Takes a page that was not taken: zeros, pinned, with no successor.
     fn fresh(&mut self, file: File) -> Result<Self::Pin, PageFault>
         requires few { (state self.old).pins < 8 }
         ensures ok { IfOk result (λ pin. IsMade file (state self.old) (state self.new) (pin_page pin)) }
-        ensures ok_counts { OnOk result (NoneFull (state self.old).counts (state self.new).counts) }
         ensures err { OnErr result (IsSame (state self.old) (state self.new)) }
-        ensures cause { HasCause (state self.old) (state self.new) result }
-        ensures fault { IfErr result (FreshFault file (state self.old) (state self.new)) }
+        ensures fault { IfErr result (FreshFault file (state self.old)) }
+        ensures cause { HasCause (state self.old) (state self.new) (fault_of result) }
         ensures full { IsFull (state self.old) file → IsErrOf result (full_fault file) };
 
     /// The page that a pin holds.
@@ -128,4 +126,15 @@ pub trait Pages {
     ghost writes: { (s : Self) (p : ℕ) (b w : List ℕ)
         → (state s).bytes p ≡ Some b → (state s).pinned p ≡ true → length w ≡ length b
         → state (after_write s p w) ≡ with_bytes (state s) p w };
+}
+
+/// A space that has heaps too. This is the part of the trait that tells what holds of them all.
+pub trait Heaps: Pages {
+    ghost use Rattle.std.specs.Prelude.{◌≡◌};
+    ghost use Rattle.hg_base.specs.HeapFacts.{AreHeaps};
+
+    /// The most pages that the request's heaps had at once since its cap was last set.
+    fn peak(&self, request: Request) -> u32
+        ensures count { result ≡ (Self.state self.now).heaps.peak request }
+        ensures heaps { AreHeaps (Self.state self.now) };
 }

@@ -4,7 +4,7 @@ ghost use Rattle.std.specs.Prelude.{◌≡◌, ◌+◌, ◌*◌, ◌<◌, ◌≤
 ghost use Rattle.hg_base.specs.Space.{key};
 ghost use Rattle.hg_base.specs.Plain.{page_limit};
 
-use crate::{File, PageFault, PageId, Pages};
+use crate::{File, Heaps, PageFault, PageId, Pages, Request};
 use std::alloc::{AllocError, Global};
 use std::marker::Model;
 
@@ -133,9 +133,9 @@ pub struct PlainPin {
 }
 
 impl PlainSpace {
-    ghost use Rattle.std.specs.Prelude.{◌≡◌, ◌+◌, ◌<◌, true, false, OnOk, OnErr, IfSome, IfNone, vec_len};
+    ghost use Rattle.std.specs.Prelude.{◌≡◌, ◌+◌, ◌<◌, true, false, Some, OnOk, OnErr, IfSome, IfNone, vec_len};
     ghost use Rattle.hg_base.specs.Space.{key, key_in, IsFull, IsSame, NoPins, with_new, taken_in};
-    ghost use Rattle.hg_base.specs.Causes.{FreshFault, Later, Licensed, full_fault};
+    ghost use Rattle.hg_base.specs.Causes.{FreshFault, HasCause, full_fault};
     ghost use Rattle.hg_base.specs.Plain.{plain_start, page_limit, is_key};
     ghost use Rattle.hg_base.specs.PlainSpaces.{state_of};
 
@@ -197,9 +197,8 @@ impl PlainSpace {
     fn count_full(&mut self, file: File) -> PageFault
         requires { IsFull (state_of self.old) file }
         ensures fault { result ≡ full_fault file }
-        ensures licensed { Licensed (state_of self.old) (state_of self.new) result }
-        ensures later { Later (state_of self.old).counts (state_of self.new).counts }
-        ensures counted { FreshFault file (state_of self.old) (state_of self.new) result }
+        ensures cause { HasCause (state_of self.old) (state_of self.new) (Some result) }
+        ensures full { FreshFault file (state_of self.old) result }
         ensures same { IsSame (state_of self.old) (state_of self.new) }
     {
         match file {
@@ -345,4 +344,10 @@ impl Pages for PlainSpace {
     }
 
     ghost writes = { writes_of };
+}
+
+impl Heaps for PlainSpace {
+    fn peak(&self, _request: Request) -> u32 {
+        0
+    }
 }

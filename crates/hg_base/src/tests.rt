@@ -1,10 +1,10 @@
 //! Callers of `Pages` as the layers above write them, over any space, and run over a plain one.
 ghost use Rattle.std.specs.Prelude.{◌≡◌, ◌≢◌, ℕ, ◌+◌, ◌<◌, ◌≤◌, ◌↔◌, ◌⊎◌, true, false, List, length, IsTrue, Some, None, IfOk, IfErr, OnOk, OnErr, IsErrOf, slice_index, MatchResult};
 ghost use Rattle.hg_base.specs.Space.{Space, key, NoPins, IsSame};
-ghost use Rattle.hg_base.specs.Causes.{HasCause};
+ghost use Rattle.hg_base.specs.Causes.{HasCause, fault_of};
 ghost use Rattle.hg_base.specs.Steadiness.{Steady, these_pages};
 
-use crate::{File, PageFault, PageId, Pages, PlainSpace};
+use crate::{File, Heaps, PageFault, PageId, Pages, Place, PlainSpace, Request};
 use std::test::Fail;
 
 /// The first byte of a page.
@@ -15,7 +15,7 @@ fn first_byte<S: Pages>(space: &mut S, page: PageId) -> Result<u8, PageFault>
     ensures value { IfOk result (λ x. (b : List ℕ)
         → (S.state space.old).bytes (key page) ≡ Some b → x ≡ slice_index b 0) }
     ensures kept { Steady (these_pages (λ _. ⊥)) (S.state space.old) (S.state space.new) }
-    ensures cause { HasCause (S.state space.old) (S.state space.new) result }
+    ensures cause { HasCause (S.state space.old) (S.state space.new) (fault_of result) }
 {
     let pin = space.pin(page)?;
     let first = space.bytes(&pin)[0];
@@ -34,7 +34,7 @@ fn extend<S: Pages>(space: &mut S, last: PageId, kind: u8) -> Result<PageId, Pag
     ensures kept { IfOk result (λ p. Steady (these_pages (λ q. (q ≡ key last) ⊎ (q ≡ key p)))
         (S.state space.old) (S.state space.new)) }
     ensures err { OnErr result (IsSame (S.state space.old) (S.state space.new)) }
-    ensures cause { HasCause (S.state space.old) (S.state space.new) result }
+    ensures cause { HasCause (S.state space.old) (S.state space.new) (fault_of result) }
 {
     let pin = space.fresh(last.file)?;
     let page = space.page_of(&pin);
@@ -49,7 +49,7 @@ fn extend<S: Pages>(space: &mut S, last: PageId, kind: u8) -> Result<PageId, Pag
 fn walk<S: Pages>(space: &mut S, first: PageId, budget: u32) -> Result<u64, PageFault>
     requires out { NoPins (S.state space.old) }
     ensures kept { Steady (these_pages (λ _. ⊥)) (S.state space.old) (S.state space.new) }
-    ensures cause { HasCause (S.state space.old) (S.state space.new) result }
+    ensures cause { HasCause (S.state space.old) (S.state space.new) (fault_of result) }
 {
     let mut total: u64 = 0;
     let mut at = first;
@@ -76,7 +76,7 @@ fn two<S: Pages>(space: &mut S, file: File) -> Result<(PageId, PageId), PageFaul
         (λ p. Steady (these_pages (λ q. (q ≡ key p.0) ⊎ (q ≡ key p.1)))
         (S.state space.old) (S.state space.new))
         (λ _. Steady (these_pages (λ _. ⊥)) (S.state space.old) (S.state space.new)) }
-    ensures cause { HasCause (S.state space.old) (S.state space.new) result }
+    ensures cause { HasCause (S.state space.old) (S.state space.new) (fault_of result) }
 {
     let left = space.fresh(file)?;
     let left_page = space.page_of(&left);
@@ -158,5 +158,15 @@ fn pages_of_a_plain_space(rt: HostRuntime) -> Result<(), Fail> {
     assert_eq!(rt; (space.taken(File::Main), space.taken(File::Temp)), (3, 1));
     assert_eq!(rt; (space.main_faults(), space.temp_faults()), (0, 0));
     assert_eq!(rt; (space.fulls(File::Main), space.fulls(File::Temp)), (0, 0));
+    assert_eq!(rt; space.peak(Request(3)), 0);
+    Ok(())
+}
+
+#[test]
+fn places_as_numbers(rt: HostRuntime) -> Result<(), Fail> {
+    let place = Place { page: 7, slot: 128 };
+    assert_eq!(rt; place.number(), 458_880);
+    assert_eq!(rt; Place::of_number(458_880), Some(place));
+    assert_eq!(rt; Place::of_number(1 << 48), None);
     Ok(())
 }
