@@ -1,6 +1,6 @@
 //! A file as a device of pages. It tells no bytes: what a file holds or gives, no proof says.
 ghost use Rattle.std.specs.Prelude.{◌≡◌, ◌≤◌, ◌<◌, ◌*◌, ◌↔◌, IsOk, IsSome, IfSome, false, [], length};
-ghost use Rattle.hg_io.specs.Count.{HasCause};
+ghost use Rattle.hg_io.specs.Count.{Ends, HasCause};
 
 use hg_io::{Failed, PAGE_BYTES, PAGE_LIMIT, PageDevice};
 use std::fs::OpenOptions;
@@ -87,25 +87,36 @@ pub struct FileDevice<R: Files + Drop> {
     files: R,
     name: &'static str,
     file: Option<R::File>,
+    reads: u64,
+    writes: u64,
     faults: u64,
+    ghost reads_end: { Ends reads },
+    ghost writes_end: { Ends writes },
+    ghost faults_end: { Ends faults },
 }
 
 impl<R: Files + Drop> FileDevice<R> {
     /// A device over the file of that name, of which nothing is asked yet.
     pub fn new(files: R, name: &'static str) -> FileDevice<R>
-        ensures { result.faults ≡ 0 }
+        ensures reads { result.reads ≡ 0 }
+        ensures writes { result.writes ≡ 0 }
+        ensures faults { result.faults ≡ 0 }
     {
         FileDevice {
             files,
             name,
             file: None,
+            reads: 0,
+            writes: 0,
             faults: 0,
         }
     }
 
     /// Makes the file where it is not made yet. Where that fails, the device still has none.
     fn make(&mut self)
-        ensures { self.new.faults ≡ self.old.faults }
+        ensures reads { self.new.reads ≡ self.old.reads }
+        ensures writes { self.new.writes ≡ self.old.writes }
+        ensures faults { self.new.faults ≡ self.old.faults }
     {
         if self.file.is_none() {
             self.file = OpenOptions::new()
@@ -121,6 +132,8 @@ impl<R: Files + Drop> FileDevice<R> {
     /// The answer of a call, which counts a fault where its work was not done.
     fn answer(&mut self, done: Option<()>) -> Result<(), Failed>
         ensures said { IsOk result ↔ IsSome done }
+        ensures reads { self.new.reads ≡ self.old.reads }
+        ensures writes { self.new.writes ≡ self.old.writes }
         ensures cause { HasCause self.old.faults self.new.faults result }
     {
         if done.is_none() {
@@ -141,13 +154,24 @@ where
 
     ghost page = { λ _ _. [] };
 
+    ghost reads = { λ d. d.reads };
+
+    ghost writes = { λ d. d.writes };
+
     ghost faults = { λ d. d.faults };
+
+    ghost reads_end = { λ d. d.reads_end };
+
+    ghost writes_end = { λ d. d.writes_end };
+
+    ghost faults_end = { λ d. d.faults_end };
 
     fn limit(&self) -> u32 {
         PAGE_LIMIT
     }
 
     fn read(&mut self, no: u32, buf: &mut [u8]) -> Result<(), Failed> {
+        self.reads = self.reads.saturating_add(1);
         self.make();
         let done = match &self.file {
             Some(file) => read_all(file, buf, place_of(no)),
@@ -157,6 +181,7 @@ where
     }
 
     fn write(&mut self, no: u32, bytes: &[u8]) -> Result<(), Failed> {
+        self.writes = self.writes.saturating_add(1);
         self.make();
         let done = match &self.file {
             Some(file) => write_all(file, bytes, place_of(no)),

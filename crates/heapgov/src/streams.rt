@@ -1,5 +1,6 @@
 //! Standard input as a source and standard output as a sink. They tell no bytes.
-ghost use Rattle.std.specs.Prelude.{◌≡◌, ◌≤◌, ◌<◌, ◌^◌, None, IfSome, length};
+ghost use Rattle.std.specs.Prelude.{◌≡◌, ◌≤◌, ◌<◌, None, IfSome, length};
+ghost use Rattle.hg_io.specs.Count.{Ends};
 
 use hg_io::{Failed, Sink, Source};
 use std::io::{ErrorKind, Read, Write};
@@ -48,7 +49,8 @@ pub struct StdSource<R: Read + Drop> {
     reader: R,
     given: u64,
     faults: u64,
-    ghost counted: { given < 2 ^ 64 },
+    ghost given_ends: { Ends given },
+    ghost faults_end: { Ends faults },
 }
 
 impl<R: Read + Drop> StdSource<R> {
@@ -71,7 +73,9 @@ impl<R: Read + Drop> Source for StdSource<R> {
 
     ghost faults = { λ s. s.faults };
 
-    ghost given_ends = { λ s. s.counted };
+    ghost given_ends = { λ s. s.given_ends };
+
+    ghost faults_end = { λ s. s.faults_end };
 
     fn read(&mut self, buf: &mut [u8]) -> Result<usize, Failed> {
         match read_from(&mut self.reader, buf) {
@@ -92,6 +96,7 @@ impl<R: Read + Drop> Source for StdSource<R> {
 pub struct StdSink<W: Write + Drop> {
     writer: W,
     faults: u64,
+    ghost faults_end: { Ends faults },
 }
 
 impl<W: Write + Drop> StdSink<W> {
@@ -106,6 +111,8 @@ impl<W: Write + Drop> Sink for StdSink<W> {
     ghost written = { λ _. None };
 
     ghost faults = { λ s. s.faults };
+
+    ghost faults_end = { λ s. s.faults_end };
 
     fn write(&mut self, bytes: &[u8]) -> Result<usize, Failed> {
         if bytes.is_empty() {

@@ -1,5 +1,6 @@
--- Counts of faults and of bytes. Our own rule: a count goes up to 2^64 - 1 and then stays there.
-use Rattle.std.specs.Prelude.{ℕ, ◌+◌, ◌-◌, ◌^◌, ◌≤◌, min, Result, OnErr}
+-- Counts of faults, of calls and of bytes. Our own rule: a count goes up to 2^64 - 1 and then stays there.
+use Rattle.std.specs.Prelude.{◌≡◌, ℕ, ◌+◌, ◌-◌, ◌^◌, ◌≤◌, min, Result, OnOk, OnErr}
+use Rattle.std.proofs.Common.{arith}
 
 -- a count after n more
 abbrev pub raised : ℕ → ℕ → ℕ
@@ -9,7 +10,14 @@ raised count n = min (count + n) (2 ^ 64 - 1)
 abbrev pub Rose : ℕ → ℕ → Type 0
 Rose before now = raised before 1 ≤ now
 
--- the count does not fall, and a call that failed raised it
+-- a count never passes its end
+abbrev pub Ends : ℕ → Type 0
+Ends count = count ≤ 2 ^ 64 - 1
+
+pub none_ends : Ends 0
+none_ends = omega arith
+
+-- a call that did its work leaves the count of faults as it was, and one that failed raises it by one
 pub record HasCause {T E : Type 0} (before now : ℕ) (result : Result T E) : Type 0 where
-  pub later : before ≤ now
-  pub failed : OnErr result (Rose before now)
+  pub stays : OnOk result (now ≡ before)
+  pub failed : OnErr result (now ≡ raised before 1)

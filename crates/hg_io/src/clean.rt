@@ -1,39 +1,38 @@
 //! A device of pages in memory that never fails.
-ghost use Rattle.std.specs.Prelude.{◌≡◌, ◌<◌, true, OnOk, IfOk, IsOk, length, replicate};
-ghost use Rattle.hg_io.specs.Count.{HasCause};
-ghost use Rattle.hg_io.specs.Device.{SamePages, SameButOne, GivesPage, page_of, zeros};
+ghost use Rattle.std.specs.Prelude.{◌≡◌, ◌<◌, ◌^◌, true, IfOk, IsOk, length, replicate};
+ghost use Rattle.hg_io.specs.Count.{raised, Ends, none_ends};
+ghost use Rattle.hg_io.specs.Device.{SameButOne, page_of, zeros};
 
 use crate::device::PageDevice;
 use crate::page::Page;
 use crate::stream::Failed;
 use hg_base::NoMemory;
 use std::alloc::{AllocError, Global};
-use std::marker::Model;
 
 /// A device in memory that tells its pages and never fails: all its memory is taken when it is made.
-/// Contracts see it as the list of its pages.
 #[derive(Drop)]
 pub struct CleanDevice {
     pages: Vec<Page>,
-}
-
-impl Model for CleanDevice {
-    ghost use Rattle.std.specs.Prelude.{◌<◌, ◌^◌, ℕ, List, length};
-
-    ghost Value = { List (List ℕ) };
-
-    ghost view = { λ d. d.pages.items };
-
-    ghost invariant = { λ d. length d.pages.items < 2 ^ 32 };
+    reads: u64,
+    writes: u64,
+    ghost few: { length pages.items < 2 ^ 32 },
+    ghost reads_end: { Ends reads },
+    ghost writes_end: { Ends writes },
 }
 
 impl CleanDevice {
     /// A device of so many pages of zeros.
     pub fn new(alloc: Global, pages: u32) -> Result<CleanDevice, NoMemory>
-        ensures { IfOk result (λ device. device ≡ replicate pages zeros) }
+        ensures zeros { IfOk result (λ device. device.pages.items ≡ replicate pages zeros) }
+        ensures reads { IfOk result (λ device. device.reads ≡ 0) }
+        ensures writes { IfOk result (λ device. device.writes ≡ 0) }
     {
         match pages_of_zeros(alloc, pages) {
-            Ok(pages) => Ok(CleanDevice { pages }),
+            Ok(pages) => Ok(CleanDevice {
+                pages,
+                reads: 0,
+                writes: 0,
+            }),
             Err(_) => Err(NoMemory),
         }
     }
@@ -50,41 +49,54 @@ fn pages_of_zeros(alloc: Global, count: u32) -> Result<Vec<Page>, AllocError>
 }
 
 impl PageDevice for CleanDevice {
-    ghost pages = { λ d. length d };
+    ghost pages = { λ d. length d.pages.items };
 
     ghost told = { λ _. true };
 
-    ghost page = { λ d. page_of d };
+    ghost page = { λ d. page_of d.pages.items };
+
+    ghost reads = { λ d. d.reads };
+
+    ghost writes = { λ d. d.writes };
 
     ghost faults = { λ _. 0 };
+
+    ghost reads_end = { λ d. d.reads_end };
+
+    ghost writes_end = { λ d. d.writes_end };
+
+    ghost faults_end = { λ _. none_ends };
 
     fn limit(&self) -> u32 {
         self.pages.len() as u32
     }
 
     fn read(&mut self, no: u32, buf: &mut [u8]) -> Result<(), Failed>
-        requires in_range { no < length self.old }
+        requires in_range { no < length self.old.pages.items }
         requires whole_page { length buf.old ≡ 4096 }
         ensures sure { IsOk result }
-        ensures gives { OnOk result (GivesPage true (page_of self.old) no buf.new) }
-        ensures keeps { SamePages true (page_of self.old) (page_of self.new) }
-        ensures same_limit { length self.new ≡ length self.old }
-        ensures cause { HasCause 0 0 result }
+        ensures gives { buf.new ≡ page_of self.old.pages.items no }
+        ensures keeps { self.new.pages.items ≡ self.old.pages.items }
+        ensures counted { self.new.reads ≡ raised self.old.reads 1 }
+        ensures same_writes { self.new.writes ≡ self.old.writes }
     {
+        self.reads = self.reads.saturating_add(1);
         let page = &self.pages[no as usize];
         buf.copy_from_slice(page.bytes());
         Ok(())
     }
 
     fn write(&mut self, no: u32, bytes: &[u8]) -> Result<(), Failed>
-        requires in_range { no < length self.old }
+        requires in_range { no < length self.old.pages.items }
         requires whole_page { length bytes.now ≡ 4096 }
         ensures sure { IsOk result }
-        ensures puts { OnOk result (GivesPage true (page_of self.new) no bytes.now) }
-        ensures keeps { SameButOne true (page_of self.old) (page_of self.new) no }
-        ensures same_limit { length self.new ≡ length self.old }
-        ensures cause { HasCause 0 0 result }
+        ensures puts { page_of self.new.pages.items no ≡ bytes.now }
+        ensures keeps { SameButOne true (page_of self.old.pages.items) (page_of self.new.pages.items) no }
+        ensures counted { self.new.writes ≡ raised self.old.writes 1 }
+        ensures same_reads { self.new.reads ≡ self.old.reads }
+        ensures same_limit { length self.new.pages.items ≡ length self.old.pages.items }
     {
+        self.writes = self.writes.saturating_add(1);
         let page = &mut self.pages[no as usize];
         page.put(bytes);
         Ok(())

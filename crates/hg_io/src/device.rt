@@ -1,10 +1,10 @@
 //! A device of pages, and one in memory.
 ghost use Rattle.std.specs.Prelude.{◌≡◌, ◌<◌, ◌≤◌, ◌↔◌, ℕ, List, Bool, true, OnOk, IsErr, Contains, length};
-ghost use Rattle.hg_io.specs.Count.{raised, Rose, HasCause};
+ghost use Rattle.hg_io.specs.Count.{raised, Ends, HasCause};
 ghost use Rattle.hg_io.specs.Device.{SamePages, SameButOne, GivesPage, page_at, zeros};
 
 use crate::page::{Page, put_zeros};
-use crate::stream::Failed;
+use crate::stream::{Failed, count_fault};
 use std::alloc::Global;
 use std::collections::BTreeMap;
 
@@ -22,6 +22,13 @@ pub trait PageDevice {
     /// What stands in a page. A page that was never written is zeros.
     ghost page: { Self → ℕ → List ℕ };
 
+    /// How many reads it was asked for so far, failed ones too.
+    ghost reads: { Self → ℕ };
+
+    /// How many writes it was asked for so far, failed ones too.
+    ghost writes: { Self → ℕ };
+
+    /// How many of its calls failed so far.
     ghost faults: { Self → ℕ };
 
     /// The number of its pages.
@@ -34,6 +41,8 @@ pub trait PageDevice {
         requires whole_page { length buf.old ≡ 4096 }
         ensures gives { OnOk result (GivesPage (told self.old) (page self.old) no buf.new) }
         ensures keeps { SamePages (told self.old) (page self.old) (page self.new) }
+        ensures counted { reads self.new ≡ raised (reads self.old) 1 }
+        ensures same_writes { writes self.new ≡ writes self.old }
         ensures same_limit { pages self.new ≡ pages self.old }
         ensures same_told { told self.new ≡ told self.old }
         ensures cause { HasCause (faults self.old) (faults self.new) result };
@@ -44,9 +53,18 @@ pub trait PageDevice {
         requires whole_page { length bytes.now ≡ 4096 }
         ensures puts { OnOk result (GivesPage (told self.old) (page self.new) no bytes.now) }
         ensures keeps { SameButOne (told self.old) (page self.old) (page self.new) no }
+        ensures counted { writes self.new ≡ raised (writes self.old) 1 }
+        ensures same_reads { reads self.new ≡ reads self.old }
         ensures same_limit { pages self.new ≡ pages self.old }
         ensures same_told { told self.new ≡ told self.old }
         ensures cause { HasCause (faults self.old) (faults self.new) result };
+
+    /// The counts end at 2^64 - 1.
+    ghost reads_end: { (d : Self) → Ends (reads d) };
+
+    ghost writes_end: { (d : Self) → Ends (writes d) };
+
+    ghost faults_end: { (d : Self) → Ends (faults d) };
 }
 
 /// A device in memory, which tells its pages. A listed call fails, and any other only where memory
@@ -60,6 +78,9 @@ pub struct MemDevice {
     reads: u64,
     writes: u64,
     faults: u64,
+    ghost reads_end: { Ends reads },
+    ghost writes_end: { Ends writes },
+    ghost faults_end: { Ends faults },
 }
 
 impl MemDevice {
@@ -89,16 +110,6 @@ impl MemDevice {
     {
         self.reads
     }
-
-    /// Counts a fault.
-    fn fault(&mut self) -> Failed
-        ensures later { self.old.faults ≤ self.new.faults }
-        ensures rose { Rose self.old.faults self.new.faults }
-        ensures rest { self.new ≡ record self.old { faults = self.new.faults } }
-    {
-        self.faults = self.faults.saturating_add(1);
-        Failed
-    }
 }
 
 impl PageDevice for MemDevice {
@@ -108,7 +119,17 @@ impl PageDevice for MemDevice {
 
     ghost page = { λ d. page_at d.pages };
 
+    ghost reads = { λ d. d.reads };
+
+    ghost writes = { λ d. d.writes };
+
     ghost faults = { λ d. d.faults };
+
+    ghost reads_end = { λ d. d.reads_end };
+
+    ghost writes_end = { λ d. d.writes_end };
+
+    ghost faults_end = { λ d. d.faults_end };
 
     fn limit(&self) -> u32 {
         PAGE_LIMIT
@@ -130,7 +151,7 @@ impl PageDevice for MemDevice {
     {
         self.reads = self.reads.saturating_add(1);
         if self.fail_reads.contains(&self.reads) {
-            return Err(self.fault());
+            return Err(count_fault(&mut self.faults));
         }
         match self.pages.get(&no) {
             Some(page) => buf.copy_from_slice(page.bytes()),
@@ -155,14 +176,14 @@ impl PageDevice for MemDevice {
     {
         self.writes = self.writes.saturating_add(1);
         if self.fail_writes.contains(&self.writes) {
-            return Err(self.fault());
+            return Err(count_fault(&mut self.faults));
         }
         let Ok(page) = Page::of(self.alloc, bytes) else {
-            return Err(self.fault());
+            return Err(count_fault(&mut self.faults));
         };
         match self.pages.insert(no, page) {
             Ok(_) => Ok(()),
-            Err(_) => Err(self.fault()),
+            Err(_) => Err(count_fault(&mut self.faults)),
         }
     }
 }

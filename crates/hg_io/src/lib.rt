@@ -2,9 +2,10 @@
 //! each a trait, and fakes of the three in memory. It stands on `hg_base`, for the answer for want of
 //! memory.
 //!
-//! The contract used above: a call fails only where the object's own count of faults rose in that
-//! call, and what an object tells of its contents (a fake tells, a real stream does not) changes only
-//! as the call's answer says.
+//! The contract used above: a call that fails raises the object's own count of faults by one, and a
+//! call that does its work leaves it; a device counts each read and each write that it is asked for;
+//! and what an object tells of its contents (a fake tells, a real stream does not) changes only as the
+//! call's answer says.
 #![tactic(auto)]
 
 mod clean;

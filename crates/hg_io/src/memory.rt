@@ -1,10 +1,10 @@
 //! A source and a sink in memory, which tell their bytes and fail at the calls that they are told to
 //! fail at. Calls are numbered from 1.
-ghost use Rattle.std.specs.Prelude.{◌≡◌, ◌≤◌, ◌<◌, ◌^◌, ◌↔◌, Some, [], take, drop, min, IfOk, IsErr, OnErr, Contains, length};
-ghost use Rattle.hg_io.specs.Count.{raised, HasCause};
+ghost use Rattle.std.specs.Prelude.{◌≡◌, ◌≤◌, ◌↔◌, Some, [], take, drop, min, IfOk, IsErr, OnErr, Contains, length};
+ghost use Rattle.hg_io.specs.Count.{raised, Ends, HasCause};
 ghost use Rattle.hg_io.specs.Bytes.{Reads, Writes};
 
-use crate::stream::{Failed, Sink, Source};
+use crate::stream::{Failed, Sink, Source, count_fault};
 use std::alloc::Global;
 
 /// A source of given bytes. A call fails exactly where its number is in the list.
@@ -17,7 +17,8 @@ pub struct MemSource {
     faults: u64,
     given: u64,
     ghost in_range: { at ≤ length bytes.items },
-    ghost counted: { given < 2 ^ 64 },
+    ghost faults_end: { Ends faults },
+    ghost given_ends: { Ends given },
 }
 
 impl MemSource {
@@ -48,7 +49,9 @@ impl Source for MemSource {
 
     ghost faults = { λ s. s.faults };
 
-    ghost given_ends = { λ s. s.counted };
+    ghost given_ends = { λ s. s.given_ends };
+
+    ghost faults_end = { λ s. s.faults_end };
 
     fn read(&mut self, buf: &mut [u8]) -> Result<usize, Failed>
         ensures bound { IfOk result (λ n. n ≤ length buf.old) }
@@ -64,8 +67,7 @@ impl Source for MemSource {
     {
         self.calls = self.calls.saturating_add(1);
         if self.fail.contains(&self.calls) {
-            self.faults = self.faults.saturating_add(1);
-            return Err(Failed);
+            return Err(count_fault(&mut self.faults));
         }
         let (_, rest) = self.bytes.as_slice().split_at(self.at);
         let taken = copy_front(rest, buf);
@@ -94,6 +96,7 @@ pub struct MemSink {
     fail: Vec<u64>,
     calls: u64,
     faults: u64,
+    ghost faults_end: { Ends faults },
 }
 
 impl MemSink {
@@ -125,6 +128,8 @@ impl Sink for MemSink {
 
     ghost faults = { λ s. s.faults };
 
+    ghost faults_end = { λ s. s.faults_end };
+
     fn write(&mut self, bytes: &[u8]) -> Result<usize, Failed>
         ensures bound { IfOk result (λ n. n ≤ length bytes.now) }
         ensures bytes { Writes (Some self.old.bytes.items) (Some self.new.bytes.items) result bytes.now }
@@ -138,8 +143,7 @@ impl Sink for MemSink {
         self.calls = self.calls.saturating_add(1);
         let listed = self.fail.contains(&self.calls);
         if listed || self.bytes.extend_from_slice(bytes).is_err() {
-            self.faults = self.faults.saturating_add(1);
-            return Err(Failed);
+            return Err(count_fault(&mut self.faults));
         }
         Ok(bytes.len())
     }

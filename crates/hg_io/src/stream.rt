@@ -1,11 +1,19 @@
 //! A source of bytes and a sink for bytes.
-ghost use Rattle.std.specs.Prelude.{◌≡◌, ◌≤◌, ◌<◌, ◌^◌, ℕ, List, Option, IfOk, OnErr, length};
-ghost use Rattle.hg_io.specs.Count.{raised, HasCause};
+ghost use Rattle.std.specs.Prelude.{◌≡◌, ◌≤◌, ℕ, List, Option, IfOk, OnErr, length};
+ghost use Rattle.hg_io.specs.Count.{raised, Ends, HasCause};
 ghost use Rattle.hg_io.specs.Bytes.{Reads, Writes};
 
 /// The answer of a call on the outside that did not do its work.
 #[derive(Clone, Copy, PartialEq, Eq, Debug)]
 pub struct Failed;
+
+/// Counts a fault.
+pub(crate) fn count_fault(faults: &mut u64) -> Failed
+    ensures { faults.new ≡ raised faults.old 1 }
+{
+    *faults = faults.saturating_add(1);
+    Failed
+}
 
 /// Where the bytes of a script come from.
 pub trait Source {
@@ -15,6 +23,7 @@ pub trait Source {
     /// How many bytes it gave so far.
     ghost given: { Self → ℕ };
 
+    /// How many of its calls failed so far.
     ghost faults: { Self → ℕ };
 
     /// Puts the next bytes into the front of `buf` and answers their number. 0 for a buffer that is
@@ -26,8 +35,10 @@ pub trait Source {
         ensures given_stays { OnErr result (given self.new ≡ given self.old) }
         ensures cause { HasCause (faults self.old) (faults self.new) result };
 
-    /// The count of bytes ends at 2^64 - 1.
-    ghost given_ends: { (s : Self) → given s < 2 ^ 64 };
+    /// The counts end at 2^64 - 1.
+    ghost given_ends: { (s : Self) → Ends (given s) };
+
+    ghost faults_end: { (s : Self) → Ends (faults s) };
 }
 
 /// Where the bytes of the replies go.
@@ -35,6 +46,7 @@ pub trait Sink {
     /// The bytes that were written, where the sink tells them.
     ghost written: { Self → Option (List ℕ) };
 
+    /// How many of its calls failed so far.
     ghost faults: { Self → ℕ };
 
     /// Takes bytes from the front of `bytes` and answers their number, which is above 0 for a piece
@@ -43,4 +55,7 @@ pub trait Sink {
         ensures bound { IfOk result (λ n. n ≤ length bytes.now) }
         ensures bytes { Writes (written self.old) (written self.new) result bytes.now }
         ensures cause { HasCause (faults self.old) (faults self.new) result };
+
+    /// The count ends at 2^64 - 1.
+    ghost faults_end: { (s : Self) → Ends (faults s) };
 }

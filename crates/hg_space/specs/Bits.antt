@@ -23,3 +23,7 @@ pub record IsFirstSet (words : List ℕ) (low i : ℕ) : Type 0 where
 
 abbrev pub HasNoBits : List ℕ → Type 0
 HasNoBits words = (w : ℕ) → slice_index words w ≡ 0
+
+-- each word is as it was; a word that is not there has no bit
+abbrev pub SameWords : List ℕ → List ℕ → Type 0
+SameWords old new = (w : ℕ) → slice_index new w ≡ slice_index old w

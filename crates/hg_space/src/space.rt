@@ -1,37 +1,42 @@
 //! The map, as callers see it.
-ghost use Rattle.std.specs.Prelude.{◌≡◌, ◌↔◌, true, IsNone, IfOk, IfSome, IfNone};
+ghost use Rattle.std.specs.Prelude.{◌≡◌, ◌↔◌, ◌<◌, true, IsNone, IfOk, IfSome, IfNone};
+ghost use Rattle.hg_space.specs.Bits.{has_bits};
 ghost use Rattle.hg_space.specs.PageMap.{unused_pages, used_count, IsFull, IsLowestFree, IsSound, with_page, without_page, with_next};
-ghost use Rattle.hg_space.specs.Shown.{pages_of};
+ghost use Rattle.hg_space.specs.Shown.{reached, pages_of};
 
-use crate::bits::{clear, is_set, set};
-use crate::levels::{Levels, free_all, levels_for};
+use crate::bits::{clear, is_set, no_bits, set, widen};
+use crate::levels::{Levels, levels_for};
 use crate::summary::{clear_up, first_below, set_up};
 use hg_base::NoMemory;
 use std::alloc::Global;
 use std::marker::Model;
 
 /// Which pages of a file are used, and their successors. Contracts see `pages_of` it, a `PageMap`.
-/// It has some 4.3 bytes for each page.
+/// Memory for 4.3 bytes a page is taken when it is made, and written only up to the highest page that
+/// was ever taken.
 #[derive(Drop)]
 pub struct Space {
     limit: u32,
     used: u32,
     levels: Levels,
-    /// The bits of the free pages, below bits that say which words have some.
+    /// The bits of the pages that were given back, below bits that say which words have some.
     free: Vec<u64>,
     /// The bits of the pages that have a successor, if they are used.
     linked: Vec<u64>,
+    /// The successors of the pages that were ever taken: the lowest free page is taken, so these are
+    /// the first ones.
     links: Vec<u32>,
 }
 
 impl Model for Space {
-    ghost use Rattle.hg_space.specs.Shown.{Kept, IsKept};
+    ghost use Rattle.std.specs.Prelude.{vec_capacity};
+    ghost use Rattle.hg_space.specs.Shown.{Kept, IsKept, HasRoom};
 
     ghost Value = { Kept };
 
     ghost view = { λ s. record { limit = s.limit; free = s.free.items; first = s.levels.first; linked = s.linked.items; links = s.links.items } };
 
-    ghost invariant = { λ s. IsKept (record { limit = s.limit; free = s.free.items; first = s.levels.first; linked = s.linked.items; links = s.links.items }) s.levels.above s.used };
+    ghost invariant = { λ s. IsKept (record { limit = s.limit; free = s.free.items; first = s.levels.first; linked = s.linked.items; links = s.links.items }) s.levels.above s.used × HasRoom s.limit s.levels.first (vec_capacity s.free) (vec_capacity s.linked) (vec_capacity s.links) };
 }
 
 impl Space {
@@ -43,16 +48,16 @@ impl Space {
     {
         let count = pages as usize;
         let levels = levels_for(count);
-        let Ok(mut free) = Vec::from_elem(alloc, 0u64, (levels.first + count) / 64 + 1) else {
+        let words = levels.first / 64 + 1;
+        let Ok(free) = no_bits(alloc, words, (levels.first + count) / 64 + 1) else {
             return Err(NoMemory);
         };
-        let Ok(linked) = Vec::from_elem(alloc, 0u64, count / 64 + 1) else {
+        let Ok(linked) = no_bits(alloc, 1, count / 64 + 1) else {
             return Err(NoMemory);
         };
-        let Ok(links) = Vec::from_elem(alloc, 0u32, count) else {
+        let Ok(links) = Vec::with_capacity(alloc, count) else {
             return Err(NoMemory);
         };
-        free_all(&mut free, levels.first, count);
         Ok(Space {
             limit: pages,
             used: 0,
@@ -72,15 +77,42 @@ impl Space {
         ensures unchanged { IfNone result (pages_of self.new ≡ pages_of self.old) }
         ensures sound { IsSound (pages_of self.new) }
     {
-        if self.free[0] == 0 {
+        if self.free[0] != 0 {
+            return Some(self.take_free());
+        }
+        if self.links.len() == self.limit as usize {
             return None;
         }
+        self.grow();
+        Some(self.take_free())
+    }
+
+    /// Takes the lowest page that has a bit of a free one; there is one.
+    fn take_free(&mut self) -> u32
+        requires some { has_bits self.old.free 0 ≡ true }
+        ensures lowest { IsLowestFree (pages_of self.old) result }
+        ensures taken { pages_of self.new ≡ with_page (pages_of self.old) result }
+        ensures sound { IsSound (pages_of self.new) }
+    {
         let bit = first_below(&self.free, self.levels.above);
         let lowest = bit - self.levels.first;
         clear_up(&mut self.free, bit);
         let _ = clear(&mut self.linked, lowest);
         self.used += 1;
-        Some(lowest as u32)
+        lowest as u32
+    }
+
+    /// Gives the lowest page that was never taken the bit of a free one.
+    fn grow(&mut self)
+        requires room { reached self.old < self.old.limit }
+        ensures same { pages_of self.new ≡ pages_of self.old }
+        ensures some { has_bits self.new.free 0 ≡ true }
+    {
+        let page = self.links.len();
+        self.links.push_reserved(0);
+        widen(&mut self.free, self.levels.first + page + 1);
+        widen(&mut self.linked, page + 1);
+        set_up(&mut self.free, self.levels.first + page);
     }
 
     /// Gives a page back, which has to be used: it is not used any more, and has no successor.
@@ -106,7 +138,8 @@ impl Space {
         ensures answer { result ≡ (pages_of self.now).used no }
         ensures sound { IsSound (pages_of self.now) }
     {
-        no < self.limit && !is_set(&self.free, self.levels.first + no as usize)
+        let page = no as usize;
+        page < self.links.len() && !is_set(&self.free, self.levels.first + page)
     }
 
     /// The number of a page's successor. The page has to be used. None where it has no successor.
