@@ -90,6 +90,7 @@ link_steady s l to out = record {
   pins_after = record { none_out = out.none_out; not_pinned = out.not_pinned };
   told = refl;
   limit = refl;
+  device_limit = refl;
   pages = λ q n p. record { taken = refl; of_heap = refl; bytes = refl; next = at_other s.next (key_in Main l) q to n };
   taken = λ q n. refl;
   of_heap = λ q n. refl;
