@@ -4,7 +4,7 @@ use Rattle.std.proofs.Common.{sym, ◌∙◌, ap, subst, refl, arith, length-set
 use Rattle.hg_base.specs.Space.{Space, at, key, key_in, with_counts, with_pin, without_pin, without_page, with_next, unpinned_bytes, IsSame, IsPinned, IsMade}
 use Rattle.std.proofs.lemmas.Grind.{common_steps}
 use Rattle.hg_base.specs.Lending.{refit}
-use Rattle.hg_base.specs.Causes.{NoneFull, PinFault, FreshFault, Licensed, HasCause}
+use Rattle.hg_base.specs.Causes.{PinFault, FreshFault, MayBeFound, HasCause}
 use Rattle.hg_base.specs.declared.File.{File}
 use Rattle.hg_base.specs.declared.File.TheVariants.{Main, Temp}
 use Rattle.hg_base.specs.declared.PageId.{PageId}
@@ -16,7 +16,6 @@ use Rattle.hg_pool.specs.Picture.{Picture, picture_of, counts_of, shown, frame_a
 use Rattle.hg_pool.specs.Sound.{IsSound, IsShaped, IsCoherent, AreSound}
 use Rattle.hg_pool.specs.Keeping.{places_in, with_place, with_frame, is_inside, IsFoundAt, new_frame, MapsAfter, TakesLowest}
 use Rattle.hg_pool.specs.Passing.{Passes, IsRoom}
-use Rattle.hg_pool.specs.Work.{PinWork}
 use Rattle.hg_pool.specs.Keys.{at-here, by_key-main, by_key-temp, is_key_of-here}
 use Rattle.hg_pool.specs.Views.{page-of-in, coherent-at, fits-kept}
 use Rattle.hg_pool.specs.Loans.{frames-set, frame-in, and-left, picture-frame, written, with_written}
@@ -91,43 +90,27 @@ pinned-behind a b c p s h = record {
   after = h.after ∙ ap (λ v. with_counts (with_pin v p h.held) h.counts) s.after;
 }
 
-pin-licensed : (a b : Space) (f : PageFault) → PinFault a b f → Licensed a b f
-pin-licensed a b fault.MainFault h = h
-pin-licensed a b fault.TempFault h = h
-pin-licensed a b fault.MainFull h = absurd h
-pin-licensed a b fault.TempFull h = absurd h
-pin-licensed a b (fault.Damaged page check) h = absurd h
+-- a fault of a device is no damage
+pub pin-may : (a : Space) (f : PageFault) → PinFault f → MayBeFound a f
+pin-may a fault.MainFault h = tt
+pin-may a fault.TempFault h = tt
+pin-may a fault.MainFull h = absurd h
+pin-may a fault.TempFull h = absurd h
+pin-may a (fault.Damaged page check) h = absurd h
 
 -- a step that fails by a device has its cause
-pub passes-cause : {X Y : Type 0} (d e : Disks) (s z : Store) (f : PageFault) → Passes {X = X} d s e z (Err f) → HasCause {T = Y} (shown (picture_of d s)) (shown (picture_of e z)) (Err f)
-passes-cause d e s z f h = record { later = h.later; failed = pin-licensed (shown (picture_of d s)) (shown (picture_of e z)) f h.fault }
+pub passes-cause : {X : Type 0} (d e : Disks) (s z : Store) (f : PageFault) → Passes {X = X} d s e z (Err f) → HasCause (shown (picture_of d s)) (shown (picture_of e z)) (Some f)
+passes-cause d e s z f h = record { later = h.later; counts = h.counts; damage = pin-may (shown (picture_of d s)) f h.fault }
 
-pub passes-fresh : (a b : Space) (file : File) (f : PageFault) → PinFault a b f → NoneFull a.counts b.counts → FreshFault file a b f
-passes-fresh a b file fault.MainFault h n = (h, n)
-passes-fresh a b file fault.TempFault h n = (h, n)
-passes-fresh a b file fault.MainFull h n = absurd h
-passes-fresh a b file fault.TempFull h n = absurd h
-passes-fresh a b file (fault.Damaged page check) h n = h
+pub passes-cause-none : {X : Type 0} (d e : Disks) (s z : Store) (x : X) → Passes d s e z (Ok x) → HasCause (shown (picture_of d s)) (shown (picture_of e z)) None
+passes-cause-none d e s z x h = record { later = h.later; counts = h.counts; damage = tt }
 
-pub pin-work-ok : {X Y : Type 0} (b : Bool) (x y : PoolCounts) (v : X) (w : Y) → PinWork {E = PageFault} b x y (Ok v) → PinWork {E = PageFault} b x y (Ok w)
-pin-work-ok b x y v w h = record {
-  none_read = h.none_read;
-  none_written = h.none_written;
-  one_read = h.one_read;
-  reads = h.reads;
-  writes = h.writes;
-  evictions = h.evictions;
-}
-
-pub pin-work-err : {X Y : Type 0} (b : Bool) (x y : PoolCounts) (f : PageFault) → PinWork {T = X} b x y (Err f) → PinWork {T = Y} b x y (Err f)
-pin-work-err b x y f h = record {
-  none_read = h.none_read;
-  none_written = h.none_written;
-  one_read = λ _. tt;
-  reads = h.reads;
-  writes = h.writes;
-  evictions = h.evictions;
-}
+pub passes-fresh : (a : Space) (file : File) (f : PageFault) → PinFault f → FreshFault file a f
+passes-fresh a file fault.MainFault h = tt
+passes-fresh a file fault.TempFault h = tt
+passes-fresh a file fault.MainFull h = absurd h
+passes-fresh a file fault.TempFull h = absurd h
+passes-fresh a file (fault.Damaged page check) h = absurd h
 
 -- A new page.
 

@@ -1,10 +1,10 @@
 -- The steps of a pool as its code makes them: on its devices and what it keeps.
-use Rattle.std.specs.Prelude.{◌≡◌, ℕ, ◌<◌, ◌≤◌, true, false, List, length, None, Some, Result, Ok, Err, IfErr, slice_set, slice_index_or}
+use Rattle.std.specs.Prelude.{◌≡◌, ℕ, ◌<◌, ◌≤◌, true, false, List, length, None, Some, Result, Ok, Err, slice_set, slice_index_or}
 use Rattle.std.proofs.Common.{sym, ◌∙◌, ap, subst, refl, arith, length-set, inl, inr}
 use Rattle.std.proofs.lemmas.Bool.Decides.{eqb_tells}
 use Rattle.hg_base.specs.Space.{Space, at, key, key_in, with_counts, IsSame}
 use Rattle.hg_base.specs.Changes.{items-set}
-use Rattle.hg_base.specs.Causes.{Later, NoneFull, PinFault}
+use Rattle.hg_base.specs.Causes.{Later, counts_after, fault_of}
 use Rattle.hg_base.specs.SteadyLaws.{Later_same, Later_then}
 use Rattle.hg_base.specs.declared.File.{File}
 use Rattle.hg_base.specs.declared.File.TheVariants.{Main, Temp}
@@ -12,7 +12,7 @@ use Rattle.hg_base.specs.declared.PageId.{PageId}
 use Rattle.hg_base.specs.declared.pages.PageFault.{PageFault}
 use Rattle.hg_base.specs.declared.pages.PageFault.TheVariants as fault
 use Rattle.hg_pool.specs.Files.{by_key}
-use Rattle.hg_pool.specs.Disks.{Disks, all_told, page_on, SameShape, SamePages, SameButOne, DeviceFailed, DeviceCause}
+use Rattle.hg_pool.specs.Disks.{Disks, all_told, page_on, SameShape, SamePages, SameButOne, DeviceCause}
 use Rattle.hg_pool.specs.Picture.{Picture, picture_of, counts_of, shown, frame_at, place_at, taken_at, limit_of, is_in, is_key_of}
 use Rattle.hg_pool.specs.Sound.{IsSound, IsShaped, IsCoherent, AreSound, pinned_in}
 use Rattle.hg_pool.specs.Keeping.{places_in, with_place, with_place_in, with_frame, counted, is_inside}
@@ -69,22 +69,37 @@ shape-kept s z h counted few frames hand maps limit main temp = record {
 }
 
 -- a fault of a device that was counted
-pub device-fault : (d e : Disks) (s z : Store) (f : PageFault) → DeviceFailed d e f → z.answers ≡ counted s.answers f → PinFault (shown (picture_of d s)) (shown (picture_of e z)) f
-device-fault d e s z fault.MainFault h a = (let l = ap (λ (x : Answers). x.main) a in omega arith, h)
-device-fault d e s z fault.TempFault h a = (let l = ap (λ (x : Answers). x.temp) a in omega arith, h)
-device-fault d e s z fault.MainFull h a = h
-device-fault d e s z fault.TempFull h a = h
-device-fault d e s z (fault.Damaged page check) h a = h
+pub device-counts : {X : Type 0} (d e : Disks) (s z : Store) (f : PageFault) → DeviceCause {X = X} d e (Err f) → z.answers ≡ counted s.answers f
+    → counts_of e z ≡ counts_after (counts_of d s) (Some f)
+device-counts {X} d e s z fault.MainFault h a = λ i. record {
+  main_device = (h.counts i).main;
+  temp_device = (h.counts i).temp;
+  main = (a i).main;
+  temp = (a i).temp;
+  main_full = (a i).main_full;
+  temp_full = (a i).temp_full;
+}
+device-counts {X} d e s z fault.TempFault h a = λ i. record {
+  main_device = (h.counts i).main;
+  temp_device = (h.counts i).temp;
+  main = (a i).main;
+  temp = (a i).temp;
+  main_full = (a i).main_full;
+  temp_full = (a i).temp_full;
+}
+device-counts {X} d e s z fault.MainFull h a = absurd h.device
+device-counts {X} d e s z fault.TempFull h a = absurd h.device
+device-counts {X} d e s z (fault.Damaged page check) h a = absurd h.device
 
-device-none_full : (d e : Disks) (s z : Store) (f : PageFault) → DeviceFailed d e f → z.answers ≡ counted s.answers f → NoneFull (counts_of d s) (counts_of e z)
-device-none_full d e s z fault.MainFault h a = record { main_full = ap (λ (x : Answers). x.main_full) a; temp_full = ap (λ (x : Answers). x.temp_full) a }
-device-none_full d e s z fault.TempFault h a = record { main_full = ap (λ (x : Answers). x.main_full) a; temp_full = ap (λ (x : Answers). x.temp_full) a }
-device-none_full d e s z fault.MainFull h a = absurd h
-device-none_full d e s z fault.TempFull h a = absurd h
-device-none_full d e s z (fault.Damaged page check) h a = absurd h
-
-same-none_full : (d e : Disks) (s z : Store) → z.answers ≡ s.answers → NoneFull (counts_of d s) (counts_of e z)
-same-none_full d e s z a = record { main_full = ap (λ (x : Answers). x.main_full) a; temp_full = ap (λ (x : Answers). x.temp_full) a }
+same-counts : {X : Type 0} (d e : Disks) (s z : Store) (x : X) → DeviceCause d e (Ok x) → z.answers ≡ s.answers → counts_of e z ≡ counts_of d s
+same-counts d e s z x h a = λ i. record {
+  main_device = (h.counts i).main;
+  temp_device = (h.counts i).temp;
+  main = (a i).main;
+  temp = (a i).temp;
+  main_full = (a i).main_full;
+  temp_full = (a i).temp_full;
+}
 
 later-of : {X : Type 0} (d e : Disks) (s z : Store) (r : Result X PageFault) → DeviceCause d e r → LaterAnswers s.answers z.answers → Later (counts_of d s) (counts_of e z)
 later-of d e s z r h a = record {
@@ -155,32 +170,21 @@ clears-then a b c p r = record {
 
 -- One step behind another.
 
-fault-behind : (a b c : Space) (f : PageFault) → Later a.counts b.counts → PinFault b c f → PinFault a c f
-fault-behind a b c fault.MainFault l h = (let seen = h.0 in omega arith, let own = h.1 in omega arith)
-fault-behind a b c fault.TempFault l h = (let seen = h.0 in omega arith, let own = h.1 in omega arith)
-fault-behind a b c fault.MainFull l h = h
-fault-behind a b c fault.TempFull l h = h
-fault-behind a b c (fault.Damaged page check) l h = h
-
-if-fault-behind : {X : Type 0} (a b c : Space) (r : Result X PageFault) → Later a.counts b.counts → IfErr r (λ f. PinFault b c f) → IfErr r (λ f. PinFault a c f)
-if-fault-behind a b c (Ok x) l h = h
-if-fault-behind a b c (Err f) l h = fault-behind a b c f l h
-
-pub passes-then : {X Y : Type 0} (d e g : Disks) (s z w : Store) (r : Result X PageFault) (u : Result Y PageFault) → Passes d s e z r → Passes e z g w u → Passes d s g w u
-passes-then d e g s z w r u p k = record {
+pub passes-then : {X Y : Type 0} (d e g : Disks) (s z w : Store) (x : X) (u : Result Y PageFault) → Passes d s e z (Ok x) → Passes e z g w u → Passes d s g w u
+passes-then d e g s z w x u p k = record {
   whole = k.whole;
   same = record { counts = k.same.counts; after = k.same.after ∙ ap (λ v. with_counts v k.same.counts) p.same.after };
   later = Later_then (counts_of d s) (counts_of e z) (counts_of g w) p.later k.later;
-  none_full = record { main_full = k.none_full.main_full ∙ p.none_full.main_full; temp_full = k.none_full.temp_full ∙ p.none_full.temp_full };
-  fault = if-fault-behind (shown (picture_of d s)) (shown (picture_of e z)) (shown (picture_of g w)) u p.later k.fault;
+  counts = k.counts ∙ ap (λ n. counts_after n (fault_of u)) p.counts;
+  fault = k.fault;
 }
 
 -- the answer may be put otherwise where it is no fault
 pub passes-ok : {X Y : Type 0} (d e : Disks) (s z : Store) (x : X) (y : Y) → Passes d s e z (Ok x) → Passes d s e z (Ok y)
-passes-ok d e s z x y p = record { whole = p.whole; same = p.same; later = p.later; none_full = p.none_full; fault = p.fault }
+passes-ok d e s z x y p = record { whole = p.whole; same = p.same; later = p.later; counts = p.counts; fault = p.fault }
 
 pub passes-err : {X Y : Type 0} (d e : Disks) (s z : Store) (f : PageFault) → Passes {X = X} d s e z (Err f) → Passes {X = Y} d s e z (Err f)
-passes-err d e s z f p = record { whole = p.whole; same = p.same; later = p.later; none_full = p.none_full; fault = p.fault }
+passes-err d e s z f p = record { whole = p.whole; same = p.same; later = p.later; counts = p.counts; fault = p.fault }
 
 -- The steps.
 
@@ -200,7 +204,7 @@ moved d s hand n x h l =
       };
       same = record { counts = counts_of d s; after = refl };
       later = Later_same (counts_of d s);
-      none_full = record { main_full = refl; temp_full = refl };
+      counts = refl;
       fault = tt;
     }
 
@@ -216,8 +220,8 @@ wrote-not {X} d e s n a f p x h page dirty kept cause later counts =
       whole = keeps-sound d e s z b same keeps kept.shape refl h (shape-kept s z h.shape h.shape.counted h.shape.few refl h.shape.hand (λ m. m) refl refl refl);
       same = keeps-same d e s z b same keeps;
       later = later-of {X = X} d e s z (Err x) cause later;
-      none_full = device-none_full d e s z x cause.failed counts;
-      fault = device-fault d e s z x cause.failed counts;
+      counts = device-counts {X = X} d e s z x cause counts;
+      fault = cause.device;
     }
 
 -- a frame's page was written
@@ -240,7 +244,7 @@ wrote d e s n f p x h there page kept cause put =
           (let l = h.shape.hand in let k = length-set s.frames.items f y in omega arith) (λ m. m) refl refl refl);
       same = keeps-same d e s z b same keeps;
       later = later-same d e s z (Ok x) cause refl;
-      none_full = same-none_full d e s z refl;
+      counts = same-counts d e s z x cause refl;
       fault = tt;
     }
 
@@ -259,7 +263,7 @@ cleared d s n f x h there clean free =
           (let l = h.shape.hand in let k = length-set s.frames.items f y in omega arith) (λ m. m) refl refl refl);
       same = keeps-same d d s z b same keeps;
       later = Later_same (counts_of d s);
-      none_full = record { main_full = refl; temp_full = refl };
+      counts = refl;
       fault = tt;
     }
 
@@ -283,8 +287,8 @@ read-not {X} d e s n a f bytes x h there page kept cause later counts =
           (let l = h.shape.hand in let k = length-set s.frames.items f y in omega arith) (λ m. m) refl refl refl);
       same = keeps-same d e s z b same keeps;
       later = later-of {X = X} d e s z (Err x) cause later;
-      none_full = device-none_full d e s z x cause.failed counts;
-      fault = device-fault d e s z x cause.failed counts;
+      counts = device-counts {X = X} d e s z x cause counts;
+      fault = cause.device;
     }
 
 -- a page was read into an empty frame
@@ -311,7 +315,7 @@ read-in d e s n f bytes p x h room kept cause whole gives taken out in_range =
           (let l = h.shape.hand in let k = length-set s.frames.items f y in omega arith) (λ m. m) refl (main-places s.places p f) (temp-places s.places p f));
       same = keeps-same d e s z b same keeps;
       later = later-same d e s z (Ok x) cause refl;
-      none_full = same-none_full d e s z refl;
+      counts = same-counts d e s z x cause refl;
       fault = tt;
     }
 

@@ -1,7 +1,8 @@
 -- The two devices of a pool, as far as its contracts speak of them. Our own rule.
-use Rattle.std.specs.Prelude.{◌≡◌, ◌≢◌, ℕ, ◌≤◌, ◌&&◌, Bool, true, List, Result, IfErr}
+use Rattle.std.specs.Prelude.{◌≡◌, ◌≢◌, ℕ, ◌≤◌, ◌&&◌, Bool, true, List, Option, None, Some, Result, IfErr}
 use Rattle.hg_io.specs.declared.device.PageDevice.{Ghosts}
-use Rattle.hg_base.specs.Causes.{Rose}
+use Rattle.hg_base.specs.Causes.{PinFault, fault_of}
+use Rattle.hg_io.specs.Count.{raised}
 use Rattle.hg_base.specs.declared.File.{File}
 use Rattle.hg_base.specs.declared.File.TheVariants.{Main, Temp}
 use Rattle.hg_base.specs.declared.pages.PageFault.{PageFault}
@@ -9,15 +10,18 @@ use Rattle.hg_base.specs.declared.pages.PageFault.TheVariants as fault
 use Rattle.hg_pool.specs.Files.{by_key}
 use Rattle.hg_pool.specs.declared.devices.Devices.{Devices}
 
--- a device: how many pages it has, whether it tells them, what stands in them, and how often it failed
+-- a device: how many pages it has, whether it tells them, what stands in them, and how often it was read, was
+-- written and failed
 pub record Disk : Type 0 where
   pub pages : ℕ
   pub told : Bool
   pub page : ℕ → List ℕ
+  pub reads : ℕ
+  pub writes : ℕ
   pub faults : ℕ
 
 abbrev pub disk_of : {D : Type 0} → Ghosts D → D → Disk
-disk_of g d = record { pages = g.pages d; told = g.told d; page = g.page d; faults = g.faults d }
+disk_of g d = record { pages = g.pages d; told = g.told d; page = g.page d; reads = g.reads d; writes = g.writes d; faults = g.faults d }
 
 -- the device of the main file, and that of the temporary file
 pub record Disks : Type 0 where
@@ -56,15 +60,26 @@ pub record SameButOne (a b : Disks) (p : ℕ) : Type 0 where
   pub shape : SameShape a b
   pub others : all_told a ≡ true → (q : ℕ) → q ≢ p → page_on b q ≡ page_on a q
 
--- a device failed: its own count rose
-abbrev pub DeviceFailed : Disks → Disks → PageFault → Type 0
-DeviceFailed a b fault.MainFault = Rose a.main.faults b.main.faults
-DeviceFailed a b fault.TempFault = Rose a.temp.faults b.temp.faults
-DeviceFailed a b fault.MainFull = ⊥
-DeviceFailed a b fault.TempFull = ⊥
-DeviceFailed a b (fault.Damaged page check) = ⊥
+-- how often each device failed
+pub record Faults : Type 0 where
+  pub main : ℕ
+  pub temp : ℕ
 
+abbrev pub faults_in : Disks → Faults
+faults_in d = record { main = d.main.faults; temp = d.temp.faults }
+
+-- behind a call that found this fault, or none: the count of that device is one more
+abbrev pub faults_after : Faults → Option PageFault → Faults
+faults_after n None = n
+faults_after n (Some fault.MainFault) = record n { main = raised n.main 1 }
+faults_after n (Some fault.TempFault) = record n { temp = raised n.temp 1 }
+faults_after n (Some fault.MainFull) = n
+faults_after n (Some fault.TempFull) = n
+faults_after n (Some (fault.Damaged page check)) = n
+
+-- a call of one device fails by a fault of a device, which counts it; the other one's count stays
 pub record DeviceCause {X : Type 0} (a b : Disks) (r : Result X PageFault) : Type 0 where
   pub main : a.main.faults ≤ b.main.faults
   pub temp : a.temp.faults ≤ b.temp.faults
-  pub failed : IfErr r (λ f. DeviceFailed a b f)
+  pub device : IfErr r PinFault
+  pub counts : faults_in b ≡ faults_after (faults_in a) (fault_of r)

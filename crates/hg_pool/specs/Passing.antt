@@ -2,7 +2,7 @@
 use Rattle.std.specs.Prelude.{◌≡◌, ℕ, ◌<◌, ◌≤◌, false, length, None, Some, Result, IfErr}
 use Rattle.hg_io.specs.declared.device.PageDevice.{Ghosts}
 use Rattle.hg_base.specs.Space.{IsSame}
-use Rattle.hg_base.specs.Causes.{Later, NoneFull, PinFault}
+use Rattle.hg_base.specs.Causes.{Later, PinFault, counts_after, fault_of}
 use Rattle.hg_base.specs.declared.PageId.{PageId}
 use Rattle.hg_base.specs.declared.pages.PageFault.{PageFault}
 use Rattle.hg_pool.specs.Disks.{Disks}
@@ -20,8 +20,8 @@ pub record Passes {X : Type 0} (d : Disks) (s : Store) (e : Disks) (z : Store) (
   pub whole : IsSound e z
   pub same : IsSame (shown (picture_of d s)) (shown (picture_of e z))
   pub later : Later (counts_of d s) (counts_of e z)
-  pub none_full : NoneFull (counts_of d s) (counts_of e z)
-  pub fault : IfErr r (λ f. PinFault (shown (picture_of d s)) (shown (picture_of e z)) f)
+  pub counts : counts_of e z ≡ counts_after (counts_of d s) (fault_of r)
+  pub fault : IfErr r PinFault
 
 -- the same of the parts of a pool
 abbrev pub PassesParts : {M T X : Type 0} → Ghosts M → Ghosts T → Parts M T → Parts M T → Result X PageFault → Type 0

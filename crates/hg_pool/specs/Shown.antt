@@ -1,12 +1,16 @@
 -- What contracts see of a pool: its devices and what it keeps of them.
-use Rattle.std.specs.Prelude.{◌≡◌, ◌≢◌, ℕ, Bool, true, false, Option, None, Some, length}
+use Rattle.std.specs.Prelude.{◌≡◌, ◌≢◌, ℕ, Bool, true, false, Option, None, Some, length, ◌⊎◌}
 use Rattle.hg_io.specs.declared.device.PageDevice.{Ghosts}
+use Rattle.hg_base.specs.Causes.{device_fault}
 use Rattle.hg_base.specs.Space.{Space, key}
+use Rattle.hg_base.specs.declared.File.{File}
+use Rattle.hg_base.specs.declared.pages.PageFault.{PageFault}
 use Rattle.hg_base.specs.declared.PageId.{PageId}
 use Rattle.hg_pool.specs.Disks.{Disks, disks_in}
 use Rattle.hg_pool.specs.Picture.{shown, picture_of, is_in, frame_at, place_at}
 use Rattle.hg_pool.specs.Round.{Round, IsNext, round_in}
 use Rattle.hg_pool.specs.Sound.{IsSound}
+use Rattle.hg_pool.specs.Work.{Asks, owed_of, evicted, IsFaultOf}
 use Rattle.hg_pool.specs.declared.PoolCounts.{PoolCounts}
 use Rattle.hg_pool.specs.declared.parts.Parts.{Parts}
 
@@ -81,11 +85,39 @@ module _ {M T : Type 0} where
     pub none_came : (q : PageId) → key q ≢ key page → in_frame a q ≡ false → in_frame b q ≡ false
     pub frames : (g : ℕ) → g ≢ f → page_in b g ≡ page_in a g
 
-  -- the page of the next frame left it at most: each other page is in the frame that it was in, and none came in
-  pub record ClearsNext (a b : Parts M T) : Type 0 where
+  -- the file to which the page of a frame is written before it leaves the frame: none where its bytes are those on its
+  -- device
+  abbrev pub owed : Parts M T → ℕ → Option File
+  owed s f = owed_of (frame_at s.store.frames.items f)
+
+  -- a page of the first file was written, if there is one, and a page of the second one was read
+  abbrev pub Asked : Ghosts M → Ghosts T → Parts M T → Parts M T → Option File → Option File → Type 0
+  Asked m t a b written read = Asks (disks_of m t a) a.store.counts (disks_of m t b) b.store.counts written read
+
+  -- The write of the page of the next frame failed, so that the page did not leave it: each page is in the frame that
+  -- it was in.
+  pub record StaysIn (m : Ghosts M) (t : Ghosts T) (a b : Parts M T) (fault : PageFault) : Type 0 where
     pub frame : ℕ
     pub next : IsNext (round_of a) frame
-    pub keeps : KeepsFramesAll a b frame
+    pub fails : IsFaultOf (owed a frame) fault
+    pub asked : Asked m t a b (owed a frame) None
+    pub frames : SameFrames a b
+    pub evictions : b.store.counts.evictions ≡ a.store.counts.evictions
+
+  -- The read of a page into the next frame failed: the page that was there had left it, after it was written where
+  -- that was owed. Each other page is in the frame that it was in, and none came in.
+  pub record Leaves (m : Ghosts M) (t : Ghosts T) (a b : Parts M T) (page : PageId) (fault : PageFault) : Type 0 where
+    pub frame : ℕ
+    pub next : IsNext (round_of a) frame
+    pub fails : fault ≡ device_fault page.file
+    pub asked : Asked m t a b (owed a frame) (Some page.file)
+    pub empty : page_in b frame ≡ None
+    pub frames : KeepsFramesAll a b frame
+    pub evictions : b.store.counts.evictions ≡ evicted (page_in a frame) a.store.counts.evictions
+
+  -- a pin fails in one of these two ways
+  abbrev pub IsRefused : Ghosts M → Ghosts T → Parts M T → Parts M T → PageId → PageFault → Type 0
+  IsRefused m t a b page fault = StaysIn m t a b fault ⊎ Leaves m t a b page fault
 
   -- no page is in a frame
   pub record NoneIn (s : Parts M T) : Type 0 where

@@ -7,11 +7,11 @@ use hg_io::PageDevice;
 impl<M: PageDevice, T: PageDevice> Parts<M, T> {
     ghost use Rattle.std.specs.Prelude.{◌≡◌, ◌<◌, ◌-◌, ◌^◌, true, false, None, Some, OnOk, OnErr, IfOk, IfErr, IsOk, IsErrOf, length};
     ghost use Rattle.hg_base.specs.Space.{key, IsPinned, IsMade, IsSame, IsFull, without_pin, without_page, with_next};
-    ghost use Rattle.hg_base.specs.Causes.{HasCause, Later, Licensed, NoneFull, PinFault, FreshFault, full_fault};
+    ghost use Rattle.hg_base.specs.Causes.{HasCause, PinFault, FreshFault, fault_of, full_fault};
     ghost use Rattle.hg_pool.specs.Picture.{frame_at, place_at, taken_at, is_pinned};
     ghost use Rattle.hg_pool.specs.Round.{Stays, ComesIn, PassesNext, without_out};
-    ghost use Rattle.hg_pool.specs.Shown.{state_of, IsWhole, in_frame, frame_of, page_in, round_of, SameFrames, SameFramesBut, KeepsFrames, ClearsNext};
-    ghost use Rattle.hg_pool.specs.Work.{PinWork, FreshWork, IsLowest, IsUnused, CallsNone, evicted};
+    ghost use Rattle.hg_pool.specs.Shown.{state_of, IsWhole, in_frame, frame_of, page_in, round_of, SameFrames, SameFramesBut, KeepsFrames, owed, Asked, StaysIn, IsRefused};
+    ghost use Rattle.hg_pool.specs.Work.{IsLowest, IsUnused, CallsNone, evicted};
 
     pub(crate) fn pin(&mut self, page: PageId) -> Result<(), PageFault>
         requires whole { IsWhole M.PageDevice T.PageDevice self.old }
@@ -21,11 +21,13 @@ impl<M: PageDevice, T: PageDevice> Parts<M, T> {
         ensures whole { IsWhole M.PageDevice T.PageDevice self.new }
         ensures ok { OnOk result (IsPinned (state_of M.PageDevice T.PageDevice self.old) (state_of M.PageDevice T.PageDevice self.new) (key page)) }
         ensures err { OnErr result (IsSame (state_of M.PageDevice T.PageDevice self.old) (state_of M.PageDevice T.PageDevice self.new)) }
-        ensures cause { HasCause (state_of M.PageDevice T.PageDevice self.old) (state_of M.PageDevice T.PageDevice self.new) result }
-        ensures fault { IfErr result (PinFault (state_of M.PageDevice T.PageDevice self.old) (state_of M.PageDevice T.PageDevice self.new)) }
-        ensures none_full { NoneFull (state_of M.PageDevice T.PageDevice self.old).counts (state_of M.PageDevice T.PageDevice self.new).counts }
+        ensures cause { HasCause (state_of M.PageDevice T.PageDevice self.old)
+            (state_of M.PageDevice T.PageDevice self.new) (fault_of result) }
+        ensures fault { IfErr result PinFault }
         ensures in_frame { OnOk result (in_frame self.new page ≡ true) }
-        ensures work { PinWork (in_frame self.old page) self.old.store.counts self.new.store.counts result }
+        ensures asked { OnOk result (in_frame self.old page ≡ false
+            → Asked M.PageDevice T.PageDevice self.old self.new (owed self.old (frame_of self.new page)) (Some page.file)) }
+        ensures refused { IfErr result (IsRefused M.PageDevice T.PageDevice self.old self.new page) }
         ensures stays { OnOk result (in_frame self.old page ≡ true → Stays (round_of self.old) (round_of self.new)
             (frame_of self.old page) (frame_of self.new page)) }
         ensures comes { OnOk result (in_frame self.old page ≡ false → ComesIn (round_of self.old) (round_of self.new) (frame_of self.new page)) }
@@ -34,7 +36,6 @@ impl<M: PageDevice, T: PageDevice> Parts<M, T> {
         ensures stays_ok { in_frame self.old page ≡ true → IsOk result }
         ensures keeps_frames { OnOk result (KeepsFrames self.old self.new page (frame_of self.new page)) }
         ensures same_frames { in_frame self.old page ≡ true → SameFrames self.old self.new }
-        ensures err_frames { OnErr result (ClearsNext self.old self.new) }
         ensures keeps_counts { in_frame self.old page ≡ true → self.new.store.counts ≡ self.old.store.counts }
         ensures evicts { OnOk result (in_frame self.old page ≡ false → self.new.store.counts.evictions
             ≡ evicted (page_in self.old (frame_of self.new page)) self.old.store.counts.evictions) }
@@ -52,14 +53,16 @@ impl<M: PageDevice, T: PageDevice> Parts<M, T> {
         requires few { self.old.store.pins < 8 }
         ensures whole { IsWhole M.PageDevice T.PageDevice self.new }
         ensures ok { IfOk result (IsMade file (state_of M.PageDevice T.PageDevice self.old) (state_of M.PageDevice T.PageDevice self.new)) }
-        ensures ok_counts { OnOk result (NoneFull (state_of M.PageDevice T.PageDevice self.old).counts (state_of M.PageDevice T.PageDevice self.new).counts) }
         ensures err { OnErr result (IsSame (state_of M.PageDevice T.PageDevice self.old) (state_of M.PageDevice T.PageDevice self.new)) }
-        ensures cause { HasCause (state_of M.PageDevice T.PageDevice self.old) (state_of M.PageDevice T.PageDevice self.new) result }
-        ensures fault { IfErr result (FreshFault file (state_of M.PageDevice T.PageDevice self.old) (state_of M.PageDevice T.PageDevice self.new)) }
+        ensures cause { HasCause (state_of M.PageDevice T.PageDevice self.old)
+            (state_of M.PageDevice T.PageDevice self.new) (fault_of result) }
+        ensures fault { IfErr result (FreshFault file (state_of M.PageDevice T.PageDevice self.old)) }
         ensures full { IsFull (state_of M.PageDevice T.PageDevice self.old) file → IsErrOf result (full_fault file) }
         ensures lowest { IfOk result (IsLowest (state_of M.PageDevice T.PageDevice self.old)) }
         ensures in_frame { IfOk result (λ page. in_frame self.new page ≡ true) }
-        ensures work { FreshWork self.old.store.counts self.new.store.counts }
+        ensures asked { IfOk result (λ page. Asked M.PageDevice T.PageDevice self.old self.new (owed self.old (frame_of self.new page)) None) }
+        ensures refused { IfErr result (λ fault. (IsFull (state_of M.PageDevice T.PageDevice self.old) file → ⊥)
+            → StaysIn M.PageDevice T.PageDevice self.old self.new fault) }
         ensures full_work { IsFull (state_of M.PageDevice T.PageDevice self.old) file → self.new.store.counts ≡ self.old.store.counts }
         ensures full_round { IsFull (state_of M.PageDevice T.PageDevice self.old) file → round_of self.new ≡ round_of self.old }
         ensures comes { IfOk result (λ page. ComesIn (round_of self.old) (round_of self.new) (frame_of self.new page)) }
@@ -96,9 +99,8 @@ impl<M: PageDevice, T: PageDevice> Parts<M, T> {
         ensures whole { IsWhole M.PageDevice T.PageDevice self.new }
         ensures answer { result ≡ full_fault file }
         ensures same { IsSame (state_of M.PageDevice T.PageDevice self.old) (state_of M.PageDevice T.PageDevice self.new) }
-        ensures later { Later (state_of M.PageDevice T.PageDevice self.old).counts (state_of M.PageDevice T.PageDevice self.new).counts }
-        ensures licensed { Licensed (state_of M.PageDevice T.PageDevice self.old) (state_of M.PageDevice T.PageDevice self.new) result }
-        ensures fault { FreshFault file (state_of M.PageDevice T.PageDevice self.old) (state_of M.PageDevice T.PageDevice self.new) result }
+        ensures cause { HasCause (state_of M.PageDevice T.PageDevice self.old) (state_of M.PageDevice T.PageDevice self.new) (Some result) }
+        ensures fault { FreshFault file (state_of M.PageDevice T.PageDevice self.old) result }
         ensures counts { self.new.store.counts ≡ self.old.store.counts }
         ensures round { round_of self.new ≡ round_of self.old }
         ensures no_call { self.new.devices ≡ self.old.devices }

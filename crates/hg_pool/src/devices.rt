@@ -22,9 +22,10 @@ pub(crate) struct Devices<M, T> {
 }
 
 impl<M: PageDevice, T: PageDevice> Devices<M, T> {
-    ghost use Rattle.std.specs.Prelude.{◌≡◌, ◌<◌, true, length, OnOk};
+    ghost use Rattle.std.specs.Prelude.{◌≡◌, ◌<◌, true, Some, length, OnOk, IfErr};
     ghost use Rattle.hg_base.specs.Space.{key};
     ghost use Rattle.hg_pool.specs.Disks.{disks_in, pages_in, page_on, all_told, SamePages, SameButOne, DeviceCause};
+    ghost use Rattle.hg_pool.specs.Work.{calls_in, with_read, with_write, IsFaultOf};
 
     /// Puts the page's bytes into `bytes`.
     pub(crate) fn read(&mut self, page: PageId, bytes: &mut [u8]) -> Result<(), PageFault>
@@ -34,6 +35,9 @@ impl<M: PageDevice, T: PageDevice> Devices<M, T> {
             → bytes.new ≡ page_on (disks_in M.PageDevice T.PageDevice self.old) (key page)) }
         ensures keeps { SamePages (disks_in M.PageDevice T.PageDevice self.old) (disks_in M.PageDevice T.PageDevice self.new) }
         ensures cause { DeviceCause (disks_in M.PageDevice T.PageDevice self.old) (disks_in M.PageDevice T.PageDevice self.new) result }
+        ensures fails { IfErr result (IsFaultOf (Some page.file)) }
+        ensures asked { calls_in (disks_in M.PageDevice T.PageDevice self.new)
+            ≡ with_read (calls_in (disks_in M.PageDevice T.PageDevice self.old)) (Some page.file) }
     {
         match page.file {
             File::Main => answer(self.main.read(page.no, bytes), PageFault::MainFault),
@@ -50,6 +54,9 @@ impl<M: PageDevice, T: PageDevice> Devices<M, T> {
             → frame.new.bytes ≡ page_on (disks_in M.PageDevice T.PageDevice self.old) (key page)) }
         ensures keeps { SamePages (disks_in M.PageDevice T.PageDevice self.old) (disks_in M.PageDevice T.PageDevice self.new) }
         ensures cause { DeviceCause (disks_in M.PageDevice T.PageDevice self.old) (disks_in M.PageDevice T.PageDevice self.new) result }
+        ensures fails { IfErr result (IsFaultOf (Some page.file)) }
+        ensures asked { calls_in (disks_in M.PageDevice T.PageDevice self.new)
+            ≡ with_read (calls_in (disks_in M.PageDevice T.PageDevice self.old)) (Some page.file) }
     {
         self.read(page, frame.bytes.bytes_mut())
     }
@@ -62,6 +69,9 @@ impl<M: PageDevice, T: PageDevice> Devices<M, T> {
             → page_on (disks_in M.PageDevice T.PageDevice self.new) (key page) ≡ bytes.now) }
         ensures keeps { SameButOne (disks_in M.PageDevice T.PageDevice self.old) (disks_in M.PageDevice T.PageDevice self.new) (key page) }
         ensures cause { DeviceCause (disks_in M.PageDevice T.PageDevice self.old) (disks_in M.PageDevice T.PageDevice self.new) result }
+        ensures fails { IfErr result (IsFaultOf (Some page.file)) }
+        ensures asked { calls_in (disks_in M.PageDevice T.PageDevice self.new)
+            ≡ with_write (calls_in (disks_in M.PageDevice T.PageDevice self.old)) (Some page.file) }
     {
         match page.file {
             File::Main => answer(self.main.write(page.no, bytes), PageFault::MainFault),

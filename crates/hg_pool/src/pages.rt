@@ -1,7 +1,7 @@
 //! A pool is a space of pages.
-ghost use Rattle.std.specs.Prelude.{◌≡◌, ◌<◌, ◌-◌, ◌^◌, true, false, IfOk, IfErr, OnOk, OnErr, IsOk, IsErrOf};
+ghost use Rattle.std.specs.Prelude.{◌≡◌, ◌<◌, ◌-◌, ◌^◌, true, false, None, Some, IfOk, IfErr, OnOk, OnErr, IsOk, IsErrOf};
 ghost use Rattle.hg_base.specs.Space.{key, IsPinned, IsMade, IsSame, IsFull, without_pin, without_page, with_next};
-ghost use Rattle.hg_base.specs.Causes.{HasCause, NoneFull, PinFault, FreshFault, full_fault};
+ghost use Rattle.hg_base.specs.Causes.{HasCause, PinFault, FreshFault, fault_of, full_fault};
 ghost use Rattle.hg_pool.specs.Round.{Stays, ComesIn, PassesNext, without_out};
 ghost use Rattle.hg_pool.specs.Shown.{
   state_of,
@@ -16,9 +16,12 @@ ghost use Rattle.hg_pool.specs.Shown.{
   SameFrames,
   SameFramesBut,
   KeepsFrames,
-  ClearsNext,
+  owed,
+  Asked,
+  StaysIn,
+  IsRefused,
 };
-ghost use Rattle.hg_pool.specs.Work.{PinWork, FreshWork, IsLowest, IsUnused, CallsNone, evicted};
+ghost use Rattle.hg_pool.specs.Work.{IsLowest, IsUnused, CallsNone, evicted};
 
 use crate::Pool;
 use hg_base::{File, PageFault, PageId, Pages};
@@ -56,13 +59,12 @@ impl<M: PageDevice, T: PageDevice> Pages for Pool<M, T> {
         ensures err { OnErr result (IsSame (state_of M.PageDevice T.PageDevice self.old)
             (state_of M.PageDevice T.PageDevice self.new)) }
         ensures cause { HasCause (state_of M.PageDevice T.PageDevice self.old)
-            (state_of M.PageDevice T.PageDevice self.new) result }
-        ensures fault { IfErr result (PinFault (state_of M.PageDevice T.PageDevice self.old)
-            (state_of M.PageDevice T.PageDevice self.new)) }
-        ensures none_full { NoneFull (state_of M.PageDevice T.PageDevice self.old).counts
-            (state_of M.PageDevice T.PageDevice self.new).counts }
+            (state_of M.PageDevice T.PageDevice self.new) (fault_of result) }
+        ensures fault { IfErr result PinFault }
         ensures in_frame { OnOk result (in_frame self.new page ≡ true) }
-        ensures work { PinWork (in_frame self.old page) (counts_of_pool self.old) (counts_of_pool self.new) result }
+        ensures asked { OnOk result (in_frame self.old page ≡ false
+            → Asked M.PageDevice T.PageDevice self.old self.new (owed self.old (frame_of self.new page)) (Some page.file)) }
+        ensures refused { IfErr result (IsRefused M.PageDevice T.PageDevice self.old self.new page) }
         ensures stays { OnOk result (in_frame self.old page ≡ true → Stays (round_of self.old) (round_of self.new)
             (frame_of self.old page) (frame_of self.new page)) }
         ensures comes { OnOk result (in_frame self.old page ≡ false → ComesIn (round_of self.old) (round_of self.new) (frame_of self.new page)) }
@@ -71,7 +73,6 @@ impl<M: PageDevice, T: PageDevice> Pages for Pool<M, T> {
         ensures stays_ok { in_frame self.old page ≡ true → IsOk result }
         ensures keeps_frames { OnOk result (KeepsFrames self.old self.new page (frame_of self.new page)) }
         ensures same_frames { in_frame self.old page ≡ true → SameFrames self.old self.new }
-        ensures err_frames { OnErr result (ClearsNext self.old self.new) }
         ensures keeps_counts { in_frame self.old page ≡ true → counts_of_pool self.new ≡ counts_of_pool self.old }
         ensures evicts { OnOk result (in_frame self.old page ≡ false → (counts_of_pool self.new).evictions
             ≡ evicted (page_in self.old (frame_of self.new page)) (counts_of_pool self.old).evictions) }
@@ -88,18 +89,17 @@ impl<M: PageDevice, T: PageDevice> Pages for Pool<M, T> {
         requires few { (state_of M.PageDevice T.PageDevice self.old).pins < 8 }
         ensures ok { IfOk result (λ pin. IsMade file (state_of M.PageDevice T.PageDevice self.old)
             (state_of M.PageDevice T.PageDevice self.new) pin.page) }
-        ensures ok_counts { OnOk result (NoneFull (state_of M.PageDevice T.PageDevice self.old).counts
-            (state_of M.PageDevice T.PageDevice self.new).counts) }
         ensures err { OnErr result (IsSame (state_of M.PageDevice T.PageDevice self.old)
             (state_of M.PageDevice T.PageDevice self.new)) }
         ensures cause { HasCause (state_of M.PageDevice T.PageDevice self.old)
-            (state_of M.PageDevice T.PageDevice self.new) result }
-        ensures fault { IfErr result (FreshFault file (state_of M.PageDevice T.PageDevice self.old)
-            (state_of M.PageDevice T.PageDevice self.new)) }
+            (state_of M.PageDevice T.PageDevice self.new) (fault_of result) }
+        ensures fault { IfErr result (FreshFault file (state_of M.PageDevice T.PageDevice self.old)) }
         ensures full { IsFull (state_of M.PageDevice T.PageDevice self.old) file → IsErrOf result (full_fault file) }
         ensures lowest { IfOk result (λ pin. IsLowest (state_of M.PageDevice T.PageDevice self.old) pin.page) }
         ensures in_frame { IfOk result (λ pin. in_frame self.new pin.page ≡ true) }
-        ensures work { FreshWork (counts_of_pool self.old) (counts_of_pool self.new) }
+        ensures asked { IfOk result (λ pin. Asked M.PageDevice T.PageDevice self.old self.new (owed self.old (frame_of self.new pin.page)) None) }
+        ensures refused { IfErr result (λ fault. (IsFull (state_of M.PageDevice T.PageDevice self.old) file → ⊥)
+            → StaysIn M.PageDevice T.PageDevice self.old self.new fault) }
         ensures full_work { IsFull (state_of M.PageDevice T.PageDevice self.old) file → counts_of_pool self.new ≡ counts_of_pool self.old }
         ensures full_round { IsFull (state_of M.PageDevice T.PageDevice self.old) file → round_of self.new ≡ round_of self.old }
         ensures comes { IfOk result (λ pin. ComesIn (round_of self.old) (round_of self.new) (frame_of self.new pin.page)) }
@@ -199,5 +199,7 @@ impl<M: PageDevice, T: PageDevice> Pages for Pool<M, T> {
         }
     }
 
-    ghost writes = { writes_of M.PageDevice T.PageDevice };
+    ghost writes = { writes_of
+        (record { pages = M.pages; told = M.told; page = M.page; reads = M.reads; writes = M.writes; faults = M.faults })
+        (record { pages = T.pages; told = T.told; page = T.page; reads = T.reads; writes = T.writes; faults = T.faults }) };
 }

@@ -12,15 +12,14 @@ pub(crate) struct Parts<M, T> {
 }
 
 impl<M: PageDevice, T: PageDevice> Parts<M, T> {
-    ghost use Rattle.std.specs.Prelude.{◌≡◌, ◌<◌, ◌-◌, ◌^◌, true, false, Ok, None, Some, OnOk, OnErr, IfOk, IsOk, length};
-    ghost use Rattle.hg_io.specs.Count.{raised};
+    ghost use Rattle.std.specs.Prelude.{◌≡◌, ◌<◌, ◌-◌, ◌^◌, true, false, Ok, None, Some, OnOk, OnErr, IfOk, IfErr, IsOk, length};
     ghost use Rattle.hg_base.specs.Space.{key};
     ghost use Rattle.hg_pool.specs.Picture.{frame_at, place_at, taken_at};
     ghost use Rattle.hg_pool.specs.Keeping.{is_inside, IsFoundAt};
-    ghost use Rattle.hg_pool.specs.Shown.{IsWhole, page_in, SameFrames, KeepsFramesAll, KeepsFrames, ClearsNext};
+    ghost use Rattle.hg_pool.specs.Shown.{IsWhole, page_in, owed, Asked, SameFrames, KeepsFramesAll, KeepsFrames, StaysIn, IsRefused};
     ghost use Rattle.hg_pool.specs.Passing.{PassesParts, Clears, IsClean, IsRoom, AreEmpty, Reaches};
     ghost use Rattle.hg_pool.specs.Round.{PassesNext, round_in};
-    ghost use Rattle.hg_pool.specs.Work.{RoseOnce, PinWork, evicted};
+    ghost use Rattle.hg_pool.specs.Work.{IsFaultOf, evicted};
 
     /// Writes the frame's page to its device.
     fn write_back(&mut self, at: usize, page: PageId) -> Result<(), PageFault>
@@ -33,11 +32,11 @@ impl<M: PageDevice, T: PageDevice> Parts<M, T> {
         ensures clean { OnOk result ((frame_at self.new.store.frames.items at).dirty ≡ false) }
         ensures pinned { (frame_at self.new.store.frames.items at).pinned ≡ (frame_at self.old.store.frames.items at).pinned }
         ensures round { round_in self.new.store ≡ round_in self.old.store }
-        ensures writes { RoseOnce self.old.store.counts.writes self.new.store.counts.writes }
+        ensures asked { Asked M.PageDevice T.PageDevice self.old self.new (Some page.file) None }
+        ensures fails { IfErr result (IsFaultOf (Some page.file)) }
         ensures evictions { self.new.store.counts.evictions ≡ self.old.store.counts.evictions }
         ensures page { page_in self.new at ≡ page_in self.old at }
         ensures frames { SameFrames self.old self.new }
-        ensures written { self.new.store.counts.writes ≡ raised self.old.store.counts.writes 1 }
     {
         self.store.count_write();
         match self
@@ -66,7 +65,8 @@ impl<M: PageDevice, T: PageDevice> Parts<M, T> {
         ensures round { round_in self.new.store ≡ round_in self.old.store }
         ensures no_call { (frame_at self.old.store.frames.items at).page ≡ None → self.new.devices ≡ self.old.devices }
         ensures no_fault { OnErr result ((frame_at self.old.store.frames.items at).page ≡ None → ⊥) }
-        ensures writes { RoseOnce self.old.store.counts.writes self.new.store.counts.writes }
+        ensures asked { Asked M.PageDevice T.PageDevice self.old self.new (owed self.old at) None }
+        ensures fails { IfErr result (IsFaultOf (owed self.old at)) }
         ensures evictions { self.new.store.counts.evictions ≡ self.old.store.counts.evictions }
         ensures page { page_in self.new at ≡ page_in self.old at }
         ensures frames { SameFrames self.old self.new }
@@ -90,8 +90,8 @@ impl<M: PageDevice, T: PageDevice> Parts<M, T> {
         ensures room { IsRoom self.new.store at }
         ensures round { round_in self.new.store ≡ round_in self.old.store }
         ensures no_call { self.new.devices ≡ self.old.devices }
-        ensures writes { self.new.store.counts.writes ≡ self.old.store.counts.writes }
-        ensures evictions { RoseOnce self.old.store.counts.evictions self.new.store.counts.evictions }
+        ensures asked { Asked M.PageDevice T.PageDevice self.old self.new None None }
+        ensures empty { page_in self.new at ≡ None }
         ensures keeps { KeepsFramesAll self.old self.new at }
         ensures evicts { self.new.store.counts.evictions ≡ evicted (page_in self.old at) self.old.store.counts.evictions }
     {
@@ -113,12 +113,10 @@ impl<M: PageDevice, T: PageDevice> Parts<M, T> {
         ensures passes_next { OnErr result (PassesNext (round_in self.old.store) (round_in self.new.store)) }
         ensures no_call { AreEmpty self.old.store → self.new.devices ≡ self.old.devices }
         ensures no_fault { OnErr result (AreEmpty self.old.store → ⊥) }
-        ensures writes { RoseOnce self.old.store.counts.writes self.new.store.counts.writes }
-        ensures evictions { RoseOnce self.old.store.counts.evictions self.new.store.counts.evictions }
+        ensures asked { IfOk result (λ f. Asked M.PageDevice T.PageDevice self.old self.new (owed self.old f) None) }
         ensures keeps { IfOk result (λ f. KeepsFramesAll self.old self.new f) }
-        ensures err_frames { OnErr result (SameFrames self.old self.new) }
         ensures evicts { IfOk result (λ f. self.new.store.counts.evictions ≡ evicted (page_in self.old f) self.old.store.counts.evictions) }
-        ensures none_evicted { OnErr result (self.new.store.counts.evictions ≡ self.old.store.counts.evictions) }
+        ensures refused { IfErr result (StaysIn M.PageDevice T.PageDevice self.old self.new) }
         ensures uncounted { self.new.store.counts.writes ≡ self.old.store.counts.writes → self.old.store.counts.writes < 2 ^ 64 - 1
             → self.new.devices ≡ self.old.devices }
     {
@@ -139,8 +137,10 @@ impl<M: PageDevice, T: PageDevice> Parts<M, T> {
         ensures free { (frame_at self.new.store.frames.items at).pinned ≡ false }
         ensures pins { self.new.store.pins ≡ self.old.store.pins }
         ensures round { round_in self.new.store ≡ round_in self.old.store }
-        ensures read { self.new.store.counts ≡ record self.old.store.counts { reads = raised self.old.store.counts.reads 1 } }
-        ensures once { RoseOnce self.old.store.counts.reads self.new.store.counts.reads }
+        ensures asked { Asked M.PageDevice T.PageDevice self.old self.new None (Some page.file) }
+        ensures fails { IfErr result (IsFaultOf (Some page.file)) }
+        ensures evictions { self.new.store.counts.evictions ≡ self.old.store.counts.evictions }
+        ensures page { OnErr result (page_in self.new at ≡ None) }
         ensures fills { OnOk result (KeepsFrames self.old self.new page at) }
         ensures err_frames { OnErr result (SameFrames self.old self.new) }
     {
@@ -173,11 +173,12 @@ impl<M: PageDevice, T: PageDevice> Parts<M, T> {
         ensures reaches { IfOk result (λ f. is_inside self.old.store (key page) ≡ false
             → Reaches (round_in self.old.store) (round_in self.new.store) f) }
         ensures passes_next { OnErr result (PassesNext (round_in self.old.store) (round_in self.new.store)) }
-        ensures work { PinWork (is_inside self.old.store (key page)) self.old.store.counts self.new.store.counts result }
+        ensures asked { IfOk result (λ f. is_inside self.old.store (key page) ≡ false
+            → Asked M.PageDevice T.PageDevice self.old self.new (owed self.old f) (Some page.file)) }
+        ensures refused { IfErr result (IsRefused M.PageDevice T.PageDevice self.old self.new page) }
         ensures no_call { is_inside self.old.store (key page) ≡ true → self.new.devices ≡ self.old.devices }
         ensures stays_ok { is_inside self.old.store (key page) ≡ true → IsOk result }
         ensures keeps_frames { IfOk result (λ f. KeepsFrames self.old self.new page f) }
-        ensures err_frames { OnErr result (ClearsNext self.old self.new) }
         ensures keeps_counts { is_inside self.old.store (key page) ≡ true → self.new.store.counts ≡ self.old.store.counts }
         ensures same_frames { is_inside self.old.store (key page) ≡ true → SameFrames self.old self.new }
         ensures evicts { IfOk result (λ f. is_inside self.old.store (key page) ≡ false

@@ -6,7 +6,6 @@ ghost use Rattle.hg_pool.specs.Sound.{IsShaped};
 ghost use Rattle.hg_pool.specs.Keeping.{places_in, with_place, with_frame, IsFoundAt, IsFullIn, is_inside, new_frame};
 ghost use Rattle.hg_pool.specs.Passing.{IsClean};
 ghost use Rattle.hg_pool.specs.Round.{IsNext, round_in};
-ghost use Rattle.hg_pool.specs.Work.{RoseOnce};
 ghost use Rattle.hg_io.specs.Count.{raised};
 
 use crate::PoolCounts;
@@ -182,24 +181,21 @@ impl Store {
 
     /// Counts a read of a device.
     pub(crate) fn count_read(&mut self)
-        ensures counted { self.new ≡ record self.old { counts = record self.old.counts { reads = raised self.old.counts.reads 1 } } }
-        ensures once { RoseOnce self.old.counts.reads self.new.counts.reads }
+        ensures { self.new ≡ record self.old { counts = record self.old.counts { reads = raised self.old.counts.reads 1 } } }
     {
         self.counts.reads = self.counts.reads.saturating_add(1);
     }
 
     /// Counts a write to a device.
     pub(crate) fn count_write(&mut self)
-        ensures counted { self.new ≡ record self.old { counts = record self.old.counts { writes = raised self.old.counts.writes 1 } } }
-        ensures once { RoseOnce self.old.counts.writes self.new.counts.writes }
+        ensures { self.new ≡ record self.old { counts = record self.old.counts { writes = raised self.old.counts.writes 1 } } }
     {
         self.counts.writes = self.counts.writes.saturating_add(1);
     }
 
     /// Counts a page that left its frame.
     pub(crate) fn count_eviction(&mut self)
-        ensures counted { self.new ≡ record self.old { counts = record self.old.counts { evictions = raised self.old.counts.evictions 1 } } }
-        ensures once { RoseOnce self.old.counts.evictions self.new.counts.evictions }
+        ensures { self.new ≡ record self.old { counts = record self.old.counts { evictions = raised self.old.counts.evictions 1 } } }
     {
         self.counts.evictions = self.counts.evictions.saturating_add(1);
     }

@@ -11,7 +11,7 @@ use Rattle.hg_pool.specs.declared.parts.Parts.{Parts}
 use Rattle.hg_pool.specs.declared.pages.PoolPin.{PoolPin}
 use Rattle.hg_pool.proofs.Rounds.{calls-none-ok, calls-none-err}
 use Rattle.std.proofs.Common.{◌<◌, ◌-◌, ◌^◌}
-use Rattle.hg_pool.specs.Shown.{page_in, SameFrames, KeepsFrames}
+use Rattle.hg_pool.specs.Shown.{page_in, SameFrames, KeepsFrames, StaysIn}
 use Rattle.hg_pool.specs.Work.{evicted}
 use Rattle.hg_pool.proofs.pages.PoolPages.fresh.Goals as goal
 
@@ -33,8 +33,8 @@ returns-in_err-page-clause-fault g c =
     let p = err_from_is_err_and c.from_residual.result c.from_residual.ensures.1 in
     let f : PageFault = c.in_err-page.field-0.0 in
     let is : c.from_residual.result ≡ Err f = p.1 ∙ ap Err p.2 in
-    let P : Parts g.row.M.Denot g.row.T.Denot → Type 0 = λ s. FreshFault c.args.file (state_of g.M.PageDevice g.T.PageDevice s) (state_of g.M.PageDevice g.T.PageDevice new) f in
-    let Q : Result PoolPin PageFault → Type 0 = λ r. IfErr r (FreshFault c.args.file (state_of g.M.PageDevice g.T.PageDevice c.args.self.now) (state_of g.M.PageDevice g.T.PageDevice new)) in
+    let P : Parts g.row.M.Denot g.row.T.Denot → Type 0 = λ s. FreshFault c.args.file (state_of g.M.PageDevice g.T.PageDevice s) f in
+    let Q : Result PoolPin PageFault → Type 0 = λ r. IfErr r (FreshFault c.args.file (state_of g.M.PageDevice g.T.PageDevice c.args.self.now)) in
     subst Q (sym is) (subst P c.self.view_is c.in_err-page.ensures.fault)
 
 pub returns-in_err-page-clause-full_work : goal.returns-in_err-page-clause-full_work
@@ -142,3 +142,14 @@ returns-in_err-page-clause-full_calls_none g c =
       main = ap (λ d. d.main) devices;
       temp = ap (λ d. d.temp) devices;
     }
+
+pub returns-in_err-page-clause-refused : goal.returns-in_err-page-clause-refused
+returns-in_err-page-clause-refused g c =
+    let new : Parts g.row.M.Denot g.row.T.Denot = c.fresh.new.self in
+    let p = err_from_is_err_and c.from_residual.result c.from_residual.ensures.1 in
+    let f : PageFault = c.in_err-page.field-0.0 in
+    let is : c.from_residual.result ≡ Err f = p.1 ∙ ap Err p.2 in
+    let P : Parts g.row.M.Denot g.row.T.Denot → Type 0 = λ s. (IsFull (state_of g.M.PageDevice g.T.PageDevice s) c.args.file → ⊥) → StaysIn g.M.PageDevice g.T.PageDevice s new f in
+    let Q : Result PoolPin PageFault → Type 0 = λ r. IfErr r (λ fault. (IsFull (state_of g.M.PageDevice g.T.PageDevice c.args.self.now) c.args.file → ⊥)
+    → StaysIn g.M.PageDevice g.T.PageDevice c.args.self.now new fault) in
+    subst Q (sym is) (subst P c.self.view_is c.in_err-page.ensures.refused)

@@ -7,7 +7,7 @@ use Rattle.hg_pool.specs.Shown.{state_of, in_frame, frame_of, round_of}
 use Rattle.hg_pool.specs.declared.parts.Parts.{Parts}
 use Rattle.hg_pool.specs.declared.pages.PoolPin.{PoolPin}
 use Rattle.std.proofs.Common.{◌<◌, ◌-◌, ◌^◌, ap}
-use Rattle.hg_pool.specs.Shown.{page_in, counts_of_pool, SameFrames, KeepsFrames, ClearsNext}
+use Rattle.hg_pool.specs.Shown.{page_in, counts_of_pool, SameFrames, KeepsFrames}
 use Rattle.hg_pool.specs.Work.{evicted}
 use Rattle.hg_pool.proofs.pages.PoolPages.pin.Goals as goal
 
@@ -56,13 +56,6 @@ pub returns-in_err-pin-clause-same_frames : goal.returns-in_err-pin-clause-same_
 returns-in_err-pin-clause-same_frames g c =
     let P : Parts g.row.M.Denot g.row.T.Denot → Type 0 = λ s. in_frame s c.args.page ≡ true → SameFrames s c.pin.new.self in
     subst P c.self.view_is c.in_err-pin.ensures.same_frames
-
-pub returns-in_err-pin-clause-err_frames : goal.returns-in_err-pin-clause-err_frames
-returns-in_err-pin-clause-err_frames g c =
-    let p = err_from_is_err_and c.from_residual.result c.from_residual.ensures.1 in
-    let P : Parts g.row.M.Denot g.row.T.Denot → Type 0 = λ s. ClearsNext s c.pin.new.self in
-    let Q : Result PoolPin PageFault → Type 0 = λ r. OnErr r (P c.args.self.now) in
-    subst Q (sym p.1) (subst P c.self.view_is c.in_err-pin.ensures.err_frames)
 
 pub returns-clause-keeps_counts : goal.returns-clause-keeps_counts
 returns-clause-keeps_counts g c =

@@ -1,14 +1,15 @@
-use Rattle.std.proofs.Common.{◌≡◌, ℕ, ◌∙◌, ap, sym, subst, Ok, Err, Result}
+use Rattle.std.proofs.Common.{◌≡◌, ℕ, ◌∙◌, ap, sym, subst, inr, Ok, Err, Some, IfErr, Result}
+use Rattle.hg_base.specs.declared.PageId.{PageId}
 use Rattle.hg_base.specs.declared.pages.PageFault.{PageFault}
 use Rattle.hg_pool.specs.Disks.{Disks, disks_in}
 use Rattle.hg_pool.specs.Passing.{Passes}
 use Rattle.hg_pool.specs.declared.store.Store.{Store}
 use Rattle.std.proofs.lemmas.Result.{err_from_is_err_and}
 use Rattle.hg_pool.proofs.Passing.{passes-then, passes-err, passes-ok}
-use Rattle.std.proofs.Common.{OnErr}
-use Rattle.hg_pool.specs.Shown.{ClearsNext}
 use Rattle.hg_pool.specs.declared.parts.Parts.{Parts}
-use Rattle.hg_pool.proofs.Staying.{same-keeps, keeps-then-same}
+use Rattle.hg_pool.proofs.Staying.{keeps-then-same}
+use Rattle.hg_pool.proofs.Asking.{asks-then}
+use Rattle.hg_pool.specs.Shown.{owed, Leaves, IsRefused}
 use Rattle.hg_pool.proofs.parts.Parts.bring.Goals as goal
 
 pub returns-in_err-load-clause-passes : goal.returns-in_err-load-clause-passes
@@ -21,7 +22,7 @@ returns-in_err-load-clause-passes g c =
     let f : PageFault = c.in_err-load.field-0.0 in
     let is : c.from_residual-in_err-load.result ≡ Err f = p.1 ∙ ap Err p.2 in
     let P : Result ℕ PageFault → Type 0 = λ r. Passes d s k c.load.new.self.store r in
-    subst P (sym is) (passes-then d e k s c.room.new.self.store c.load.new.self.store (Ok c.in_ok-at.at) (Err f) c.in_ok-at.ensures.passes
+    subst P (sym is) (passes-then d e k s c.room.new.self.store c.load.new.self.store c.in_ok-at.at (Err f) c.in_ok-at.ensures.passes
     (passes-err e k c.room.new.self.store c.load.new.self.store f c.in_err-load.ensures.passes))
 
 pub returns-clause-passes : goal.returns-clause-passes
@@ -31,24 +32,32 @@ returns-clause-passes g c =
     let e : Disks = disks_in g.M.PageDevice g.T.PageDevice c.room.new.self.devices in
     let k : Disks = disks_in g.M.PageDevice g.T.PageDevice c.load.new.self.devices in
     let u : Unit {0} = tt in
-    passes-then d e k s c.room.new.self.store c.load.new.self.store (Ok c.in_ok-at.at) (Ok c.in_ok-at.at) c.in_ok-at.ensures.passes
+    passes-then d e k s c.room.new.self.store c.load.new.self.store c.in_ok-at.at (Ok c.in_ok-at.at) c.in_ok-at.ensures.passes
     (passes-ok e k c.room.new.self.store c.load.new.self.store u c.in_ok-at.at c.in_ok-load.ensures.passes)
 
-pub returns-in_err-at-clause-err_frames : goal.returns-in_err-at-clause-err_frames
-returns-in_err-at-clause-err_frames g c =
-    let a : Parts g.row.M.Denot g.row.T.Denot = c.args.self.now in
-    let b : Parts g.row.M.Denot g.row.T.Denot = c.room.new.self in
-    let p = err_from_is_err_and c.from_residual.result c.from_residual.ensures.1 in
-    let passed = c.in_err-at.ensures.passes_next in
-    let P : Result ℕ PageFault → Type 0 = λ r. OnErr r (ClearsNext a b) in
-    subst P (sym p.1) (record { frame = passed.frame; next = passed.next; keeps = same-keeps a b passed.frame c.in_err-at.ensures.err_frames })
 
-pub returns-in_err-load-clause-err_frames : goal.returns-in_err-load-clause-err_frames
-returns-in_err-load-clause-err_frames g c =
+-- the page of the next frame left it, and the read into that frame failed
+pub returns-in_err-load-clause-refused : goal.returns-in_err-load-clause-refused
+returns-in_err-load-clause-refused g c =
     let a : Parts g.row.M.Denot g.row.T.Denot = c.args.self.now in
     let m : Parts g.row.M.Denot g.row.T.Denot = c.room.new.self in
     let b : Parts g.row.M.Denot g.row.T.Denot = c.load.new.self in
+    let d : Disks = disks_in g.M.PageDevice g.T.PageDevice a.devices in
+    let e : Disks = disks_in g.M.PageDevice g.T.PageDevice m.devices in
+    let k : Disks = disks_in g.M.PageDevice g.T.PageDevice b.devices in
+    let page : PageId = c.args.page in
     let f : ℕ = c.in_ok-at.at in
     let p = err_from_is_err_and c.from_residual-in_err-load.result c.from_residual-in_err-load.ensures.1 in
-    let P : Result ℕ PageFault → Type 0 = λ r. OnErr r (ClearsNext a b) in
-    subst P (sym p.1) (record { frame = f; next = c.in_ok-at.ensures.reaches.next; keeps = keeps-then-same a m b f c.in_ok-at.ensures.keeps c.in_err-load.ensures.err_frames })
+    let fault : PageFault = c.in_err-load.field-0.0 in
+    let is : c.from_residual-in_err-load.result ≡ Err fault = p.1 ∙ ap Err p.2 in
+    let left : Leaves g.M.PageDevice g.T.PageDevice a b page fault = record {
+      frame = f;
+      next = c.in_ok-at.ensures.reaches.next;
+      fails = c.in_err-load.ensures.fails;
+      asked = asks-then d e k a.store.counts m.store.counts b.store.counts (owed a f) (Some page.file) c.in_ok-at.ensures.asked c.in_err-load.ensures.asked;
+      empty = c.in_err-load.ensures.page;
+      frames = keeps-then-same a m b f c.in_ok-at.ensures.keeps c.in_err-load.ensures.err_frames;
+      evictions = c.in_err-load.ensures.evictions ∙ c.in_ok-at.ensures.evicts;
+    } in
+    let P : Result ℕ PageFault → Type 0 = λ r. IfErr r (IsRefused g.M.PageDevice g.T.PageDevice a b page) in
+    subst P (sym is) (inr left)

@@ -19,7 +19,7 @@ returns-clause-passes g c =
     let i : ℕ = c.args.at in
     let z : Store = c.count_eviction.new.self in
     let after : z ≡ record (with_frame s i (record (frame_at s.frames.items i) { page = None })) { counts = z.counts } =
-    recounted z c.set_empty.new.self _ c.count_eviction.ensures.counted ∙ ap (λ (y : Store). record y { counts = z.counts }) c.set_empty.ensures in
+    recounted z c.set_empty.new.self _ c.count_eviction.ensures ∙ ap (λ (y : Store). record y { counts = z.counts }) c.set_empty.ensures in
     let P : Store → Type 0 = λ y. Passes {X = Unit {0}} d s d y (Ok tt) in
     subst P (sym after) (cleared d s z.counts i tt c.requires.whole c.requires.there c.requires.clean c.requires.free)
 
@@ -27,7 +27,7 @@ pub returns-clause-round : goal.returns-clause-round
 returns-clause-round g c =
     let s : Store = c.args.self.now.store in
     let i : ℕ = c.args.at in
-    ap round_in c.count_eviction.ensures.counted ∙ ap round_in c.set_empty.ensures
+    ap round_in c.count_eviction.ensures ∙ ap round_in c.set_empty.ensures
     ∙ round-same s i (record (frame_at s.frames.items i) { page = None }) c.requires.there refl
 
 pub returns-clause-keeps : goal.returns-clause-keeps
@@ -38,5 +38,5 @@ returns-clause-keeps g c =
     let i : ℕ = c.args.at in
     let x : Frame = record (frame_at s.frames.items i) { page = None } in
     let after : c.count_eviction.new.self ≡ record (with_frame s i x) { counts = c.count_eviction.new.self.counts } =
-    recounted c.count_eviction.new.self c.set_empty.new.self _ c.count_eviction.ensures.counted ∙ ap (λ (y : Store). record y { counts = c.count_eviction.new.self.counts }) c.set_empty.ensures in
+    recounted c.count_eviction.new.self c.set_empty.new.self _ c.count_eviction.ensures ∙ ap (λ (y : Store). record y { counts = c.count_eviction.new.self.counts }) c.set_empty.ensures in
     frame-emptied a b i x c.requires.there refl (ap (λ (z : Store). z.frames.items) after) (ap (λ (z : Store). z.places) after)

@@ -138,8 +138,3 @@ returns-clause-uncounted g c =
 pub returns-in_err-at-clause-uncounted : goal.returns-in_err-at-clause-uncounted
 returns-in_err-at-clause-uncounted g c = λ same reads writes. c.in_err-at.ensures.uncounted (ap (λ n. n.writes) same) writes
 
-pub returns-in_err-at-clause-err_frames : goal.returns-in_err-at-clause-err_frames
-returns-in_err-at-clause-err_frames g c =
-    let p = err_from_is_err_and c.from_residual.result c.from_residual.ensures.1 in
-    let P : Result PageId PageFault → Type 0 = λ r. OnErr r (SameFrames c.args.self.now c.room.new.self) in
-    subst P (sym p.1) c.in_err-at.ensures.err_frames

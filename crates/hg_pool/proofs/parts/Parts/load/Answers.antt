@@ -28,14 +28,14 @@ returns-in-Err-clause-passes g c =
     let i : ℕ = c.args.at in
     let w : Store = c.count_read.new.self in
     let a : Answers = c.count.new.self in
-    let moved : w ≡ record s { counts = w.counts } = recounted w s _ c.count_read.ensures.counted in
+    let moved : w ≡ record s { counts = w.counts } = recounted w s _ c.count_read.ensures in
     let here : c.index_mut-frame.result.now ≡ frame_at s.frames.items i =
     frame-here s.frames.items i c.index_mut-frame.result.now c.requires.room.there
     (c.index_mut-frame.ensures.value ∙ ap (λ (z : Store). slice_index_or z.frames.items i c.index_mut-frame.result.now) moved) in
     let frame : c.fill.new.frame ≡ record (frame_at s.frames.items i) { bytes = c.fill.new.frame.bytes } =
     c.fill.ensures.rest ∙ ap (λ (y : Frame). record y { bytes = c.fill.new.frame.bytes }) here in
     let P : Store → Frame → Type 0 = λ z y. Passes {X = Unit {0}} d s e (record (with_frame z i y) { answers = a }) (Err c.in-Err.fault) in
-    let same : w.answers ≡ s.answers = ap (λ (z : Store). z.answers) c.count_read.ensures.counted in
+    let same : w.answers ≡ s.answers = ap (λ (z : Store). z.answers) c.count_read.ensures in
     subst (λ z. P z c.fill.new.frame) (sym moved) (subst (P (record s { counts = w.counts })) (sym frame)
     (read-not {X = Unit {0}} d e s w.counts a i c.fill.new.frame.bytes c.in-Err.fault c.requires.whole c.requires.room.there c.requires.room.none
     c.fill.ensures.keeps c.in-Err.ensures.cause (counted-later w.answers s.answers a same c.count.ensures.later)
@@ -50,7 +50,7 @@ returns-in-Ok-clause-passes g c =
     let p : PageId = c.args.page in
     let w : Store = c.count_read.new.self in
     let y : Frame = c.fill.new.frame in
-    let moved : w ≡ record s { counts = w.counts } = recounted w s _ c.count_read.ensures.counted in
+    let moved : w ≡ record s { counts = w.counts } = recounted w s _ c.count_read.ensures in
     let here : c.index_mut-frame.result.now ≡ frame_at s.frames.items i =
     frame-here s.frames.items i c.index_mut-frame.result.now c.requires.room.there
     (c.index_mut-frame.ensures.value ∙ ap (λ (z : Store). slice_index_or z.frames.items i c.index_mut-frame.result.now) moved) in
@@ -69,22 +69,22 @@ returns-in-Err-clause-round g c =
     let w : Store = c.count_read.new.self in
     let i : ℕ = c.args.at in
     let P : Store → Type 0 = λ z. i < length z.frames.items in
-    let there : i < length w.frames.items = subst P (sym c.count_read.ensures.counted) c.requires.room.there in
+    let there : i < length w.frames.items = subst P (sym c.count_read.ensures) c.requires.room.there in
     round-same w i c.fill.new.frame there
     (ap (λ (y : Frame). y.pinned) (c.fill.ensures.rest ∙ ap (λ (y : Frame). record y { bytes = c.fill.new.frame.bytes })
     (frame-here w.frames.items i c.index_mut-frame.result.now there c.index_mut-frame.ensures.value)))
-    ∙ ap round_in c.count_read.ensures.counted
+    ∙ ap round_in c.count_read.ensures
 
 pub returns-in-Ok-clause-round : goal.returns-in-Ok-clause-round
 returns-in-Ok-clause-round g c =
     let w : Store = c.count_read.new.self in
     let i : ℕ = c.args.at in
     let P : Store → Type 0 = λ z. i < length z.frames.items in
-    let there : i < length w.frames.items = subst P (sym c.count_read.ensures.counted) c.requires.room.there in
+    let there : i < length w.frames.items = subst P (sym c.count_read.ensures) c.requires.room.there in
     round-same w i (record c.fill.new.frame { page = Some c.args.page; dirty = false }) there
     (ap (λ (y : Frame). y.pinned) (c.fill.ensures.rest ∙ ap (λ (y : Frame). record y { bytes = c.fill.new.frame.bytes })
     (frame-here w.frames.items i c.index_mut-frame.result.now there c.index_mut-frame.ensures.value)))
-    ∙ ap round_in c.count_read.ensures.counted
+    ∙ ap round_in c.count_read.ensures
 
 pub returns-in-Err-clause-err_frames : goal.returns-in-Err-clause-err_frames
 returns-in-Err-clause-err_frames g c =
@@ -94,7 +94,7 @@ returns-in-Err-clause-err_frames g c =
     let w : Store = c.count_read.new.self in
     let y : Frame = c.fill.new.frame in
     let b : Parts g.row.M.Denot g.row.T.Denot = record { devices = c.fill.new.self; store = record (with_frame w i y) { answers = c.count.new.self } } in
-    let moved : w ≡ record s { counts = w.counts } = recounted w s _ c.count_read.ensures.counted in
+    let moved : w ≡ record s { counts = w.counts } = recounted w s _ c.count_read.ensures in
     let here : c.index_mut-frame.result.now ≡ frame_at s.frames.items i =
     frame-here s.frames.items i c.index_mut-frame.result.now c.requires.room.there
     (c.index_mut-frame.ensures.value ∙ ap (λ (z : Store). slice_index_or z.frames.items i c.index_mut-frame.result.now) moved) in
@@ -110,6 +110,6 @@ returns-in-Ok-clause-fills g c =
     let w : Store = c.count_read.new.self in
     let x : Frame = record c.fill.new.frame { page = Some p; dirty = false } in
     let b : Parts g.row.M.Denot g.row.T.Denot = record { devices = c.fill.new.self; store = record (with_frame w i x) { places = c.set.new.self } } in
-    let moved : w ≡ record s { counts = w.counts } = recounted w s _ c.count_read.ensures.counted in
+    let moved : w ≡ record s { counts = w.counts } = recounted w s _ c.count_read.ensures in
     frame-filled a b p i x c.requires.room.there c.requires.room.none refl (ap (λ (z : Store). slice_set z.frames.items i x) moved)
     (ap place_at c.set.ensures ∙ ap (λ (z : Store). place_at (with_place z.places p i)) moved ∙ place-set s.places p i (has-place s p c.requires.whole.shape c.requires.taken))

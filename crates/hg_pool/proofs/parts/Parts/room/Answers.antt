@@ -24,7 +24,7 @@ returns-in_err-clean-clause-passes g c =
     let f : PageFault = c.in_err-clean.field-0.0 in
     let is : c.from_residual.result ≡ Err f = p.1 ∙ ap Err p.2 in
     let P : Result (ℕ) PageFault → Type 0 = λ r. Passes {X = ℕ} d s e c.clean.new.self.store r in
-    subst P (sym is) (passes-then d d e s c.victim-at.new.self c.clean.new.self.store (Ok u) (Err f)
+    subst P (sym is) (passes-then d d e s c.victim-at.new.self c.clean.new.self.store u (Err f)
     (moved-hand d s c.victim-at.new.self (c.victim-at.result + 1) u c.requires.whole (omega arith) c.victim-at.ensures.hand)
     (passes-err d e c.victim-at.new.self c.clean.new.self.store f c.in_err-clean.ensures.passes))
 
@@ -36,9 +36,9 @@ returns-clause-passes g c =
     let e : Disks = disks_in g.M.PageDevice g.T.PageDevice c.clean.new.self.devices in
     let k : Disks = disks_in g.M.PageDevice g.T.PageDevice c.empty.new.self.devices in
     let first = moved-hand d s c.victim-at.new.self (c.victim-at.result + 1) u c.requires.whole (omega arith) c.victim-at.ensures.hand in
-    let second = passes-then d d e s c.victim-at.new.self c.clean.new.self.store (Ok u) (Ok u) first c.in_ok-clean.ensures.passes in
+    let second = passes-then d d e s c.victim-at.new.self c.clean.new.self.store u (Ok u) first c.in_ok-clean.ensures.passes in
     passes-ok d k s c.empty.new.self.store u c.victim-at.result
-    (passes-then d e k s c.clean.new.self.store c.empty.new.self.store (Ok u) (Ok u) second c.empty.ensures.passes)
+    (passes-then d e k s c.clean.new.self.store c.empty.new.self.store u (Ok u) second c.empty.ensures.passes)
 
 pub returns-in_err-clean-clause-passes_next : goal.returns-in_err-clean-clause-passes_next
 returns-in_err-clean-clause-passes_next g c =
@@ -81,15 +81,6 @@ returns-clause-no_call g c =
 hand-stays : {M T : Type 0} (a : Parts M T) (z : Store) (hand : ℕ) → z ≡ record a.store { hand = hand } → SameFrames a (record a { store = z })
 hand-stays a z hand e = frames-stay a (record a { store = z }) (ap (λ (y : Store). y.frames.items) e) (ap (λ (y : Store). y.places) e)
 
-pub returns-in_err-clean-clause-err_frames : goal.returns-in_err-clean-clause-err_frames
-returns-in_err-clean-clause-err_frames g c =
-    let a : Parts g.row.M.Denot g.row.T.Denot = c.args.self.now in
-    let m : Parts g.row.M.Denot g.row.T.Denot = record a { store = c.victim-at.new.self } in
-    let b : Parts g.row.M.Denot g.row.T.Denot = c.clean.new.self in
-    let p = err_from_is_err_and c.from_residual.result c.from_residual.ensures.1 in
-    let P : Result ℕ PageFault → Type 0 = λ r. OnErr r (SameFrames a b) in
-    subst P (sym p.1) (same-then a m b (hand-stays a c.victim-at.new.self (c.victim-at.result + 1) c.victim-at.ensures.hand) c.in_err-clean.ensures.frames)
-
 pub returns-clause-keeps : goal.returns-clause-keeps
 returns-clause-keeps g c =
     let a : Parts g.row.M.Denot g.row.T.Denot = c.args.self.now in
@@ -108,12 +99,6 @@ returns-clause-evicts g c =
     ∙ ap (λ o. evicted o k.store.counts.evictions) (c.in_ok-clean.ensures.page ∙ ap (λ (z : Store). (frame_at z.frames.items f).page) c.victim-at.ensures.hand)
     ∙ ap (evicted (page_in a f)) (c.in_ok-clean.ensures.evictions ∙ ap (λ (z : Store). z.counts.evictions) c.victim-at.ensures.hand)
 
-pub returns-in_err-clean-clause-none_evicted : goal.returns-in_err-clean-clause-none_evicted
-returns-in_err-clean-clause-none_evicted g c =
-    let p = err_from_is_err_and c.from_residual.result c.from_residual.ensures.1 in
-    let P : Result ℕ PageFault → Type 0 = λ r. OnErr r (c.clean.new.self.store.counts.evictions ≡ c.args.self.now.store.counts.evictions) in
-    subst P (sym p.1) (c.in_err-clean.ensures.evictions ∙ ap (λ (z : Store). z.counts.evictions) c.victim-at.ensures.hand)
-
 pub returns-in_err-clean-clause-uncounted : goal.returns-in_err-clean-clause-uncounted
 returns-in_err-clean-clause-uncounted g c =
     let b : Parts g.row.M.Denot g.row.T.Denot = c.clean.new.self in
@@ -124,4 +109,4 @@ pub returns-clause-uncounted : goal.returns-clause-uncounted
 returns-clause-uncounted g c =
     let b : Parts g.row.M.Denot g.row.T.Denot = c.clean.new.self in
     let P : Store → Type 0 = λ y. b.store.counts.writes ≡ y.counts.writes → y.counts.writes < 2 ^ 64 - 1 → b.devices ≡ c.args.self.now.devices in
-    λ same below. c.empty.ensures.no_call ∙ subst P c.victim-at.ensures.hand c.in_ok-clean.ensures.uncounted (sym c.empty.ensures.writes ∙ same) below
+    λ same below. c.empty.ensures.no_call ∙ subst P c.victim-at.ensures.hand c.in_ok-clean.ensures.uncounted (sym c.empty.ensures.asked.writes ∙ same) below

@@ -28,9 +28,9 @@ returns-in-Err-clause-passes g c =
     let e : Disks = disks_in g.M.PageDevice g.T.PageDevice c.write.new.self in
     let w : Store = c.count_write.new.self in
     let a : Answers = c.count.new.self in
-    let moved : w ≡ record s { counts = w.counts } = c.count_write.ensures.counted ∙ ap (λ (n : PoolCounts). record s { counts = n }) (sym (ap (λ (z : Store). z.counts) c.count_write.ensures.counted)) in
+    let moved : w ≡ record s { counts = w.counts } = c.count_write.ensures ∙ ap (λ (n : PoolCounts). record s { counts = n }) (sym (ap (λ (z : Store). z.counts) c.count_write.ensures)) in
     let P : Store → Type 0 = λ z. Passes {X = Unit {0}} d s e (record z { answers = a }) (Err c.in-Err.failed) in
-    let same : w.answers ≡ s.answers = ap (λ (z : Store). z.answers) c.count_write.ensures.counted in
+    let same : w.answers ≡ s.answers = ap (λ (z : Store). z.answers) c.count_write.ensures in
     subst P (sym moved) (wrote-not {X = Unit {0}} d e s w.counts a c.args.at c.args.page c.in-Err.failed c.requires.whole c.requires.page c.requires.dirty
     c.write.ensures.keeps c.in-Err.ensures.cause (counted-later w.answers s.answers a same c.count.ensures.later)
     (c.count.ensures.counted ∙ ap (λ b. counted b c.in-Err.failed) same))
@@ -42,7 +42,7 @@ returns-in-Ok-clause-passes g c =
     let e : Disks = disks_in g.M.PageDevice g.T.PageDevice c.write.new.self in
     let w : Store = c.count_write.new.self in
     let i : ℕ = c.args.at in
-    let moved : w ≡ record s { counts = w.counts } = c.count_write.ensures.counted ∙ ap (λ (n : PoolCounts). record s { counts = n }) (sym (ap (λ (z : Store). z.counts) c.count_write.ensures.counted)) in
+    let moved : w ≡ record s { counts = w.counts } = c.count_write.ensures ∙ ap (λ (n : PoolCounts). record s { counts = n }) (sym (ap (λ (z : Store). z.counts) c.count_write.ensures)) in
     let P : Store → Type 0 = λ z. Passes {X = Unit {0}} d s e z (Ok tt) in
     let after : c.set_clean.new.self ≡ record (with_frame s i (record (frame_at s.frames.items i) { dirty = false })) { counts = w.counts } =
     c.set_clean.ensures ∙ ap (λ (z : Store). with_frame z i (record (frame_at z.frames.items i) { dirty = false })) moved in
@@ -53,21 +53,21 @@ returns-in-Ok-clause-passes g c =
     (λ t. c.in-Ok.ensures.puts t ∙ bytes))
 
 pub returns-in-Err-clause-round : goal.returns-in-Err-clause-round
-returns-in-Err-clause-round g c = ap round_in c.count_write.ensures.counted
+returns-in-Err-clause-round g c = ap round_in c.count_write.ensures
 
 pub returns-in-Ok-clause-round : goal.returns-in-Ok-clause-round
 returns-in-Ok-clause-round g c =
     let w : Store = c.count_write.new.self in
     let i : ℕ = c.args.at in
     let P : Store → Type 0 = λ z. i < length z.frames.items in
-    let there : i < length w.frames.items = subst P (sym c.count_write.ensures.counted) c.requires.there in
-    ap round_in c.set_clean.ensures ∙ round-same w i (record (frame_at w.frames.items i) { dirty = false }) there refl ∙ ap round_in c.count_write.ensures.counted
+    let there : i < length w.frames.items = subst P (sym c.count_write.ensures) c.requires.there in
+    ap round_in c.set_clean.ensures ∙ round-same w i (record (frame_at w.frames.items i) { dirty = false }) there refl ∙ ap round_in c.count_write.ensures
 
 pub returns-in-Err-clause-frames : goal.returns-in-Err-clause-frames
 returns-in-Err-clause-frames g c =
     let a : Parts g.row.M.Denot g.row.T.Denot = c.args.self.now in
     let b : Parts g.row.M.Denot g.row.T.Denot = record { devices = c.write.new.self; store = record c.count_write.new.self { answers = c.count.new.self } } in
-    frames-stay a b (ap (λ (z : Store). z.frames.items) c.count_write.ensures.counted) (ap (λ (z : Store). z.places) c.count_write.ensures.counted)
+    frames-stay a b (ap (λ (z : Store). z.frames.items) c.count_write.ensures) (ap (λ (z : Store). z.places) c.count_write.ensures)
 
 pub returns-in-Ok-clause-frames : goal.returns-in-Ok-clause-frames
 returns-in-Ok-clause-frames g c =
@@ -78,5 +78,5 @@ returns-in-Ok-clause-frames g c =
     let i : ℕ = c.args.at in
     let x : Frame = record (frame_at s.frames.items i) { dirty = false } in
     let after : c.set_clean.new.self ≡ record (with_frame s i x) { counts = w.counts } =
-    c.set_clean.ensures ∙ ap (λ (z : Store). with_frame z i (record (frame_at z.frames.items i) { dirty = false })) (recounted w s _ c.count_write.ensures.counted) in
+    c.set_clean.ensures ∙ ap (λ (z : Store). with_frame z i (record (frame_at z.frames.items i) { dirty = false })) (recounted w s _ c.count_write.ensures) in
     frame-kept a b i x c.requires.there refl (ap (λ (z : Store). z.frames.items) after) (ap (λ (z : Store). z.places) after)
