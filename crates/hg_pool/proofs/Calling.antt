@@ -22,7 +22,6 @@ use Rattle.hg_pool.specs.Loans.{frames-set, frame-in, and-left, picture-frame, w
 use Rattle.hg_pool.specs.declared.frames.Frame.{Frame}
 use Rattle.hg_pool.specs.declared.maps.Maps.{Maps}
 use Rattle.hg_pool.specs.declared.store.Store.{Store}
-use Rattle.hg_pool.specs.declared.PoolCounts.{PoolCounts}
 use Rattle.hg_pool.proofs.Steps.{Pinned, Made, Becomes, held, settled, unpinned, released, dropped, linked, pinned-found, bytes-found, or-true}
 use Rattle.hg_pool.proofs.Counting.{pins-same, pins-more, pins-less}
 use Rattle.hg_pool.proofs.Ranges.{free-place}

@@ -15,7 +15,7 @@ use Rattle.hg_pool.specs.Round.{PassesNext, with_out, round_in}
 use Rattle.hg_pool.proofs.Ranges.{free-place}
 use Rattle.hg_pool.specs.RoundLaws.{round-held}
 use Rattle.hg_pool.proofs.Rounds.{comes-in, noted-place, all-empty}
-use Rattle.hg_pool.specs.Shown.{frame_of, page_in, SameFrames, KeepsFrames}
+use Rattle.hg_pool.specs.Shown.{frame_of, page_in, KeepsFrames}
 use Rattle.hg_pool.specs.Work.{evicted}
 use Rattle.hg_pool.specs.declared.parts.Parts.{Parts}
 use Rattle.hg_pool.proofs.Passing.{place-set}
