@@ -43,6 +43,7 @@ abbrev pub shown : (ℕ → Slot) → ℕ → Counts → Space
 shown f pins n = record {
   told = true;
   limit = page_limit;
+  device_limit = page_limit;
   taken = λ q. is_taken q (f q);
   bytes = λ q. held_by q (f q);
   pinned = λ q. is_pinned q (f q);
@@ -58,6 +59,7 @@ abbrev pub plain_start : Space
 plain_start = record {
   told = true;
   limit = page_limit;
+  device_limit = page_limit;
   taken = λ _. false;
   bytes = λ _. None;
   pinned = λ _. false;

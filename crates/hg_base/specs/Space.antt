@@ -37,6 +37,8 @@ pub record Space : Type 0 where
   pub told : Bool
   -- the numbers of a file's pages are below this; it never changes
   pub limit : File → ℕ
+  -- how many pages each file's device has; it never changes
+  pub device_limit : File → ℕ
   pub taken : ℕ → Bool
   -- a page's bytes; None where it is not taken, is of a heap, or its bytes are not told
   pub bytes : ℕ → Option (List ℕ)

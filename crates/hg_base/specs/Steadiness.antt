@@ -33,6 +33,7 @@ pub record Steady (mine : Mine) (a b : Space) : Type 0 where
   pub pins_after : NoPins b
   pub told : b.told ≡ a.told
   pub limit : b.limit ≡ a.limit
+  pub device_limit : b.device_limit ≡ a.device_limit
   pub taken : (q : ℕ) → (mine.pages q → ⊥) → b.taken q ≡ a.taken q
   pub of_heap : (q : ℕ) → (mine.pages q → ⊥) → b.of_heap q ≡ a.of_heap q
   pub pages : (q : ℕ) → (mine.pages q → ⊥) → IsPlain a q → IsSamePage a b q

@@ -46,6 +46,7 @@ Steady_same m a h = record {
   pins_after = h;
   told = refl;
   limit = refl;
+  device_limit = refl;
   pages = λ q _ p. record { taken = refl; of_heap = refl; bytes = refl; next = refl };
   taken = λ q _. refl;
   of_heap = λ q _. refl;
@@ -63,6 +64,7 @@ Steady_then m a b c p r = record {
   pins_after = r.pins_after;
   told = r.told ∙ p.told;
   limit = r.limit ∙ p.limit;
+  device_limit = r.device_limit ∙ p.device_limit;
   pages = λ q n h. IsSamePage_then a b c q (p.pages q n h) (r.pages q n (IsPlain_stays a b q (p.pages q n h) h));
   taken = λ q n. r.taken q n ∙ p.taken q n;
   of_heap = λ q n. r.of_heap q n ∙ p.of_heap q n;
@@ -81,6 +83,7 @@ Steady_wider m w a b pages heaps requests p = record {
   pins_after = p.pins_after;
   told = p.told;
   limit = p.limit;
+  device_limit = p.device_limit;
   pages = λ q n h. p.pages q (λ x. n (pages q x)) h;
   taken = λ q n. p.taken q (λ x. n (pages q x));
   of_heap = λ q n. p.of_heap q (λ x. n (pages q x));
@@ -100,6 +103,7 @@ Steady_refused m a b h e l =
       pins_after = record { none_out = h.none_out; not_pinned = h.not_pinned };
       told = refl;
       limit = refl;
+      device_limit = refl;
       pages = λ q _ p. record { taken = refl; of_heap = refl; bytes = refl; next = refl };
       taken = λ q _. refl;
       of_heap = λ q _. refl;
@@ -171,12 +175,13 @@ none_full a b f n h =
 
 -- Two spaces that agree in each part are one. Whoever implements `Pages` over structures of its own
 -- proves its equations by this.
-pub spaces_agree : (a b : Space) → a.told ≡ b.told → a.limit ≡ b.limit → ((q : ℕ) → a.taken q ≡ b.taken q)
+pub spaces_agree : (a b : Space) → a.told ≡ b.told → a.limit ≡ b.limit → a.device_limit ≡ b.device_limit → ((q : ℕ) → a.taken q ≡ b.taken q)
     → ((q : ℕ) → a.bytes q ≡ b.bytes q) → ((q : ℕ) → a.pinned q ≡ b.pinned q) → a.pins ≡ b.pins
     → ((q : ℕ) → a.next q ≡ b.next q) → ((q : ℕ) → a.of_heap q ≡ b.of_heap q) → a.heaps ≡ b.heaps → a.counts ≡ b.counts → a ≡ b
-spaces_agree a b told limit taken bytes pinned pins next of_heap heaps counts = λ i. record {
+spaces_agree a b told limit device_limit taken bytes pinned pins next of_heap heaps counts = λ i. record {
   told = told i;
   limit = limit i;
+  device_limit = device_limit i;
   taken = λ q. taken q i;
   bytes = λ q. bytes q i;
   pinned = λ q. pinned q i;

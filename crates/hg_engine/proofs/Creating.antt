@@ -7,11 +7,11 @@ use Rattle.std.proofs.lemmas.Option.{slice_get_within, slice_get-get_or, none-so
 use Rattle.std.proofs.lemmas.List.Elements.{All-get_or, All-from_get_or}
 use Rattle.std.proofs.lemmas.List.Sorted.{IsPermutation-refl}
 use Rattle.hg_base.specs.Space.{Space}
+use Rattle.hg_base.specs.Lines.{has_page}
 use Rattle.hg_machine.specs.State.{State, TableState}
 use Rattle.hg_machine.specs.CreateTable.{CreatesTable, with_table, table_made, table_refused}
 use Rattle.hg_machine.specs.Reply.{created, syntax_error}
 use Rattle.hg_model.specs.declared.values.Value.{Value}
-use Rattle.hg_table.specs.Chains.{has_page}
 use Rattle.hg_table.specs.TableLaws.{no_pages, empty_chain, empty_table}
 use Rattle.hg_engine.specs.Named.{IsNamedAt}
 use Rattle.hg_engine.specs.Stepping.{StepsTo, MayCreate}

@@ -4,11 +4,11 @@ use Rattle.std.specs.List.{AllByRecursion}
 use Rattle.std.proofs.Common.{sym, ◌∙◌, ap, subst, refl, append_assoc}
 use Rattle.std.proofs.lemmas.Option.{none-some}
 use Rattle.hg_base.specs.Space.{Space}
+use Rattle.hg_base.specs.Lines.{has_page}
 use Rattle.hg_base.specs.Steadiness.{Steady}
 use Rattle.hg_base.specs.declared.Place.{Place}
 use Rattle.hg_base.specs.declared.Table.{Table}
 use Rattle.hg_model.specs.declared.values.Value.{Value}
-use Rattle.hg_table.specs.Chains.{has_page}
 use Rattle.hg_table.specs.Calls.{none_mine, HasPage, HasStart}
 use Rattle.hg_table.specs.Places.{behind, first_place, version_at, sees}
 use Rattle.hg_table.specs.Versions.{Placed, IsTable, RowVersion}

@@ -6,20 +6,21 @@ use Rattle.std.proofs.lemmas.List.Elements.{All-get_or}
 use Rattle.std.proofs.lemmas.Bool.{false≢true, false_from_ne_true}
 use Rattle.std.proofs.lemmas.Bool.Decides.{nat_tests, eqb_tells}
 use Rattle.std.proofs.lemmas.Option.{none-some}
-use Rattle.hg_base.specs.Space.{Space, NoPins, at, key_in, taken_in, taken_below}
+use Rattle.hg_base.specs.Space.{Space, Counts, NoPins, at, key_in, taken_in, taken_below}
+use Rattle.hg_base.specs.Lines.{NoneMine, has_page, last_of}
 use Rattle.hg_base.specs.Steadiness.{Steady}
-use Rattle.hg_base.specs.SteadyLaws.{Steady_same, Steady_then, Steady_wider}
+use Rattle.hg_base.specs.SteadyLaws.{Steady_same, Steady_then, Steady_wider, main_failed, temp_failed}
 use Rattle.hg_base.specs.TakenLaws.{AreDistinctPages, taken_below-new}
 use Rattle.hg_base.specs.declared.File.TheVariants.{Main}
 use Rattle.hg_base.specs.declared.Place.{Place}
 use Rattle.hg_base.specs.declared.Table.{Table}
 use Rattle.hg_model.specs.declared.values.Value.{Value}
-use Rattle.hg_table.specs.Chains.{IsChain, has_page, last_of}
-use Rattle.hg_base.specs.Causes.{Later}
+use Rattle.hg_table.specs.Chains.{IsChain}
+use Rattle.hg_base.specs.Causes.{Later, HasCause, one_more}
 use Rattle.hg_base.specs.declared.pages.PageFault.{PageFault}
 use Rattle.hg_base.specs.declared.pages.PageFault.TheVariants as fault
 use Rattle.hg_table.specs.Calls.{HasTable, InsertFault, IsNamed, Inserts, newborn, insert_mine, none_mine}
-use Rattle.hg_table.specs.TableLaws.{NoneMine, chain_stays, table_stays}
+use Rattle.hg_table.specs.TableLaws.{chain_stays, table_stays}
 use Rattle.hg_engine.specs.Putting.{Grows, Puts, PutsSome, PutFault, OneMore, CanPut, HaveColumns, table_mine}
 use Rattle.hg_engine.proofs.SeenLaws.{joined-none, joined-one, joined-then}
 
@@ -178,7 +179,7 @@ puts-then a b c old mid new pages stamp columns n rows row place long p o = reco
       (after.versions, after.table, joined-then stamp versions before.0 after.versions rows (row ∷ []) before.2 (joined-one stamp row place before.0 after.versions after.puts));
 }
 
-pub none-mine : (pages : List ℕ) → NoneMine none_mine pages
+pub none-mine : (pages : List ℕ) → NoneMine Main none_mine pages
 none-mine [] = tt
 none-mine (x ∷ xs) = (λ no. no, none-mine xs)
 
@@ -211,26 +212,29 @@ full-count taken (suc n) all =
     ap (λ b. (if b then 1 else 0) + taken_below taken Main n) (all n (omega arith)) ∙ ap (λ k. 1 + k) (full-count taken n (λ m h. all m (omega arith))) ∙ omega arith
 
 put-fault : (a b c : Space) (n m : ℕ) (f : PageFault) → b.told ≡ a.told → b.limit Main ≡ a.limit Main → Later a.counts b.counts
-    → taken_in b Main ≤ taken_in a Main + m → m < n → InsertFault b c f → PutFault a c n f
-put-fault a b c n m fault.MainFault told limit later few less h = (let seen = h.0.0 in omega arith, let own = h.0.1 in omega arith)
-put-fault a b c n m fault.TempFault told limit later few less h = (let seen = h.0.0 in omega arith, let own = h.0.1 in omega arith)
-put-fault a b c n m fault.MainFull told limit later few less h =
-    let all : taken_in b Main ≡ b.limit Main = full-count b.taken (b.limit Main) h.0 in
-    (omega arith, let rose = h.1 in omega arith)
-put-fault a b c n m fault.TempFull told limit later few less h = h
-put-fault a b c n m (fault.Damaged page check) told limit later few less h = sym told ∙ h.0
+    → taken_in b Main ≤ taken_in a Main + m → m < n → InsertFault b f → HasCause b c (Some f) → PutFault a c n f
+put-fault a b c n m fault.MainFault told limit later few less h k =
+    let failed = main_failed b c k in (let seen = failed.0 in let was = later.main in omega arith, let own = failed.1 in let was = later.main_device in omega arith)
+put-fault a b c n m fault.TempFault told limit later few less h k =
+    let failed = temp_failed b c k in (let seen = failed.0 in let was = later.temp in omega arith, let own = failed.1 in let was = later.temp_device in omega arith)
+put-fault a b c n m fault.MainFull told limit later few less h k =
+    let all : taken_in b Main ≡ b.limit Main = full-count b.taken (b.limit Main) h in
+    let rose : c.counts.main_full ≡ one_more b.counts.main_full = ap (λ (w : Counts). w.main_full) k.counts in
+    (omega arith, let was = later.main_full in omega arith)
+put-fault a b c n m fault.TempFull told limit later few less h k = h
+put-fault a b c n m (fault.Damaged page check) told limit later few less h k = sym told ∙ k.damage
 
 -- an insertion that failed leaves what was put before it
 pub puts-failed : (a b c : Space) (old mid : Table) (pages : List ℕ) (stamp columns : ℕ) (done rows : List (List Value)) (f : PageFault)
-    → Puts a b old mid pages stamp columns done → length done < length rows → Steady none_mine b c → c.taken ≡ b.taken → InsertFault b c f
-    → PutsSome a c old mid pages stamp columns rows f
-puts-failed a b c old mid pages stamp columns done rows f p less steady taken h =
+    → Puts a b old mid pages stamp columns done → length done < length rows → Steady none_mine b c → c.taken ≡ b.taken → InsertFault b f
+    → HasCause b c (Some f) → PutsSome a c old mid pages stamp columns rows f
+puts-failed a b c old mid pages stamp columns done rows f p less steady taken h k =
     let g = p.grows in
     record {
       done = done;
       puts = puts-still a b c old mid pages stamp columns done p steady taken;
       few = omega arith;
-      cause = put-fault a b c (length rows) (length done) f g.steady.told (ap (λ l. l Main) g.steady.limit) g.steady.counts g.few less h;
+      cause = put-fault a b c (length rows) (length done) f g.steady.told (ap (λ l. l Main) g.steady.limit) g.steady.counts g.few less h k;
     }
 
 -- Where a loop over rows stands: the first of them were put.

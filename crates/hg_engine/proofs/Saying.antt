@@ -36,10 +36,10 @@ tells-one old new line empty clean text errors = record {
 }
 
 pub same-space : (m : Mine) (a b : Space) → Steady m a b → IsSameSpace a b
-same-space m a b s = record { told = s.told; limit = s.limit; pins = s.pins_after; later = s.counts }
+same-space m a b s = record { told = s.told; limit = s.limit; device_limit = s.device_limit; pins = s.pins_after; later = s.counts }
 
 pub same-here : (a : Space) → NoPins a → IsSameSpace a a
-same-here a pins = record { told = refl; limit = refl; pins = pins; later = Later_same a.counts }
+same-here a pins = record { told = refl; limit = refl; device_limit = refl; pins = pins; later = Later_same a.counts }
 
 not-full : (m n : ℕ) (line : Line) → is_main_full line ≡ false → FullOnlyWhereFull m n (line ∷ [])
 not-full m n line none = record { rose = λ yes. absurd (false≢true (sym (ap (λ b. b || false) none) ∙ yes)) }

@@ -16,12 +16,11 @@ use Rattle.hg_engine.specs.Scanning.{Position, IsScan, Passes, Finds, ScanFault}
 use Rattle.hg_engine.proofs.SeenLaws.{seen_rows-cons}
 
 pub TakesNone_same : (a : Space) → TakesNone a a
-TakesNone_same a = record { taken = refl; none_full = record { main_full = refl; temp_full = refl } }
+TakesNone_same a = record { taken = refl }
 
 pub TakesNone_then : (a b c : Space) → TakesNone a b → TakesNone b c → TakesNone a c
 TakesNone_then a b c p q = record {
   taken = q.taken ∙ p.taken;
-  none_full = record { main_full = q.none_full.main_full ∙ p.none_full.main_full; temp_full = q.none_full.temp_full ∙ p.none_full.temp_full };
 }
 
 -- where a scan is that began with these versions before it

@@ -9,14 +9,15 @@ use Rattle.std.proofs.lemmas.Grind.{common_steps}
 use Rattle.std.proofs.lemmas.Option.{slice_get_within, slice_get-get_or}
 use Rattle.std.proofs.lemmas.List.Sorted.{IsPermutation-trans, IsPermutation-sym, IsPermutation-append_left}
 use Rattle.hg_base.specs.Space.{Space, key_in}
+use Rattle.hg_base.specs.Lines.{NoneMine, has_page}
 use Rattle.hg_base.specs.declared.File.TheVariants.{Main}
 use Rattle.hg_base.specs.declared.Table.{Table}
 use Rattle.hg_model.specs.declared.values.Value.{Value}
 use Rattle.hg_machine.specs.State.{TableState}
 use Rattle.hg_table.specs.Marks.{last, committed}
-use Rattle.hg_table.specs.Chains.{IsChain, has_page}
+use Rattle.hg_table.specs.Chains.{IsChain}
 use Rattle.hg_table.specs.Calls.{IsNamed}
-use Rattle.hg_table.specs.TableLaws.{NoneMine, chain_stays, table_stays}
+use Rattle.hg_table.specs.TableLaws.{chain_stays, table_stays}
 use Rattle.hg_engine.specs.Seen.{seen_rows}
 use Rattle.hg_engine.specs.Putting.{Grows, Puts, table_mine}
 use Rattle.hg_engine.specs.Standing.{HasRows, TableStands, TablesStand}
@@ -54,7 +55,7 @@ pub other-stands : (a b : Space) (old new : List Bool) (e : Entry) (t : TableSta
     → ((x : ℕ) → has_page other x ≡ true → has_page mine x ≡ true → ⊥)
     → TableStands a old e t other → TableStands b new e t other
 other-stands a b old new e t mine other from to now n later chain g apart stands =
-    let none : NoneMine (table_mine a from) other =
+    let none : NoneMine Main (table_mine a from) other =
     all-pages (λ x. (table_mine a from).pages (key_in Main x) → ⊥) other (λ x h m. elim m [
       | inl named ↦ apart x h (last-among mine x (sym chain.last ∙ named-key from.last x named))
       | inr free ↦ false≢true (sym free ∙ (among-taken a.taken (a.limit Main) other x stands.chain.line.taken h).1)

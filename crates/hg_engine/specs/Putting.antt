@@ -4,6 +4,7 @@ use Rattle.std.specs.Prelude.{◌≡◌, ℕ, ◌+◌, ◌<◌, ◌≤◌, ◌�
 use Rattle.std.specs.List.{AllByRecursion}
 use Rattle.std.specs.List.Sorted.{IsPermutation}
 use Rattle.hg_base.specs.Space.{Space, key_in, taken_in}
+use Rattle.hg_base.specs.Lines.{has_page}
 use Rattle.hg_base.specs.Causes.{Rose, MainFailed, TempFailed}
 use Rattle.hg_base.specs.Steadiness.{Mine, Steady, these_pages}
 use Rattle.hg_base.specs.declared.File.TheVariants.{Main}
@@ -11,7 +12,7 @@ use Rattle.hg_base.specs.declared.Table.{Table}
 use Rattle.hg_base.specs.declared.pages.PageFault.{PageFault}
 use Rattle.hg_base.specs.declared.pages.PageFault.TheVariants as fault
 use Rattle.hg_model.specs.declared.values.Value.{Value}
-use Rattle.hg_table.specs.Chains.{IsChain, has_page}
+use Rattle.hg_table.specs.Chains.{IsChain}
 use Rattle.hg_table.specs.Versions.{Placed, IsTable}
 use Rattle.hg_base.specs.declared.Place.{Place}
 use Rattle.hg_table.specs.Calls.{IsNamed, Inserts, KeepsPages, AddsPage, insert_mine, newborn}

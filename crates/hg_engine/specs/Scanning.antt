@@ -1,13 +1,13 @@
 -- Where a scan of a table stands, and what a look for the next row finds. Our own rule.
 use Rattle.std.specs.Prelude.{◌≡◌, ℕ, ◌<◌, Bool, true, false, List, [], ◌∷◌, ◌++◌, length, Option, Some, IsTrue, MatchOption, ⊤}
 use Rattle.hg_base.specs.Space.{Space}
+use Rattle.hg_base.specs.Lines.{has_page}
 use Rattle.hg_base.specs.declared.Place.{Place}
 use Rattle.hg_base.specs.declared.Table.{Table}
 use Rattle.hg_base.specs.declared.pages.PageFault.{PageFault}
 use Rattle.hg_base.specs.declared.pages.PageFault.TheVariants as fault
 use Rattle.hg_base.specs.Causes.{MainFailed, TempFailed}
 use Rattle.hg_model.specs.declared.values.Value.{Value}
-use Rattle.hg_table.specs.Chains.{has_page}
 use Rattle.hg_table.specs.Versions.{Placed, IsTable}
 use Rattle.hg_table.specs.Places.{behind}
 use Rattle.hg_engine.specs.Seen.{is_seen, row_of, seen_rows}

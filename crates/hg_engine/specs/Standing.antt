@@ -5,11 +5,12 @@ use Rattle.std.specs.Prelude.{◌≡◌, ◌≢◌, ℕ, ◌<◌, ⊤, Bool, tru
 use Rattle.std.specs.List.{AllByRecursion}
 use Rattle.std.specs.List.Sorted.{IsPermutation}
 use Rattle.hg_base.specs.Space.{Space, NoPins, taken_in}
+use Rattle.hg_base.specs.Lines.{has_page}
 use Rattle.hg_base.specs.declared.File.TheVariants.{Main}
 use Rattle.hg_model.specs.declared.values.Value.{Value}
 use Rattle.hg_machine.specs.State.{State, TableState}
 use Rattle.hg_table.specs.Marks.{last, committed}
-use Rattle.hg_table.specs.Chains.{IsChain, has_page}
+use Rattle.hg_table.specs.Chains.{IsChain}
 use Rattle.hg_table.specs.Versions.{Placed, IsTable}
 use Rattle.hg_engine.specs.Seen.{seen_rows, IsPast}
 use Rattle.hg_engine.specs.Scanning.{Position}

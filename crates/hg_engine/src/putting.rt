@@ -1,6 +1,7 @@
 //! Rows are put into a table, one version after the other.
 ghost use Rattle.std.specs.Prelude.{◌≡◌, ◌≤◌, ℕ, true, List, length, OnErr, OnOk, IfErr};
 ghost use Rattle.hg_base.specs.Space.{NoPins};
+ghost use Rattle.hg_base.specs.Causes.{HasCause, fault_of};
 ghost use Rattle.hg_base.specs.Steadiness.{Steady};
 ghost use Rattle.hg_base.specs.declared.Place.{Place as PlaceOf};
 ghost use Rattle.hg_value.specs.Coding.{coded};
@@ -30,7 +31,8 @@ fn put_one<S: Pages, D: TableCalls>(
     ensures err { OnErr result (D.ends table.new ≡ D.ends table.old) }
     ensures err_steady { OnErr result (Steady none_mine (S.state space.old) (S.state space.new)) }
     ensures err_taken { OnErr result ((S.state space.new).taken ≡ (S.state space.old).taken) }
-    ensures fault { IfErr result (InsertFault (S.state space.old) (S.state space.new)) }
+    ensures fault { IfErr result (InsertFault (S.state space.old)) }
+    ensures cause { HasCause (S.state space.old) (S.state space.new) (fault_of result) }
 {
     table.insert(space, row, stamp)?;
     Ok(())

@@ -97,6 +97,7 @@ new-shown c d s h =
     let out : (q : ℕ) → is_in v.frame v.place q ≡ false = λ q. ap (is_key_of q) (no-page-in s.frames.items c.pool (v.place q) h.frames) in
     spaces_agree (shown v) (new_space c d) refl
     (λ i. λ file. limits c s file h i)
+    refl
     free
     (λ q. ap (λ t. if t && (v.told || is_pinned v.frame v.place q) then Some (held_in v.frame v.place v.page q) else None) (free q))
     (λ q. ap (λ t. t && (v.frame (v.place q)).pinned) (out q))

@@ -12,7 +12,7 @@ use Rattle.hg_base.specs.declared.PageId.{PageId}
 use Rattle.hg_base.specs.declared.pages.PageFault.{PageFault}
 use Rattle.hg_base.specs.declared.pages.PageFault.TheVariants as fault
 use Rattle.hg_pool.specs.Files.{by_key}
-use Rattle.hg_pool.specs.Disks.{Disks, all_told, page_on, SameShape, SamePages, SameButOne, DeviceCause}
+use Rattle.hg_pool.specs.Disks.{Disks, all_told, page_on, SameShape, same_pages_in, SamePages, SameButOne, DeviceCause}
 use Rattle.hg_pool.specs.Picture.{Picture, picture_of, counts_of, shown, frame_at, place_at, places_in, room_in, taken_at, limit_of, is_in, is_key_of}
 use Rattle.hg_pool.specs.Sound.{IsSound, IsShaped, IsCoherent, AreSound, pinned_in}
 use Rattle.hg_pool.specs.Keeping.{with_place, with_place_in, with_frame, counted, is_inside}
@@ -222,7 +222,7 @@ wrote-not {X} d e s n a f p x h page dirty kept cause later counts =
     let z : Store = record s { counts = n; answers = a } in
     let b : Picture = record (picture_of d s) { page = page_on e; counts = counts_of e z } in
     let keeps : Keeps (picture_of d s) b = write-failed (picture_of d s) f p (page_on e) (counts_of e z) h.coherent page dirty kept.others in
-    let same : picture_of e z ≡ b = λ i. record (picture_of e z) { told = kept.shape.told i } in record {
+    let same : picture_of e z ≡ b = λ i. record (picture_of e z) { told = kept.shape.told i; device_limit = same_pages_in d e kept.shape i } in record {
       whole = keeps-sound d e s z b same keeps kept.shape refl h (shape-kept s z h.shape h.shape.counted h.shape.few refl h.shape.hand (λ m. m) refl h.shape.placed (λ to. refl));
       same = keeps-same d e s z b same keeps;
       later = later-of {X = X} d e s z (Err x) cause later;
@@ -242,6 +242,7 @@ wrote d e s n f p x h there page kept cause put =
     let keeps : Keeps (picture_of d s) b = cleaned (picture_of d s) f p (page_on e) (counts_of e z) h.coherent page put kept.others in
     let same : picture_of e z ≡ b = λ i. record (picture_of e z) {
       told = kept.shape.told i;
+      device_limit = same_pages_in d e kept.shape i;
       frame = frames-set s.frames.items f y there i;
       current = length-set s.frames.items f y i;
     } in record {
@@ -285,6 +286,7 @@ read-not {X} d e s n a f bytes x h there page kept cause later counts =
     let keeps : Keeps (picture_of d s) b = blurred (picture_of d s) f y (page_on e) (counts_of e z) h.coherent page page kept.pages in
     let same : picture_of e z ≡ b = λ i. record (picture_of e z) {
       told = kept.shape.told i;
+      device_limit = same_pages_in d e kept.shape i;
       frame = frames-set s.frames.items f y there i;
       current = length-set s.frames.items f y i;
     } in record {
@@ -312,6 +314,7 @@ read-in d e s n f bytes p x h room kept cause whole gives taken out in_range =
     frames-set s.frames.items f y room.there ∙ ap (λ k. at (frame_at s.frames.items) f (record y { pinned = k })) room.free in
     let same : picture_of e z ≡ b = λ i. record (picture_of e z) {
       told = kept.shape.told i;
+      device_limit = same_pages_in d e kept.shape i;
       frame = frames i;
       place = place-set s.places p f in_range i;
       current = length-set s.frames.items f y i;

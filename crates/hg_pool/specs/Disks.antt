@@ -2,6 +2,7 @@
 use Rattle.std.specs.Prelude.{◌≡◌, ◌≢◌, ℕ, ◌≤◌, ◌&&◌, Bool, true, List, Option, None, Some, Result, IfErr}
 use Rattle.hg_io.specs.declared.device.PageDevice.{Ghosts}
 use Rattle.hg_base.specs.Causes.{PinFault, fault_of}
+use Rattle.hg_base.specs.Changes.{functions_agree}
 use Rattle.hg_io.specs.Count.{raised}
 use Rattle.hg_base.specs.declared.File.{File}
 use Rattle.hg_base.specs.declared.File.TheVariants.{Main, Temp}
@@ -49,6 +50,14 @@ pub record SameShape (a b : Disks) : Type 0 where
   pub told : all_told b ≡ all_told a
   pub main : b.main.pages ≡ a.main.pages
   pub temp : b.temp.pages ≡ a.temp.pages
+
+-- and with them how many pages they have
+pub same_pages_in : (a b : Disks) → SameShape a b → pages_in b ≡ pages_in a
+same_pages_in a b s = functions_agree (pages_in b) (pages_in a) each
+  where
+    each : (file : File) → pages_in b file ≡ pages_in a file
+    each Main = s.main
+    each Temp = s.temp
 
 -- no page of them changed, as far as they tell
 pub record SamePages (a b : Disks) : Type 0 where

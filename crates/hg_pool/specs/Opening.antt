@@ -3,7 +3,7 @@ use Rattle.std.specs.Prelude.{◌≡◌, ℕ, ◌≤◌, false, None, replicate,
 use Rattle.hg_base.specs.Space.{Space, zero_page}
 use Rattle.hg_base.specs.declared.File.{File}
 use Rattle.hg_base.specs.declared.File.TheVariants.{Main, Temp}
-use Rattle.hg_pool.specs.Disks.{Disks, all_told}
+use Rattle.hg_pool.specs.Disks.{Disks, all_told, pages_in}
 use Rattle.hg_pool.specs.Picture.{no_heaps}
 use Rattle.hg_space.specs.Shown.{pages_of}
 use Rattle.hg_space.specs.PageMap as map
@@ -39,6 +39,7 @@ abbrev pub new_space : Config → Disks → Space
 new_space c d = record {
   told = all_told d;
   limit = limit_in c;
+  device_limit = pages_in d;
   taken = λ _. false;
   bytes = λ _. None;
   pinned = λ _. false;

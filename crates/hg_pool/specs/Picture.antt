@@ -8,7 +8,7 @@ use Rattle.hg_base.specs.declared.File.TheVariants.{Main, Temp}
 use Rattle.hg_base.specs.declared.PageId.{PageId}
 use Rattle.hg_space.specs.Shown.{pages_of}
 use Rattle.hg_pool.specs.Files.{by_key}
-use Rattle.hg_pool.specs.Disks.{Disks, all_told, page_on}
+use Rattle.hg_pool.specs.Disks.{Disks, all_told, page_on, pages_in}
 use Rattle.hg_pool.specs.declared.frames.Frame.{Frame}
 use Rattle.hg_pool.specs.declared.places.Places.{Places}
 use Rattle.hg_pool.specs.declared.maps.Maps.{Maps}
@@ -47,6 +47,7 @@ limit_of maps Temp = (pages_of maps.temp).limit
 pub record Picture : Type 0 where
   pub told : Bool
   pub limit : File → ℕ
+  pub device_limit : File → ℕ
   pub taken : ℕ → Bool
   pub next : ℕ → Option ℕ
   pub frame : ℕ → Frame
@@ -86,6 +87,7 @@ abbrev pub shown : Picture → Space
 shown v = record {
   told = v.told;
   limit = v.limit;
+  device_limit = v.device_limit;
   taken = v.taken;
   bytes = bytes_told v;
   pinned = is_pinned v.frame v.place;
@@ -110,6 +112,7 @@ abbrev pub picture_of : Disks → Store → Picture
 picture_of d s = record {
   told = all_told d;
   limit = limit_of s.maps;
+  device_limit = pages_in d;
   taken = taken_at s.maps;
   next = next_at s.maps;
   frame = frame_at s.frames.items;

@@ -19,6 +19,7 @@ pub record SameAt (a b : Picture) (q : ℕ) : Type 0 where
 pub record SameFront (a b : Picture) : Type 0 where
   pub told : b.told ≡ a.told
   pub limit : b.limit ≡ a.limit
+  pub device_limit : b.device_limit ≡ a.device_limit
   pub taken : b.taken ≡ a.taken
   pub next : b.next ≡ a.next
   pub pins : b.pins ≡ a.pins
@@ -45,6 +46,7 @@ pub shown-same : (a b : Picture) → SameFront a b → ((q : ℕ) → SameAt a b
 shown-same a b front h = λ i. record (shown b) {
   told = front.told i;
   limit = front.limit i;
+  device_limit = front.device_limit i;
   taken = front.taken i;
   bytes = λ q. bytes-same a b q front.told (ap (λ t. t q) front.taken) (h q) i;
   pinned = λ q. (h q).pinned i;

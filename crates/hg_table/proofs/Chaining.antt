@@ -1,23 +1,24 @@
 -- A table behind whose last page a page was put.
-use Rattle.std.specs.Prelude.{◌≡◌, ◌≢◌, ℕ, ◌<◌, Bool, true, false, List, [], ◌∷◌, ◌++◌, length, Option, Some, None, is_some, if◌then◌else◌}
+use Rattle.std.specs.Prelude.{◌≡◌, ◌≢◌, ℕ, ◌<◌, true, false, List, [], ◌∷◌, ◌++◌, length, Option, Some, None, is_some, if◌then◌else◌}
 use Rattle.std.specs.List.{AllByRecursion}
 use Rattle.std.proofs.Common.{sym, ◌∙◌, ap, subst, refl, arith, inl, inr}
 use Rattle.std.proofs.lemmas.Bool.{cases_eq, false≢true}
 use Rattle.hg_base.specs.Space.{Space, at, key_in}
-use Rattle.hg_base.specs.TakenLaws.{AreDistinctPages, key_in-one}
+use Rattle.hg_base.specs.LineLaws.{all_both, all_map, all_more, distinct-apart, distinct-same, distinct_more, last_more, last_none, line-plain, path_more}
+use Rattle.hg_base.specs.Lines.{IsPath}
+use Rattle.hg_base.specs.TakenLaws.{key_in-one}
 use Rattle.hg_base.specs.Steadiness.{IsPlain, IsSamePage, Steady}
 use Rattle.hg_base.specs.declared.File.TheVariants.{Main}
 use Rattle.hg_base.specs.declared.Place.{Place}
 use Rattle.hg_base.specs.declared.Table.{Table}
 use Rattle.hg_model.specs.declared.values.Value.{Value}
 use Rattle.hg_slot.specs.Slotted.{record_at}
-use Rattle.hg_table.specs.Chains.{IsPath, IsChain, last_of}
+use Rattle.hg_table.specs.Chains.{IsChain}
 use Rattle.hg_table.specs.Versions.{Placed, RowVersion, HoldsVersions, IsStored, IsTable, Shows, in_pages, most_slots}
 use Rattle.hg_table.specs.Calls.{insert_mine, Inserts, IsTableWith, newborn, PutsIn}
 use Rattle.hg_table.specs.Steps.{Changes, HoldsRecord, AddsRecord, LeadsTo, first_with}
-use Rattle.hg_table.specs.Listing.{AreApart, put}
+use Rattle.hg_table.specs.Listing.{put}
 use Rattle.hg_table.specs.Altering.{with_new, none_held, at_here, at_other, pages_new}
-use Rattle.hg_table.specs.TableLaws.{line-plain, all_map, all_both, distinct-apart}
 use Rattle.hg_table.proofs.Seeing.{slot_small}
 
 -- What is known of a page of the table once one was put behind the last.
@@ -65,47 +66,6 @@ kept_page a b (Some k) x y s free e l p = elim (cases_eq k y) [
     some_same : (i j : ℕ) → ◌≡◌ {A = Option ℕ} (Some i) (Some j) → i ≡ j
     some_same i j e = cc
 
--- a page more at the end of the lists
-all_more : (P : ℕ → Type 0) (xs : List ℕ) (x : ℕ) → AllByRecursion P xs → P x → AllByRecursion P (xs ++ x ∷ [])
-all_more P [] x h p = (p, tt)
-all_more P (y ∷ xs) x h p = (h.0, all_more P xs x h.1 p)
-
-distinct_more : (taken : ℕ → Bool) (n : ℕ) (xs : List ℕ) (x : ℕ) → AreDistinctPages taken Main n xs → AllByRecursion (λ y. y ≢ x) xs → x < n → taken (key_in Main x) ≡ true
-    → AreDistinctPages taken Main n (xs ++ x ∷ [])
-distinct_more taken n [] x d apart l t = (l, t, tt, tt)
-distinct_more taken n (y ∷ xs) x d apart l t = (d.0, d.1, all_more (λ z. z ≢ y) xs x d.2 (λ e. apart.0 (sym e)), distinct_more taken n xs x d.3 apart.1 l t)
-
-distinct_as : (f g : ℕ → Bool) (m n : ℕ) (xs : List ℕ) → m ≡ n → AllByRecursion (λ x. g (key_in Main x) ≡ f (key_in Main x)) xs
-    → AreDistinctPages f Main m xs → AreDistinctPages g Main n xs
-distinct_as f g m n [] e h d = tt
-distinct_as f g m n (x ∷ xs) e h d = (let l : x < m = d.0 in omega arith, h.0 ∙ d.1, d.2, distinct_as f g m n xs e h.1 d.3)
-
-last_known : (P : ℕ → Type 0) (xs : List ℕ) (l : ℕ) → AllByRecursion P xs → last_of xs ≡ Some l → P l
-last_known P [] l h e = absurd (let n : ◌≡◌ {A = Option ℕ} None (Some l) = e in cc)
-last_known P (y ∷ []) l h e = let i : y ≡ l = (let n : ◌≡◌ {A = Option ℕ} (Some y) (Some l) = e in cc) in subst P i h.0
-last_known P (y ∷ z ∷ xs) l h e = last_known P (z ∷ xs) l h.1 e
-
-last_more : (xs : List ℕ) (x : ℕ) → last_of (xs ++ x ∷ []) ≡ Some x
-last_more [] x = refl
-last_more (y ∷ []) x = refl
-last_more (y ∷ z ∷ xs) x = last_more (z ∷ xs) x
-
-last_none : (xs : List ℕ) → last_of xs ≡ None → xs ≡ []
-last_none [] e = refl
-last_none (y ∷ []) e = absurd (let n : ◌≡◌ {A = Option ℕ} (Some y) None = e in cc)
-last_none (y ∷ z ∷ xs) e = absurd (let n : ◌≡◌ {A = List ℕ} (z ∷ xs) [] = last_none (z ∷ xs) e in cc)
-
-path_more : (f g : ℕ → Option ℕ) (from : Option ℕ) (xs : List ℕ) (x l : ℕ) → IsPath f from xs → last_of xs ≡ Some l → AreApart xs
-    → AllByRecursion (λ y. y ≢ l → g (key_in Main y) ≡ f (key_in Main y)) xs → g (key_in Main l) ≡ Some x → g (key_in Main x) ≡ None
-    → IsPath g from (xs ++ x ∷ [])
-path_more f g from [] x l p e d h gl gx = absurd (let n : ◌≡◌ {A = Option ℕ} None (Some l) = e in cc)
-path_more f g from (y ∷ []) x l p e d h gl gx =
-    let i : y ≡ l = (let n : ◌≡◌ {A = Option ℕ} (Some y) (Some l) = e in cc) in
-    (p.0, (ap (λ z. g (key_in Main z)) i ∙ gl, gx))
-path_more f g from (y ∷ z ∷ xs) x l p e d h gl gx =
-    let n : l ≢ y = last_known (λ w. w ≢ y) (z ∷ xs) l d.0 e in
-    (p.0, subst (λ o. IsPath g o (z ∷ xs ++ x ∷ [])) (sym (h.0 (λ q. n (sym q)))) (path_more f g (f (key_in Main y)) (z ∷ xs) x l p.1 e d.1 h.1 gl gx))
-
 -- the pages of the table and the new one
 abbrev pub KeptPages : Space → Space → Option ℕ → ℕ → List ℕ → Type 0
 KeptPages a b last x pages = AllByRecursion (IsKept a b last x) pages
@@ -114,19 +74,19 @@ pub kept_pages : (a b : Space) (old new : Table) (r : List ℕ) (place : Place) 
     → KeptPages a b old.last place.page pages
 kept_pages a b old new r place pages h chain =
     all_map (λ y. IsPlain a (key_in Main y)) (IsKept a b old.last place.page) pages
-    (λ y p. kept_page a b old.last place.page y h.steady h.not_taken h.taken h.linked p) (line-plain a old.first pages chain.line)
+    (λ y p. kept_page a b old.last place.page y h.steady h.not_taken h.taken h.linked p) (line-plain Main a old.first pages chain.line)
 
 -- where the path goes on
-from_here : (g : ℕ → Option ℕ) (first : Option ℕ) (xs : List ℕ) (x : ℕ) → xs ≡ [] → first ≡ Some x → g (key_in Main x) ≡ None → IsPath g first (xs ++ x ∷ [])
-from_here g first xs x e f n = subst (λ ys. IsPath g first (ys ++ x ∷ [])) (sym e) (f, n)
+from_here : (g : ℕ → Option ℕ) (first : Option ℕ) (xs : List ℕ) (x : ℕ) → xs ≡ [] → first ≡ Some x → g (key_in Main x) ≡ None → IsPath Main g first (xs ++ x ∷ [])
+from_here g first xs x e f n = subst (λ ys. IsPath Main g first (ys ++ x ∷ [])) (sym e) (f, n)
 
 path_with : (a b : Space) (old new : Table) (pages : List ℕ) (x : ℕ) (last : Option ℕ) → old.last ≡ last → IsChain a old pages → KeptPages a b last x pages
-    → LeadsTo a b last x → new.first ≡ first_with old x → b.next (key_in Main x) ≡ None → IsPath b.next new.first (pages ++ x ∷ [])
+    → LeadsTo a b last x → new.first ≡ first_with old x → b.next (key_in Main x) ≡ None → IsPath Main b.next new.first (pages ++ x ∷ [])
 path_with a b old new pages x None e chain kept l first none =
     from_here b.next new.first pages x (last_none pages (sym chain.last ∙ e)) (first ∙ ap (λ (o : Option ℕ). if is_some o then old.first else Some x) e) none
 path_with a b old new pages x (Some k) e chain kept l first none =
-    subst (λ o. IsPath b.next o (pages ++ x ∷ [])) (sym (first ∙ ap (λ (o : Option ℕ). if is_some o then old.first else Some x) e))
-    (path_more a.next b.next old.first pages x k chain.line.path (sym chain.last ∙ e) (distinct-apart a.taken (a.limit Main) pages chain.line.taken)
+    subst (λ o. IsPath Main b.next o (pages ++ x ∷ [])) (sym (first ∙ ap (λ (o : Option ℕ). if is_some o then old.first else Some x) e))
+    (path_more Main a.next b.next old.first pages x k chain.line.path (sym chain.last ∙ e) (distinct-apart Main a.taken (a.limit Main) pages chain.line.taken)
     (all_map (IsKept a b (Some k) x) (λ y. y ≢ k → b.next (key_in Main y) ≡ a.next (key_in Main y)) pages (λ y q n. q.next (λ i. n (sym (some_one k y i)))) kept) l.next none)
   where
     some_one : (i j : ℕ) → ◌≡◌ {A = Option ℕ} (Some i) (Some j) → i ≡ j
@@ -140,8 +100,8 @@ chain_with a b old new r place pages h chain =
     let limit : a.limit Main ≡ b.limit Main = sym (ap (λ f. f Main) h.steady.limit) in
     record {
       line = record {
-        taken = distinct_more b.taken (b.limit Main) pages x
-            (distinct_as a.taken b.taken (a.limit Main) (b.limit Main) pages limit
+        taken = distinct_more Main b.taken (b.limit Main) pages x
+            (distinct-same Main a.taken b.taken (a.limit Main) (b.limit Main) pages limit
             (all_map (IsKept a b old.last x) (λ y. b.taken (key_in Main y) ≡ a.taken (key_in Main y)) pages (λ y k. k.taken) kept) chain.line.taken)
             (all_map (IsKept a b old.last x) (λ y. y ≢ x) pages (λ y k. k.apart) kept)
             (let l = h.below_limit in omega arith)

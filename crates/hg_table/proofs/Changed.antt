@@ -3,16 +3,17 @@ use Rattle.std.specs.Prelude.{◌≡◌, ◌≢◌, ℕ, List, Option}
 use Rattle.std.proofs.Common.{sym, ◌∙◌, ap, subst, refl, inl, inr}
 use Rattle.std.proofs.lemmas.Bool.{cases_eq}
 use Rattle.hg_base.specs.Space.{Space, at, key_in}
+use Rattle.hg_base.specs.LineLaws.{IsSameLink, all_both, all_map, line-plain, line_stays}
+use Rattle.hg_base.specs.Lines.{IsLine}
 use Rattle.hg_base.specs.TakenLaws.{key_in-one}
 use Rattle.hg_base.specs.Steadiness.{IsPlain, IsSamePage}
 use Rattle.hg_base.specs.declared.File.TheVariants.{Main}
 use Rattle.hg_base.specs.declared.Table.{Table}
 use Rattle.hg_slot.specs.Slotted.{record_at, IsSlotted, IsClean}
-use Rattle.hg_table.specs.Chains.{IsLine, IsChain}
+use Rattle.hg_table.specs.Chains.{IsChain}
 use Rattle.hg_table.specs.Versions.{Placed, RowVersion, HoldsVersions, IsTable, Shows, in_pages}
 use Rattle.hg_table.specs.Steps.{ChangesPage, Changes}
 use Rattle.hg_table.specs.Altering.{with_slot, at_other, slot_here, slot_beside}
-use Rattle.hg_table.specs.TableLaws.{IsSameLink, line_stays, line-plain, all_map, all_both}
 
 -- every page is linked as before
 pub changed_link : (a b : Space) (x y : ℕ) (P : List ℕ → List ℕ → Type 0) → ChangesPage a b x P → IsPlain a (key_in Main y) → IsSameLink a b (key_in Main y)
@@ -27,10 +28,10 @@ changed_link a b x y P c plain = elim (cases_eq y x) [
       record { taken = s.taken; of_heap = s.of_heap; next = s.next }
 ]
 
-pub changed_line : (a b : Space) (from : Option ℕ) (xs : List ℕ) (x : ℕ) (P : List ℕ → List ℕ → Type 0) → ChangesPage a b x P → IsLine a from xs → IsLine b from xs
+pub changed_line : (a b : Space) (from : Option ℕ) (xs : List ℕ) (x : ℕ) (P : List ℕ → List ℕ → Type 0) → ChangesPage a b x P → IsLine Main a from xs → IsLine Main b from xs
 changed_line a b from xs x P c l =
-    line_stays a b from xs c.steady.limit
-    (all_map (λ y. IsPlain a (key_in Main y)) (λ y. IsSameLink a b (key_in Main y)) xs (λ y p. changed_link a b x y P c p) (line-plain a from xs l)) l
+    line_stays Main a b from xs c.steady.limit
+    (all_map (λ y. IsPlain a (key_in Main y)) (λ y. IsSameLink a b (key_in Main y)) xs (λ y p. changed_link a b x y P c p) (line-plain Main a from xs l)) l
 
 pub changed_chain : (a b : Space) (t : Table) (pages : List ℕ) (x : ℕ) (P : List ℕ → List ℕ → Type 0) → ChangesPage a b x P → IsChain a t pages → IsChain b t pages
 changed_chain a b t pages x P c h = record { line = changed_line a b t.first pages x P c h.line; last = h.last }
@@ -88,6 +89,6 @@ changed_table a b t columns x j o pages versions new P c f table e = record {
   chain = changed_chain a b t pages x P c table.chain;
   held = with_slot table.held x j o;
   holds = all_both (λ y. IsPlain a (key_in Main y)) (λ y. HoldsVersions a columns y (table.held y)) (λ y. HoldsVersions b columns y (with_slot table.held x j o y)) pages
-      (λ y p h. changed_holds a b columns x y j o table.held P c f p h) (line-plain a t.first pages table.chain.line) table.holds;
+      (λ y p h. changed_holds a b columns x y j o table.held P c f p h) (line-plain Main a t.first pages table.chain.line) table.holds;
   listed = e;
 }

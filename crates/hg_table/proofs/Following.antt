@@ -1,24 +1,24 @@
 -- The versions behind a place of a table.
-use Rattle.std.specs.Prelude.{◌≡◌, ℕ, ◌+◌, ◌-◌, ◌<◌, ◌≤◌, ◌==◌, suc, Bool, true, false, List, [], ◌∷◌, ◌++◌, Option, Some, None, if◌then◌else◌}
+use Rattle.std.specs.Prelude.{◌≡◌, ℕ, ◌+◌, ◌-◌, ◌<◌, ◌≤◌, suc, true, List, [], ◌++◌, Option, Some, None}
 use Rattle.std.specs.List.{AllByRecursion, filter}
 use Rattle.std.proofs.Common.{sym, ◌∙◌, ap, subst, arith, inl, inr}
-use Rattle.std.proofs.lemmas.Bool.{cases_lt, false≢true, eq-eqb, ne_eqb}
+use Rattle.std.proofs.lemmas.Bool.{cases_lt}
 use Rattle.hg_base.specs.Space.{Space, NoPins, key_in}
-use Rattle.hg_base.specs.TakenLaws.{AreDistinctPages}
+use Rattle.hg_base.specs.LineLaws.{IsSameLink, all_has, all_map, behind_all, distinct-apart, line-plain, line_behind, line_free, line_stays}
+use Rattle.hg_base.specs.Lines.{IsLine, has_page, pages_behind}
 use Rattle.hg_base.specs.Steadiness.{IsPlain, IsSamePage}
 use Rattle.hg_base.specs.declared.File.TheVariants.{Main}
 use Rattle.hg_base.specs.declared.Place.{Place}
 use Rattle.hg_base.specs.declared.Table.{Table}
 use Rattle.hg_slot.specs.Slotted.{record_at}
-use Rattle.hg_table.specs.Chains.{IsLine, IsChain, IsPath, has_page}
+use Rattle.hg_table.specs.Chains.{IsChain}
 use Rattle.hg_table.specs.Versions.{Placed, HoldsVersions, IsTable, in_pages, most_slots}
-use Rattle.hg_table.specs.Places.{behind, pages_behind, comes_behind, first_place}
+use Rattle.hg_table.specs.Places.{behind, comes_behind, first_place}
 use Rattle.hg_table.specs.Calls.{HasStart, StandsOn}
 use Rattle.hg_table.specs.Steps.{Looks, HoldsLine, IsSound, IsFirstFull}
-use Rattle.hg_table.specs.Listing.{has_own, has_cases, pages_after, slots_after, slots_after-is, slots_after-none, behind_all}
-use Rattle.hg_table.specs.TableLaws.{IsSameLink, line_stays, line-plain, all_map, distinct-apart, holds_stay, one_chain}
+use Rattle.hg_table.specs.Listing.{has_own, pages_after, slots_after, slots_after-is, slots_after-none}
+use Rattle.hg_table.specs.TableLaws.{holds_stay, one_chain}
 use Rattle.hg_table.proofs.Seeing.{slot_small}
-use Rattle.hg_table.proofs.Places.{all_has, line-free}
 use Rattle.hg_table.proofs.Walking.{looks_page, first_held, none_held}
 
 -- the pages of a table as a line
@@ -35,62 +35,40 @@ table_line s t columns pages versions table = record {
 pub start_line : (s : Space) (t : Table) (start : Option Place) → HasStart s t start → HoldsLine s t.first
 start_line s t start h = table_line s t h.columns h.pages h.versions h.table
 
--- the pages behind one of a line
-distinct_behind : (taken : ℕ → Bool) (n : ℕ) (xs : List ℕ) (x : ℕ) → AreDistinctPages taken Main n xs → AreDistinctPages taken Main n (pages_behind xs x)
-distinct_behind taken n [] x d = tt
-distinct_behind taken n (y ∷ xs) x d =
-    elim (y == x) as (λ b. AreDistinctPages taken Main n (if b then xs else pages_behind xs x)) [ true ↦ d.3 | false ↦ distinct_behind taken n xs x d.3 ]
-
-path_behind : (next : ℕ → Option ℕ) (from : Option ℕ) (xs : List ℕ) (x : ℕ) → has_page xs x ≡ true → IsPath next from xs → IsPath next (next (key_in Main x)) (pages_behind xs x)
-path_behind next from [] x h p = absurd (false≢true h)
-path_behind next from (y ∷ xs) x h p =
-    has_cases y x xs (IsPath next (next (key_in Main x)) (pages_behind (y ∷ xs) x)) h
-    (λ e. subst (IsPath next (next (key_in Main x))) (sym (ap (λ b. if b then xs else pages_behind xs x) (eq-eqb y x e)))
-    (subst (λ z. IsPath next (next (key_in Main z)) xs) e p.1))
-    (λ n m. subst (IsPath next (next (key_in Main x))) (sym (ap (λ b. if b then xs else pages_behind xs x) (ne_eqb y x n)))
-    (path_behind next (next (key_in Main y)) xs x m p.1))
-
-pub line_behind : (s : Space) (from : Option ℕ) (xs : List ℕ) (x : ℕ) → has_page xs x ≡ true → IsLine s from xs → IsLine s (s.next (key_in Main x)) (pages_behind xs x)
-line_behind s from xs x h l = record {
-  taken = distinct_behind s.taken (s.limit Main) xs x l.taken;
-  no_heap = behind_all (λ y. s.of_heap (key_in Main y) ≡ false) xs x l.no_heap;
-  path = path_behind s.next from xs x h l.path;
-}
-
-pub looks_all : (a b : Space) (from : Option ℕ) (xs : List ℕ) → Looks a b → IsLine a from xs → AllByRecursion (λ x. IsSamePage a b (key_in Main x)) xs
-looks_all a b from xs k l = all_map (λ x. IsPlain a (key_in Main x)) (λ x. IsSamePage a b (key_in Main x)) xs (λ x p. looks_page a b x k p) (line-plain a from xs l)
+pub looks_all : (a b : Space) (from : Option ℕ) (xs : List ℕ) → Looks a b → IsLine Main a from xs → AllByRecursion (λ x. IsSamePage a b (key_in Main x)) xs
+looks_all a b from xs k l = all_map (λ x. IsPlain a (key_in Main x)) (λ x. IsSamePage a b (key_in Main x)) xs (λ x p. looks_page a b x k p) (line-plain Main a from xs l)
 
 -- what was a line is one behind a look
-pub line_now : (a b : Space) (from : Option ℕ) (xs : List ℕ) → Looks a b → IsLine a from xs → IsLine b from xs
+pub line_now : (a b : Space) (from : Option ℕ) (xs : List ℕ) → Looks a b → IsLine Main a from xs → IsLine Main b from xs
 line_now a b from xs k l =
-    line_stays a b from xs k.steady.limit
+    line_stays Main a b from xs k.steady.limit
     (all_map (λ x. IsSamePage a b (key_in Main x)) (λ x. IsSameLink a b (key_in Main x)) xs (λ x s. record { taken = s.taken; of_heap = s.of_heap; next = s.next }) (looks_all a b from xs k l)) l
 
 -- the rest of a table behind one of its pages
 abbrev pub rest_line : (a b : Space) (t : Table) (columns : ℕ) (pages : List ℕ) (versions : List Placed) (x : ℕ) (next : Option ℕ) → Looks a b
     → IsTable a t columns pages versions → has_page pages x ≡ true → next ≡ b.next (key_in Main x) → HoldsLine b next
 rest_line a b t columns pages versions x next k table on e =
-    let plain : IsPlain a (key_in Main x) = all_has (λ y. IsPlain a (key_in Main y)) pages x (line-plain a t.first pages table.chain.line) on in
-    let l : IsLine a (a.next (key_in Main x)) (pages_behind pages x) = line_behind a t.first pages x on table.chain.line in
+    let plain : IsPlain a (key_in Main x) = all_has (λ y. IsPlain a (key_in Main y)) pages x (line-plain Main a t.first pages table.chain.line) on in
+    let l : IsLine Main a (a.next (key_in Main x)) (pages_behind pages x) = line_behind Main a t.first pages x on table.chain.line in
     let same : a.next (key_in Main x) ≡ next = sym (e ∙ (looks_page a b x k plain).next) in
     record {
       columns = columns;
       pages = pages_behind pages x;
       held = table.held;
       told = k.steady.told ∙ table.told;
-      line = subst (λ o. IsLine b o (pages_behind pages x)) same (line_now a b (a.next (key_in Main x)) (pages_behind pages x) k l);
+      line = subst (λ o. IsLine Main b o (pages_behind pages x)) same (line_now a b (a.next (key_in Main x)) (pages_behind pages x) k l);
       holds = holds_stay a b columns table.held (pages_behind pages x) (looks_all a b (a.next (key_in Main x)) (pages_behind pages x) k l)
           (behind_all (λ y. HoldsVersions a columns y (table.held y)) pages x table.holds);
     }
 
 -- the pages behind one of a table's, whatever they hold
 pub line_rest : (a b : Space) (t : Table) (pages : List ℕ) (x : ℕ) (next : Option ℕ) → Looks a b → IsChain a t pages → has_page pages x ≡ true
-    → next ≡ b.next (key_in Main x) → IsLine b next (pages_behind pages x)
+    → next ≡ b.next (key_in Main x) → IsLine Main b next (pages_behind pages x)
 line_rest a b t pages x next k chain on e =
-    let plain : IsPlain a (key_in Main x) = all_has (λ y. IsPlain a (key_in Main y)) pages x (line-plain a t.first pages chain.line) on in
+    let plain : IsPlain a (key_in Main x) = all_has (λ y. IsPlain a (key_in Main y)) pages x (line-plain Main a t.first pages chain.line) on in
     let same : a.next (key_in Main x) ≡ next = sym (e ∙ (looks_page a b x k plain).next) in
-    subst (λ o. IsLine b o (pages_behind pages x)) same
-    (line_now a b (a.next (key_in Main x)) (pages_behind pages x) k (line_behind a t.first pages x on chain.line))
+    subst (λ o. IsLine Main b o (pages_behind pages x)) same
+    (line_now a b (a.next (key_in Main x)) (pages_behind pages x) k (line_behind Main a t.first pages x on chain.line))
 
 -- what is on a page behind one is on one of all
 pub stands_behind : (pages : List ℕ) (x : ℕ) (o : Option Place) → StandsOn (pages_behind pages x) o → StandsOn pages o
@@ -101,7 +79,7 @@ stands_behind pages x (Some p) h = all_has (λ y. has_page pages y ≡ true) (pa
 pub place_sound : (a : Space) (t : Table) (p : Place) → NoPins a → HasStart a t (Some p) → IsSound a p.page
 place_sound a t p out h =
     let holds : HoldsVersions a h.columns p.page (h.table.held p.page) = all_has (λ y. HoldsVersions a h.columns y (h.table.held y)) h.pages p.page h.table.holds h.page in
-    record { free = line-free a t.first h.pages p.page out h.table.chain.line h.page; page = holds.page; told = holds.told; slotted = holds.slotted }
+    record { free = line_free Main a t.first h.pages p.page out h.table.chain.line h.page; page = holds.page; told = holds.told; slotted = holds.slotted }
 
 pub start_on : (a : Space) (t : Table) (columns : ℕ) (pages : List ℕ) (versions : List Placed) (p : Place) → IsTable a t columns pages versions → HasStart a t (Some p)
     → has_page pages p.page ≡ true
@@ -118,7 +96,7 @@ behind_is : (a : Space) (t : Table) (columns : ℕ) (pages : List ℕ) (versions
     → behind pages (Some p) versions ≡ slots_after table.held p ++ in_pages table.held (pages_behind pages p.page)
 behind_is a t columns pages versions p table on =
     ap (filter (comes_behind (pages_behind pages p.page) p)) table.listed
-    ∙ pages_after table.held pages p (distinct-apart a.taken (a.limit Main) pages table.chain.line.taken) on
+    ∙ pages_after table.held pages p (distinct-apart Main a.taken (a.limit Main) pages table.chain.line.taken) on
 
 full_from : (page : List ℕ) (m n j : ℕ) → m ≡ n → IsFirstFull page m j → IsFirstFull page n j
 full_from page m n j e f = subst (λ k. IsFirstFull page k j) e f

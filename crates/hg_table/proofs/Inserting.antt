@@ -4,8 +4,9 @@ use Rattle.std.specs.List.{AllByRecursion}
 use Rattle.std.proofs.Common.{sym, ◌∙◌, ap, subst, refl, arith, inl, inr}
 use Rattle.std.proofs.lemmas.Bool.{false≢true, eq-eqb}
 use Rattle.hg_base.specs.Space.{Space, NoPins, at, key_in, with_next}
+use Rattle.hg_base.specs.LineLaws.{all_has, distinct-apart, line-plain}
+use Rattle.hg_base.specs.Lines.{has_page, last_of}
 use Rattle.hg_base.specs.TakenLaws.{key_in-one}
-use Rattle.hg_base.specs.Causes.{NoneFull}
 use Rattle.hg_base.specs.Steadiness.{IsPlain, IsSamePage, Steady}
 use Rattle.hg_base.specs.SteadyLaws.{Steady_then, Steady_wider, Later_same}
 use Rattle.hg_base.specs.declared.File.TheVariants.{Main}
@@ -13,15 +14,14 @@ use Rattle.hg_base.specs.declared.Place.{Place}
 use Rattle.hg_base.specs.declared.Table.{Table}
 use Rattle.hg_model.specs.declared.values.Value.{Value}
 use Rattle.hg_slot.specs.Slotted.{IsSlotted, record_at}
-use Rattle.hg_table.specs.Chains.{IsChain, has_page, last_of}
+use Rattle.hg_table.specs.Chains.{IsChain}
 use Rattle.hg_table.specs.Versions.{Placed, RowVersion, HoldsVersions, IsStored, IsTable, Shows, in_pages, most_slots}
 use Rattle.hg_table.specs.Calls.{HasTable, none_mine, page_mine, insert_mine, IsNamed, Inserts, IsTableWith, PutsIn, KeepsPages, AddsPage, HasNoRoom, newborn}
 use Rattle.hg_table.specs.Steps.{ChangesPage, Changes, Puts, HoldsRecord, MakesPage, AddsRecord, LeadsTo, Looks}
 use Rattle.hg_table.specs.Listing.{put}
 use Rattle.hg_table.specs.Altering.{with_slot, at_here, at_other, pages_put}
-use Rattle.hg_table.specs.TableLaws.{chain_stays, line-plain, distinct-apart}
+use Rattle.hg_table.specs.TableLaws.{chain_stays}
 use Rattle.hg_table.proofs.Seeing.{slot_small}
-use Rattle.hg_table.proofs.Places.{all_has}
 use Rattle.hg_table.proofs.Walking.{shown_none, looks_page}
 use Rattle.hg_table.proofs.Changed.{ChangesSlot, changed_table, changed_chain}
 
@@ -55,7 +55,7 @@ put_table a b t columns pages versions x j r v on c s table =
     record {
       versions = in_pages (with_slot table.held x j (Some v)) pages;
       puts = subst (λ vs. PutsIn vs (in_pages (with_slot table.held x j (Some v)) pages) (put x j v)) (sym table.listed)
-          (pages_put table.held pages x j v (distinct-apart a.taken (a.limit Main) pages table.chain.line.taken) on small none);
+          (pages_put table.held pages x j v (distinct-apart Main a.taken (a.limit Main) pages table.chain.line.taken) on small none);
       table = changed_table a b t columns x j (Some v) pages versions (in_pages (with_slot table.held x j (Some v)) pages) (λ old new. Puts old new r j)
           c (λ old new p. puts_slot columns j r v old new s p) table refl;
     }
@@ -90,8 +90,10 @@ link_steady s l to out = record {
   pins_after = record { none_out = out.none_out; not_pinned = out.not_pinned };
   told = refl;
   limit = refl;
+  device_limit = refl;
   pages = λ q n p. record { taken = refl; of_heap = refl; bytes = refl; next = at_other s.next (key_in Main l) q to n };
-  none_taken = λ q n p. record { taken = p.taken; no_heap = p.no_heap };
+  taken = λ q n. refl;
+  of_heap = λ q n. refl;
   heaps = λ h n. refl;
   current = refl;
   caps = λ r. refl;
@@ -114,7 +116,7 @@ pub last_no_heap : (a b : Space) (r : List ℕ) (place : Place) (l : ℕ) → Ma
 last_no_heap a b r place l m p = (made_beside a b r place l m p).of_heap ∙ p.no_heap
 
 pub chain_last : (a : Space) (t : Table) (pages : List ℕ) (l : ℕ) → IsChain a t pages → t.last ≡ Some l → IsPlain a (key_in Main l)
-chain_last a t pages l chain last = all_has (λ y. IsPlain a (key_in Main y)) pages l (line-plain a t.first pages chain.line) (last_has pages l (sym chain.last ∙ last))
+chain_last a t pages l chain last = all_has (λ y. IsPlain a (key_in Main y)) pages l (line-plain Main a t.first pages chain.line) (last_has pages l (sym chain.last ∙ last))
 
 pub adds_first : (a b : Space) (old new : Table) (r : List ℕ) (place : Place) → MakesPage a b r place → old.last ≡ None
     → new.first ≡ Some place.page → new.last ≡ Some place.page → AddsRecord a b old new r place
@@ -125,7 +127,6 @@ adds_first a b old new r place m none first last = record {
   below_limit = m.below_limit;
   no_heap = m.no_heap;
   no_next = m.no_next;
-  none_full = m.none_full;
   bytes = m.bytes;
   first = first ∙ sym (ap (λ (o : Option ℕ). if is_some o then old.first else Some place.page) none);
   last = last;
@@ -151,7 +152,6 @@ adds_next a m b old new r place l k p is_last after first last =
       below_limit = k.below_limit;
       no_heap = ap (λ s. s.of_heap (key_in Main x)) after ∙ k.no_heap;
       no_next = ap (λ s. s.next (key_in Main x)) after ∙ at_other m.next (key_in Main l) (key_in Main x) (Some x) far ∙ k.no_next;
-      none_full = subst (λ s. NoneFull a.counts s.counts) (sym after) k.none_full;
       bytes = λ told. let h : Changes m x (λ page. HoldsRecord page place.slot r) = k.bytes told in record {
         page = h.page;
         told = ap (λ s. s.bytes (key_in Main x)) after ∙ h.told;
@@ -183,10 +183,6 @@ adds_behind a m b old new r place k plain h = record {
   below_limit = let e : m.limit Main ≡ a.limit Main = ap (λ f. f Main) k.steady.limit in let l = h.below_limit in omega arith;
   no_heap = h.no_heap;
   no_next = h.no_next;
-  none_full = record {
-    main_full = h.none_full.main_full ∙ k.takes_none.none_full.main_full;
-    temp_full = h.none_full.temp_full ∙ k.takes_none.none_full.temp_full;
-  };
   bytes = λ told. h.bytes (k.steady.told ∙ told);
   first = h.first;
   last = h.last;

@@ -6,20 +6,22 @@ use Rattle.std.proofs.Common.{sym, ◌∙◌, ap, subst, refl, arith}
 use Rattle.std.proofs.lemmas.Slice.{drop-put_mid}
 use borrow.Rule.Slice.PartMut.{put_mid}
 use Rattle.hg_base.specs.Parts.{below, within}
+use Rattle.hg_base.specs.LineLaws.{all_has}
+use Rattle.hg_base.specs.Lines.{has_page}
 use Rattle.hg_base.specs.Space.{Space}
 use Rattle.hg_base.specs.declared.Place.{Place}
 use Rattle.hg_base.specs.declared.Table.{Table}
 use Rattle.hg_base.specs.declared.pages.PageFault.{PageFault}
 use Rattle.hg_slot.specs.Slotted.{record_at}
 use Rattle.hg_value.specs.Coding.{IsRowOf}
-use Rattle.hg_table.specs.Chains.{IsChain, has_page}
+use Rattle.hg_table.specs.Chains.{IsChain}
 use Rattle.hg_table.specs.Versions.{Placed, RowVersion, HoldsVersions, IsStored, IsTable, Shows}
 use Rattle.hg_table.specs.Places.{killed}
 use Rattle.hg_table.specs.Calls.{HasVersion, none_mine}
 use Rattle.hg_table.specs.Steps.{ChangesPage, Changes, Kills, Looks}
 use Rattle.hg_table.specs.Altering.{dead, pages_killed}
 use Rattle.hg_table.specs.TableLaws.{chain_stays}
-use Rattle.hg_table.proofs.Places.{all_has, same_there}
+use Rattle.hg_table.proofs.Places.{same_there}
 use Rattle.hg_table.proofs.Walking.{shown_some}
 use Rattle.hg_table.proofs.Changed.{ChangesSlot, changed_table, changed_chain}
 

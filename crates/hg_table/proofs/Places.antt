@@ -3,42 +3,26 @@ use Rattle.std.specs.Prelude.{◌≡◌, ◌≢◌, ℕ, ◌<◌, ◌≤◌, ◌
 use Rattle.std.specs.List.{AllByRecursion}
 use Rattle.std.proofs.Common.{sym, ◌∙◌, ap, subst, refl, arith, inl, inr}
 use Rattle.std.proofs.lemmas.Bool.{cases_lt, cases_Bool, false≢true, eq-eqb}
-use Rattle.hg_base.specs.Space.{Space, NoPins, IsFree, key_in}
+use Rattle.hg_base.specs.Space.{Space, NoPins, IsFree}
+use Rattle.hg_base.specs.LineLaws.{all_has, distinct-apart, line_free}
+use Rattle.hg_base.specs.Lines.{has_page}
 use Rattle.hg_base.specs.TakenLaws.{AreDistinctPages}
-use Rattle.hg_base.specs.Steadiness.{IsPlain}
 use Rattle.hg_base.specs.declared.File.TheVariants.{Main}
 use Rattle.hg_base.specs.declared.Place.{Place}
 use Rattle.hg_base.specs.declared.Table.{Table}
 use Rattle.hg_slot.specs.Slotted.{record_at}
-use Rattle.hg_table.specs.Chains.{IsLine, has_page}
 use Rattle.hg_table.specs.Versions.{Placed, RowVersion, HoldsVersions, IsTable, Shows, in_slots, in_pages, most_slots}
 use Rattle.hg_table.specs.Places.{version_at}
 use Rattle.hg_table.specs.Calls.{HasPage, HasVersion, main_page}
 use Rattle.hg_table.specs.Steps.{IsSoundAt}
-use Rattle.hg_table.specs.Listing.{or_else, version_at-append, slots_below, pages_here, pages_other, has_cases}
-use Rattle.hg_table.specs.TableLaws.{line-plain, distinct-apart, one_chain}
+use Rattle.hg_table.specs.Listing.{or_else, version_at-append, slots_below, pages_here, pages_other}
+use Rattle.hg_table.specs.TableLaws.{one_chain}
 use Rattle.hg_table.proofs.Seeing.{none_past, most_slots-is}
-
--- what is known of all pages is known of one of them
-pub all_has : (P : ℕ → Type 0) (xs : List ℕ) (x : ℕ) → AllByRecursion P xs → has_page xs x ≡ true → P x
-all_has P [] x h e = absurd (false≢true e)
-all_has P (y ∷ xs) x h e = has_cases y x xs (P x) e (λ i. subst P i h.0) (λ n m. all_has P xs x h.1 m)
 
 -- numbers of pages of a line are below the limit
 pub distinct-below : (taken : ℕ → Bool) (n : ℕ) (xs : List ℕ) → AreDistinctPages taken Main n xs → AllByRecursion (λ x. x < n) xs
 distinct-below taken n [] d = tt
 distinct-below taken n (x ∷ xs) d = (d.0, distinct-below taken n xs d.3)
-
--- a page of a line can be pinned
-pub line-free : (s : Space) (from : Option ℕ) (xs : List ℕ) (x : ℕ) → NoPins s → IsLine s from xs → has_page xs x ≡ true → IsFree s (main_page x)
-line-free s from xs x out l h =
-    let plain : IsPlain s (key_in Main x) = all_has (λ y. IsPlain s (key_in Main y)) xs x (line-plain s from xs l) h in
-    record {
-      below_limit = all_has (λ y. y < s.limit Main) xs x (distinct-below s.taken (s.limit Main) xs l.taken) h;
-      taken = plain.taken;
-      not_pinned = out.not_pinned (key_in Main x);
-      no_heap = plain.no_heap;
-    }
 
 -- a page of versions at a slot
 pub holds_at : (s : Space) (columns x k : ℕ) (held : ℕ → Option RowVersion) → IsFree s (main_page x) → HoldsVersions s columns x held
@@ -67,7 +51,7 @@ pub version_of : (s : Space) (t : Table) (columns : ℕ) (pages : List ℕ) (ver
     → (table : IsTable s t columns pages versions) → has_page pages p.page ≡ true → version_at versions p ≡ table.held p.page p.slot
 version_of s t columns pages versions p table h = elim (cases_lt p.slot most_slots) [
   | inl l ↦ ap (λ vs. version_at vs p) table.listed
-      ∙ pages_here table.held pages p (distinct-apart s.taken (s.limit Main) pages table.chain.line.taken) h l
+      ∙ pages_here table.held pages p (distinct-apart Main s.taken (s.limit Main) pages table.chain.line.taken) h l
   | inr l ↦ ap (λ vs. version_at vs p) table.listed ∙ past_slots table.held pages p l
       ∙ sym (held_past s columns p.page p.slot (table.held p.page) (all_has (λ x. HoldsVersions s columns x (table.held x)) pages p.page table.holds h) l)
 ]
@@ -76,7 +60,7 @@ pub sound_of : (s : Space) (t : Table) (columns : ℕ) (pages : List ℕ) (versi
     → IsTable s t columns pages versions → has_page pages p.page ≡ true → IsSoundAt s columns p.page p.slot (version_at versions p)
 sound_of s t columns pages versions p out table h =
     subst (IsSoundAt s columns p.page p.slot) (sym (version_of s t columns pages versions p table h))
-    (holds_at s columns p.page p.slot (table.held p.page) (line-free s t.first pages p.page out table.chain.line h)
+    (holds_at s columns p.page p.slot (table.held p.page) (line_free Main s t.first pages p.page out table.chain.line h)
     (all_has (λ x. HoldsVersions s columns x (table.held x)) pages p.page table.holds h))
 
 or_right : (a b : Bool) → (a || b) ≡ false → b ≡ false

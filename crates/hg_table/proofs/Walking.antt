@@ -4,20 +4,19 @@ use Rattle.std.specs.List.{AllByRecursion}
 use Rattle.std.proofs.Common.{sym, ◌∙◌, ap, subst, refl, arith, append_assoc, append-nil, length-append}
 use Rattle.std.proofs.lemmas.Bool.{eq-eqb}
 use Rattle.hg_base.specs.Space.{Space, NoPins, IsFree, key_in, taken_in}
+use Rattle.hg_base.specs.LineLaws.{all_has, line-plain, line_free}
+use Rattle.hg_base.specs.Lines.{IsLine, IsPath, has_page}
 use Rattle.hg_base.specs.TakenLaws.{AreDistinctPages-few}
 use Rattle.hg_base.specs.Steadiness.{IsPlain, IsSamePage}
 use Rattle.hg_base.specs.SteadyLaws.{Steady_then, Steady_same}
 use Rattle.hg_base.specs.declared.File.TheVariants.{Main}
 use Rattle.hg_slot.specs.Slotted.{record_at}
-use Rattle.hg_table.specs.Chains.{IsLine, IsPath, has_page}
 use Rattle.hg_table.specs.Versions.{Placed, RowVersion, HoldsVersions, Shows, in_slots, in_pages, most_slots}
 use Rattle.hg_table.specs.Places.{first_place}
 use Rattle.hg_table.specs.Calls.{none_mine, main_page}
 use Rattle.hg_table.specs.Steps.{Looks, HoldsLine, IsSound, IsFirstFull}
 use Rattle.hg_table.specs.Listing.{first_slot, slots_none, has_own}
-use Rattle.hg_table.specs.TableLaws.{line-plain}
 use Rattle.hg_table.proofs.Seeing.{slot_small}
-use Rattle.hg_table.proofs.Places.{all_has, line-free}
 
 -- Pages of a line were passed that hold no version, and the rest is still to come.
 pub record Passed (a : Space) (start : Option ℕ) (h : HoldsLine a start) (next : Option ℕ) (turn : ℕ) : Type 0 where
@@ -25,7 +24,7 @@ pub record Passed (a : Space) (start : Option ℕ) (h : HoldsLine a start) (next
   pub rest : List ℕ
   pub is : h.pages ≡ done ++ rest
   pub count : length done ≡ turn
-  pub path : IsPath a.next next rest
+  pub path : IsPath Main a.next next rest
   pub none : in_pages h.held done ≡ []
 
 pub passed_none : (a : Space) (start : Option ℕ) (h : HoldsLine a start) → Passed a start h start 0
@@ -34,28 +33,22 @@ passed_none a start h = record { done = []; rest = h.pages; is = refl; count = r
 -- From here on the way goes along some of these pages, whatever they hold.
 pub record IsOnWay (a : Space) (pages : List ℕ) (next : Option ℕ) : Type 0 where
   pub rest : List ℕ
-  pub path : IsPath a.next next rest
+  pub path : IsPath Main a.next next rest
   pub plain : AllByRecursion (λ x. IsPlain a (key_in Main x)) rest
   pub among : AllByRecursion (λ x. has_page pages x ≡ true) rest
 
-pub way_starts : (a : Space) (start : Option ℕ) (pages : List ℕ) → IsLine a start pages → IsOnWay a pages start
-way_starts a start pages l = record { rest = pages; path = l.path; plain = line-plain a start pages l; among = has_own pages }
+pub way_starts : (a : Space) (start : Option ℕ) (pages : List ℕ) → IsLine Main a start pages → IsOnWay a pages start
+way_starts a start pages l = record { rest = pages; path = l.path; plain = line-plain Main a start pages l; among = has_own pages }
 
 -- looking twice
 pub looks_then : (a b c : Space) → Looks a b → Looks b c → Looks a c
 looks_then a b c p r = record {
   steady = Steady_then none_mine a b c p.steady r.steady;
-  takes_none = record {
-    taken = r.takes_none.taken ∙ p.takes_none.taken;
-    none_full = record {
-      main_full = r.takes_none.none_full.main_full ∙ p.takes_none.none_full.main_full;
-      temp_full = r.takes_none.none_full.temp_full ∙ p.takes_none.none_full.temp_full;
-    };
-  };
+  takes_none = record { taken = r.takes_none.taken ∙ p.takes_none.taken };
 }
 
 pub looks_same : (a : Space) → NoPins a → Looks a a
-looks_same a out = record { steady = Steady_same none_mine a out; takes_none = record { taken = refl; none_full = record { main_full = refl; temp_full = refl } } }
+looks_same a out = record { steady = Steady_same none_mine a out; takes_none = record { taken = refl } }
 
 -- a page that can be pinned is there as before
 pub looks_page : (a b : Space) (x : ℕ) → Looks a b → IsPlain a (key_in Main x) → IsSamePage a b (key_in Main x)
@@ -88,7 +81,7 @@ pub record IsOnPage (a : Space) (pages : List ℕ) (x : ℕ) : Type 0 where
 pub way_page : (a : Space) (pages : List ℕ) (x : ℕ) → IsOnWay a pages (Some x) → IsOnPage a pages x
 way_page a pages x w = go w.rest w.path w.plain w.among
   where
-    go : (rest : List ℕ) → IsPath a.next (Some x) rest → AllByRecursion (λ y. IsPlain a (key_in Main y)) rest → AllByRecursion (λ y. has_page pages y ≡ true) rest → IsOnPage a pages x
+    go : (rest : List ℕ) → IsPath Main a.next (Some x) rest → AllByRecursion (λ y. IsPlain a (key_in Main y)) rest → AllByRecursion (λ y. has_page pages y ≡ true) rest → IsOnPage a pages x
     go [] p k m = absurd (let z : ◌≡◌ {A = Option ℕ} (Some x) None = p in cc)
     go (y ∷ rest) p k m =
         let i : y ≡ x = (let z : ◌≡◌ {A = Option ℕ} (Some x) (Some y) = p.0 in cc) in
@@ -114,7 +107,7 @@ pub record IsNextPage (a : Space) (start : Option ℕ) (h : HoldsLine a start) (
   pub rest : List ℕ
   pub is : h.pages ≡ done ++ x ∷ rest
   pub count : length done ≡ turn
-  pub path : IsPath a.next (a.next (key_in Main x)) rest
+  pub path : IsPath Main a.next (a.next (key_in Main x)) rest
   pub none : in_pages h.held done ≡ []
   pub among : has_page h.pages x ≡ true
   pub holds : HoldsVersions a h.columns x (h.held x)
@@ -125,7 +118,7 @@ some_same x y e = cc
 pub next_page : (a : Space) (start : Option ℕ) (h : HoldsLine a start) (x turn : ℕ) → Passed a start h (Some x) turn → IsNextPage a start h x turn
 next_page a start h x turn p = go p.done p.rest p.is p.count p.path p.none
   where
-    go : (done rest : List ℕ) → h.pages ≡ done ++ rest → length done ≡ turn → IsPath a.next (Some x) rest → in_pages h.held done ≡ [] → IsNextPage a start h x turn
+    go : (done rest : List ℕ) → h.pages ≡ done ++ rest → length done ≡ turn → IsPath Main a.next (Some x) rest → in_pages h.held done ≡ [] → IsNextPage a start h x turn
     go done [] e c p n = absurd (let z : ◌≡◌ {A = Option ℕ} (Some x) None = p in cc)
     go done (y ∷ rest) e c p n =
         let i : y ≡ x = some_same y x (sym p.0) in
@@ -136,7 +129,7 @@ next_page a start h x turn p = go p.done p.rest p.is p.count p.path p.none
           rest = rest;
           is = is;
           count = c;
-          path = subst (λ z. IsPath a.next (a.next (key_in Main z)) rest) i p.1;
+          path = subst (λ z. IsPath Main a.next (a.next (key_in Main z)) rest) i p.1;
           none = n;
           among = among;
           holds = all_has (λ z. HoldsVersions a h.columns z (h.held z)) h.pages x h.holds among;
@@ -145,7 +138,7 @@ next_page a start h x turn p = go p.done p.rest p.is p.count p.path p.none
 -- it may be looked at
 pub next_sound : (a b : Space) (start : Option ℕ) (h : HoldsLine a start) (x turn : ℕ) → Looks a b → IsNextPage a start h x turn → IsSound b x
 next_sound a b start h x turn l n = sound_now a b x l (record {
-  free = line-free a start h.pages x l.steady.pins_before h.line n.among;
+  free = line_free Main a start h.pages x l.steady.pins_before h.line n.among;
   page = n.holds.page;
   told = n.holds.told;
   slotted = n.holds.slotted;
@@ -184,7 +177,7 @@ pages-both held (x ∷ xs) ys = ap (λ r. in_slots x (held x) 0 most_slots ++ r)
 -- the bytes of the page are those that were looked at
 now_told : (a b : Space) (start : Option ℕ) (h : HoldsLine a start) (x turn : ℕ) → Looks a b → (n : IsNextPage a start h x turn) → b.bytes (key_in Main x) ≡ Some n.holds.page
 now_told a b start h x turn l n =
-    let f : IsFree a (main_page x) = line-free a start h.pages x l.steady.pins_before h.line n.among in
+    let f : IsFree a (main_page x) = line_free Main a start h.pages x l.steady.pins_before h.line n.among in
     (looks_page a b x l (record { taken = f.taken; no_heap = f.no_heap })).bytes ∙ n.holds.told
 
 pub line_found : (a b : Space) (start : Option ℕ) (h : HoldsLine a start) (x j turn : ℕ) → Looks a b → Passed a start h (Some x) turn
@@ -201,7 +194,7 @@ pub line_passed : (a b c : Space) (start : Option ℕ) (h : HoldsLine a start) (
     → Passed a start h (c.next (key_in Main x)) (turn + 1)
 line_passed a b c start h x turn l m p known =
     let n : IsNextPage a start h x turn = next_page a start h x turn p in
-    let f : IsFree a (main_page x) = line-free a start h.pages x l.steady.pins_before h.line n.among in
+    let f : IsFree a (main_page x) = line_free Main a start h.pages x l.steady.pins_before h.line n.among in
     let same : c.next (key_in Main x) ≡ a.next (key_in Main x) =
     (looks_page a c x (looks_then a b c l m) (record { taken = f.taken; no_heap = f.no_heap })).next in
     record {
@@ -209,7 +202,7 @@ line_passed a b c start h x turn l m p known =
       rest = n.rest;
       is = n.is ∙ sym (append_assoc n.done (x ∷ []) n.rest);
       count = let k = n.count in omega (arith, length-append n.done (x ∷ []));
-      path = subst (λ o. IsPath a.next o n.rest) (sym same) n.path;
+      path = subst (λ o. IsPath Main a.next o n.rest) (sym same) n.path;
       none = pages-both h.held n.done (x ∷ [])
           ∙ ap (λ vs. vs ++ in_pages h.held (x ∷ [])) n.none
           ∙ append-nil (in_slots x (h.held x) 0 most_slots)
@@ -220,7 +213,7 @@ line_passed a b c start h x turn l m p known =
 pub line_ended : (a : Space) (start : Option ℕ) (h : HoldsLine a start) (turn : ℕ) → Passed a start h None turn → None ≡ first_place (in_pages h.held h.pages)
 line_ended a start h turn p = go p.rest p.is p.path
   where
-    go : (rest : List ℕ) → h.pages ≡ p.done ++ rest → IsPath a.next None rest → None ≡ first_place (in_pages h.held h.pages)
+    go : (rest : List ℕ) → h.pages ≡ p.done ++ rest → IsPath Main a.next None rest → None ≡ first_place (in_pages h.held h.pages)
     go [] e q = sym (ap (λ zs. first_place (in_pages h.held zs)) (e ∙ append-nil p.done) ∙ ap first_place p.none)
     go (y ∷ rest) e q = absurd (let z : ◌≡◌ {A = Option ℕ} None (Some y) = q.0 in cc)
 

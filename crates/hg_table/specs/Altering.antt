@@ -4,12 +4,13 @@ use Rattle.std.specs.List.{AllByRecursion}
 use Rattle.std.proofs.Common.{sym, ◌∙◌, ap, subst, refl, arith, inl, inr, append_assoc, append-nil}
 use Rattle.std.proofs.lemmas.Bool.{cases_eq, eq-eqb, ne_eqb}
 use Rattle.hg_base.specs.Space.{at}
+use Rattle.hg_base.specs.LineLaws.{has_cases}
+use Rattle.hg_base.specs.Lines.{AreApart, has_page}
 use Rattle.hg_base.specs.declared.Place.{Place}
-use Rattle.hg_table.specs.Chains.{has_page}
 use Rattle.hg_table.specs.Versions.{Placed, RowVersion, in_slot, in_slots, in_pages, most_slots}
 use Rattle.hg_table.specs.Places.{killed_at, killed}
 use Rattle.hg_table.specs.Calls.{PutsIn}
-use Rattle.hg_table.specs.Listing.{put, AreApart, slots_agree, pages_agree, slots_none, has_cases, apart_under}
+use Rattle.hg_table.specs.Listing.{put, slots_agree, pages_agree, slots_none, apart_under}
 
 -- the versions, where those of one page stand as f says
 abbrev pub with_slot : (ℕ → ℕ → Option RowVersion) → ℕ → ℕ → Option RowVersion → ℕ → ℕ → Option RowVersion

@@ -1,7 +1,7 @@
 -- What the calls on a table ask, what they do, and why they fail. Our own rule.
 use Rattle.std.specs.Prelude.{◌≡◌, ℕ, true, false, List, [], ◌∷◌, ◌++◌, length, Option, Some, None, IsSome, IsTrue, MatchOption, ⊤, ◌⊎◌}
 use Rattle.hg_base.specs.Space.{Space, key_in, at, IsFull, IsFree}
-use Rattle.hg_base.specs.Causes.{MainFailed, TempFailed, NoneFull, Rose}
+use Rattle.hg_base.specs.Lines.{has_page}
 use Rattle.hg_base.specs.Steadiness.{Mine, these_pages}
 use Rattle.hg_base.specs.declared.File.TheVariants as file
 use Rattle.hg_base.specs.declared.PageId.{PageId}
@@ -13,7 +13,7 @@ use Rattle.hg_base.specs.declared.pages.PageFault.{PageFault}
 use Rattle.hg_base.specs.declared.pages.PageFault.TheVariants as fault
 use Rattle.hg_model.specs.declared.values.Value.{Value}
 use Rattle.hg_slot.specs.Slotted.{Fits}
-use Rattle.hg_table.specs.Chains.{IsChain, has_page}
+use Rattle.hg_table.specs.Chains.{IsChain}
 use Rattle.hg_table.specs.Versions.{Placed, IsTable}
 use Rattle.hg_table.specs.Places.{version_at}
 
@@ -126,13 +126,12 @@ IsPageCheck Level = ⊥
 IsPageCheck Order = ⊥
 IsPageCheck RowBytes = ⊥
 
-abbrev pub InsertFault : Space → Space → PageFault → Type 0
-InsertFault a b fault.MainFault = MainFailed a.counts b.counts × NoneFull a.counts b.counts
-InsertFault a b fault.TempFault = TempFailed a.counts b.counts × NoneFull a.counts b.counts
-InsertFault a b fault.MainFull =
-    IsFull a file.Main × Rose a.counts.main_full b.counts.main_full × (b.counts.temp_full ≡ a.counts.temp_full)
-InsertFault a b fault.TempFull = ⊥
-InsertFault a b (fault.Damaged page check) = (a.told ≡ false) × IsPageCheck check × NoneFull a.counts b.counts
+abbrev pub InsertFault : Space → PageFault → Type 0
+InsertFault a fault.MainFault = ⊤
+InsertFault a fault.TempFault = ⊤
+InsertFault a fault.MainFull = IsFull a file.Main
+InsertFault a fault.TempFull = ⊥
+InsertFault a (fault.Damaged page check) = IsPageCheck check
 
 -- What may be wrong with a version that is read or killed, and with a table that is walked. A place
 -- whose page cannot be pinned is wrong by RowBytes, a page of a chain that cannot be by Level.
@@ -156,12 +155,12 @@ IsWalkCheck RowBytes = ⊤
 
 -- Why a call fails that takes no page: a device failed, or, where the space does not tell, one of
 -- these checks did.
-abbrev pub LookFault : (Check → Type 0) → Space → Space → PageFault → Type 0
-LookFault checks a b fault.MainFault = MainFailed a.counts b.counts
-LookFault checks a b fault.TempFault = TempFailed a.counts b.counts
-LookFault checks a b fault.MainFull = ⊥
-LookFault checks a b fault.TempFull = ⊥
-LookFault checks a b (fault.Damaged page check) = (a.told ≡ false) × checks check
+abbrev pub LookFault : (Check → Type 0) → PageFault → Type 0
+LookFault checks fault.MainFault = ⊤
+LookFault checks fault.TempFault = ⊤
+LookFault checks fault.MainFull = ⊥
+LookFault checks fault.TempFull = ⊥
+LookFault checks (fault.Damaged page check) = checks check
 
 -- which page is named where one is damaged: the one with this number
 abbrev pub NamesPage : ℕ → PageFault → Type 0
@@ -205,7 +204,6 @@ IsBarred s start fault.MainFull = ⊤
 IsBarred s start fault.TempFull = ⊤
 IsBarred s start (fault.Damaged page check) = WalkBars s start page check
 
--- A call that takes no page and finds no file full.
+-- A call that takes no page.
 pub record TakesNone (a b : Space) : Type 0 where
   pub taken : b.taken ≡ a.taken
-  pub none_full : NoneFull a.counts b.counts

@@ -5,10 +5,10 @@ use Rattle.std.proofs.Common.{sym, ◌∙◌, ap, subst, refl, arith, inl, inr}
 use Rattle.std.proofs.lemmas.Bool.{false≢true, false_from_ne_true}
 use Rattle.std.proofs.lemmas.Bool.Decides.{nat_tests, eqb_tells}
 use Rattle.hg_base.specs.TakenLaws.{AreDistinctPages}
+use Rattle.hg_base.specs.Lines.{has_page, pages_behind}
 use Rattle.hg_base.specs.declared.File.TheVariants.{Main}
 use Rattle.hg_base.specs.declared.Place.{Place}
-use Rattle.hg_table.specs.Chains.{has_page}
-use Rattle.hg_table.specs.Places.{is_at, version_at, pages_behind, comes_behind}
+use Rattle.hg_table.specs.Places.{is_at, version_at, comes_behind}
 use Rattle.hg_table.specs.Versions.{Placed, RowVersion, in_slot, in_slots, in_pages, most_slots}
 
 -- of two versions the one stands before the other

@@ -4,12 +4,13 @@ use Rattle.std.specs.List.{AllByRecursion, filter}
 use Rattle.std.proofs.Common.{sym, ◌∙◌, ap, subst, inl, inr}
 use Rattle.std.proofs.lemmas.Bool.{cases_Bool}
 use Rattle.hg_base.specs.Space.{Space, NoPins}
+use Rattle.hg_base.specs.Lines.{has_page, pages_behind}
 use Rattle.hg_base.specs.Steadiness.{Mine, Steady}
 use Rattle.hg_base.specs.declared.Place.{Place}
 use Rattle.hg_base.specs.declared.Table.{Table}
-use Rattle.hg_table.specs.Chains.{IsChain, has_page}
+use Rattle.hg_table.specs.Chains.{IsChain}
 use Rattle.hg_table.specs.Versions.{Placed, IsTable}
-use Rattle.hg_table.specs.Places.{behind, comes_behind, pages_behind, first_place}
+use Rattle.hg_table.specs.Places.{behind, comes_behind, first_place}
 use Rattle.hg_table.specs.Calls.{none_mine, HasTable, HasPage, HasStart, Inserts, IsTableWith}
 use Rattle.hg_table.specs.TableLaws.{no_pages, empty_chain, empty_table, chain_stays, table_stays, on_pages}
 

@@ -9,3 +9,4 @@ pub mod Altering
 pub mod InOrder
 pub mod TableLaws
 pub mod Kept
+pub mod Agreement

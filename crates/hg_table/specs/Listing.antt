@@ -1,12 +1,13 @@
 -- Laws of the versions of slots and pages as lists.
-use Rattle.std.specs.Prelude.{◌≡◌, ◌≢◌, ℕ, ◌+◌, ◌<◌, ◌≤◌, ◌==◌, ◌&&◌, ◌||◌, nat_lt, zero, suc, Bool, true, false, List, [], ◌∷◌, ◌++◌, Option, Some, None, if◌then◌else◌, ⊤}
+use Rattle.std.specs.Prelude.{◌≡◌, ◌≢◌, ℕ, ◌+◌, ◌<◌, ◌≤◌, ◌==◌, ◌&&◌, ◌||◌, nat_lt, zero, suc, Bool, true, false, List, [], ◌∷◌, ◌++◌, Option, Some, None, if◌then◌else◌}
 use Rattle.std.specs.List.{filter, AllByRecursion}
 use Rattle.std.proofs.Common.{sym, ◌∙◌, ap, refl, arith, inl, inr}
 use Rattle.std.proofs.lemmas.Bool.{cases_eq, eq-eqb, ne_eqb, lt-ltb, le-ltb}
 use Rattle.hg_base.specs.declared.Place.{Place}
-use Rattle.hg_table.specs.Chains.{has_page}
+use Rattle.hg_base.specs.LineLaws.{behind_all, has_cases}
+use Rattle.hg_base.specs.Lines.{AreApart, has_page, pages_behind}
 use Rattle.hg_table.specs.Versions.{Placed, RowVersion, in_slot, in_slots, in_pages, most_slots}
-use Rattle.hg_table.specs.Places.{is_at, version_at, pages_behind, comes_behind, first_place}
+use Rattle.hg_table.specs.Places.{is_at, version_at, comes_behind, first_place}
 
 -- the first of two answers that there is
 abbrev pub or_else : Option RowVersion → Option RowVersion → Option RowVersion
@@ -75,11 +76,6 @@ slots_below x held k (suc n) p h =
     slot_step x held k n p false (and_no_right (x == p.page) (k == p.slot) (ne_eqb k p.slot (λ e. absurd (omega arith))))
     ∙ slots_below x held (suc k) n p (omega arith)
 
--- pages no two of which are one
-abbrev pub AreApart : List ℕ → Type 0
-AreApart [] = ⊤
-AreApart (x ∷ xs) = AllByRecursion (λ y. y ≢ x) xs × AreApart xs
-
 -- no version of another page
 pub pages_other : (held : ℕ → ℕ → Option RowVersion) (xs : List ℕ) (p : Place) → AllByRecursion (λ y. y ≢ p.page) xs → version_at (in_pages held xs) p ≡ None
 pages_other held [] p h = refl
@@ -91,12 +87,6 @@ pages_other held (x ∷ xs) p h =
 pub apart_under : (x y : ℕ) (xs : List ℕ) → x ≡ y → AllByRecursion (λ z. z ≢ x) xs → AllByRecursion (λ z. z ≢ y) xs
 apart_under x y [] e h = tt
 apart_under x y (z ∷ xs) e h = (λ q. h.0 (q ∙ sym e), apart_under x y xs e h.1)
-
-pub has_cases : (x y : ℕ) (xs : List ℕ) (P : Type 0) → has_page (x ∷ xs) y ≡ true → (x ≡ y → P) → (x ≢ y → has_page xs y ≡ true → P) → P
-has_cases x y xs P h same other = elim (cases_eq x y) [
-  | inl e ↦ same e
-  | inr d ↦ other d (sym (ap (λ t. t || has_page xs y) (ne_eqb x y d)) ∙ h)
-]
 
 -- the version of a place on one of the pages
 pub pages_here : (held : ℕ → ℕ → Option RowVersion) (xs : List ℕ) (p : Place) → AreApart xs → has_page xs p.page ≡ true → p.slot < most_slots
@@ -245,10 +235,6 @@ has_not x (y ∷ xs) h = ap (λ t. t || has_page xs x) (ne_eqb y x h.0) ∙ has_
 behind_by : (b : Bool) (P : ℕ → Type 0) (xs ys : List ℕ) → AllByRecursion P xs → AllByRecursion P ys → AllByRecursion P (if b then xs else ys)
 behind_by true P xs ys h g = h
 behind_by false P xs ys h g = g
-
-pub behind_all : (P : ℕ → Type 0) (xs : List ℕ) (x : ℕ) → AllByRecursion P xs → AllByRecursion P (pages_behind xs x)
-behind_all P [] x h = tt
-behind_all P (y ∷ xs) x h = behind_by (y == x) P xs (pages_behind xs x) h.1 (behind_all P xs x h.1)
 
 -- the versions behind a place of one of the pages
 pub pages_after : (held : ℕ → ℕ → Option RowVersion) (xs : List ℕ) (p : Place) → AreApart xs → has_page xs p.page ≡ true

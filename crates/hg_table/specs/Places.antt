@@ -2,8 +2,8 @@
 use Rattle.std.specs.Prelude.{ℕ, ◌==◌, ◌&&◌, nat_lt, map, Bool, false, List, [], ◌∷◌, Option, Some, None, if◌then◌else◌}
 use Rattle.std.specs.List.{filter}
 use Rattle.hg_base.specs.declared.Place.{Place}
+use Rattle.hg_base.specs.Lines.{has_page, pages_behind}
 use Rattle.hg_model.specs.Visible.{is_visible}
-use Rattle.hg_table.specs.Chains.{has_page}
 use Rattle.hg_table.specs.Versions.{Placed, RowVersion}
 
 -- a version stands at this place
@@ -14,11 +14,6 @@ is_at p v = v.place.page == p.page && v.place.slot == p.slot
 abbrev pub version_at : List Placed → Place → Option RowVersion
 version_at [] p = None
 version_at (v ∷ vs) p = if is_at p v then Some v.version else version_at vs p
-
--- the pages behind one of them
-abbrev pub pages_behind : List ℕ → ℕ → List ℕ
-pages_behind [] x = []
-pages_behind (y ∷ ys) x = if y == x then ys else pages_behind ys x
 
 -- a version stands behind a place: in a later slot of its page, or on a page behind it
 abbrev pub comes_behind : List ℕ → Place → Placed → Bool

@@ -1,7 +1,7 @@
 -- What the small calls do that the calls on a table are made of. Our own rule.
 use Rattle.std.specs.Prelude.{◌≡◌, ◌≢◌, ℕ, ◌^◌, ◌<◌, ◌≤◌, Bool, true, false, List, Option, Some, None, length, is_some, ⊤, if◌then◌else◌}
 use Rattle.hg_base.specs.Space.{Space, key_in, at, IsFree}
-use Rattle.hg_base.specs.Causes.{NoneFull}
+use Rattle.hg_base.specs.Lines.{IsLine}
 use Rattle.hg_base.specs.Steadiness.{Steady}
 use Rattle.hg_base.specs.declared.File.TheVariants.{Main}
 use Rattle.hg_base.specs.declared.Place.{Place}
@@ -14,7 +14,6 @@ use Rattle.hg_slot.specs.Slotted.{record_at, IsSlotted, IsClean, Fits}
 use Rattle.hg_slot.specs.Changing.{IsInserted, Overwrites}
 use Rattle.std.specs.Int.{w32, to_le_bytes}
 use Rattle.std.specs.List.{AllByRecursion}
-use Rattle.hg_table.specs.Chains.{IsLine}
 use Rattle.hg_table.specs.Versions.{RowVersion, HoldsVersions, Shows}
 use Rattle.hg_table.specs.Calls.{main_page, none_mine, page_mine, insert_mine, TakesNone, HasNoRoom}
 
@@ -81,7 +80,7 @@ pub record HoldsLine (s : Space) (start : Option ℕ) : Type 0 where
   pub pages : List ℕ
   pub held : ℕ → ℕ → Option RowVersion
   pub told : s.told ≡ true
-  pub line : IsLine s start pages
+  pub line : IsLine Main s start pages
   pub holds : AllByRecursion (λ x. HoldsVersions s columns x (held x)) pages
 
 -- What is wrong with a slot that is read: the page is no slotted page, or its record is no version.
@@ -156,7 +155,6 @@ pub record MakesPage (a b : Space) (r : List ℕ) (place : Place) : Type 0 where
   pub below_limit : place.page < a.limit Main
   pub no_heap : b.of_heap (key_in Main place.page) ≡ false
   pub no_next : b.next (key_in Main place.page) ≡ None
-  pub none_full : NoneFull a.counts b.counts
   pub bytes : a.told ≡ true → Changes b place.page (λ page. HoldsRecord page place.slot r)
 
 -- the first page of a table behind whose last page one was put
@@ -181,7 +179,6 @@ pub record AddsRecord (a b : Space) (old new : Table) (r : List ℕ) (place : Pl
   pub below_limit : place.page < a.limit Main
   pub no_heap : b.of_heap (key_in Main place.page) ≡ false
   pub no_next : b.next (key_in Main place.page) ≡ None
-  pub none_full : NoneFull a.counts b.counts
   pub bytes : a.told ≡ true → Changes b place.page (λ page. HoldsRecord page place.slot r)
   pub first : new.first ≡ first_with old place.page
   pub last : new.last ≡ Some place.page

@@ -16,7 +16,7 @@ use hg_value::Row;
 pub trait TableCalls {
     ghost use Rattle.std.specs.Prelude.{◌≡◌, ◌≢◌, ℕ, ◌+◌, ◌≤◌, ◌⊎◌, true, false, List, length, Some, None, Ok, Err, IfOk, IfErr, OnOk, OnErr, IfSome, option_map};
     ghost use Rattle.hg_base.specs.Space.{NoPins};
-    ghost use Rattle.hg_base.specs.Causes.{HasCause, NoneFull};
+    ghost use Rattle.hg_base.specs.Causes.{HasCause, fault_of};
     ghost use Rattle.hg_base.specs.Steadiness.{Steady};
     ghost use Rattle.hg_base.specs.declared.Stamp.{Stamp as StampOf};
     ghost use Rattle.hg_base.specs.declared.Table.{Table as TableOf};
@@ -54,15 +54,13 @@ pub trait TableCalls {
             (ends self.new) at.page (8 + length (coded row.now))) }
         ensures steady { IfOk result (λ at. Steady (insert_mine (ends self.old) at)
             (S.state space.old) (S.state space.new)) }
-        ensures ok_counts { OnOk result (NoneFull (S.state space.old).counts
-            (S.state space.new).counts) }
 
         ensures err { OnErr result (ends self.new ≡ ends self.old) }
         ensures err_steady { OnErr result (Steady none_mine (S.state space.old)
             (S.state space.new)) }
         ensures err_taken { OnErr result ((S.state space.new).taken ≡ (S.state space.old).taken) }
-        ensures cause { HasCause (S.state space.old) (S.state space.new) result }
-        ensures fault { IfErr result (InsertFault (S.state space.old) (S.state space.new)) }
+        ensures cause { HasCause (S.state space.old) (S.state space.new) (fault_of result) }
+        ensures fault { IfErr result (InsertFault (S.state space.old)) }
         ensures page { IfErr result (NamesGiven (ends self.old).last) }
         ensures full { result ≡ Err PageFault.MainFull → HasNoRoom (S.state space.old)
             (ends self.old).last (8 + length (coded row.now)) };
@@ -87,9 +85,8 @@ pub trait TableCalls {
         ensures err_steady { OnErr result (Steady none_mine (S.state space.old)
             (S.state space.new)) }
         ensures takes_none { TakesNone (S.state space.old) (S.state space.new) }
-        ensures cause { HasCause (S.state space.old) (S.state space.new) result }
-        ensures fault { IfErr result (LookFault IsVersionCheck (S.state space.old)
-            (S.state space.new)) }
+        ensures cause { HasCause (S.state space.old) (S.state space.new) (fault_of result) }
+        ensures fault { IfErr result (LookFault IsVersionCheck) }
         ensures page { IfErr result (NamesPage at.page) };
 
     /// Whether a version stands at a place and the snapshot sees it. Its row is put into `out` then;
@@ -116,9 +113,8 @@ pub trait TableCalls {
         ensures unseen { result ≡ Ok false → out.new ≡ out.old }
         ensures steady { Steady none_mine (S.state space.old) (S.state space.new) }
         ensures takes_none { TakesNone (S.state space.old) (S.state space.new) }
-        ensures cause { HasCause (S.state space.old) (S.state space.new) result }
-        ensures fault { IfErr result (LookFault IsVersionCheck (S.state space.old)
-            (S.state space.new)) }
+        ensures cause { HasCause (S.state space.old) (S.state space.new) (fault_of result) }
+        ensures fault { IfErr result (LookFault IsVersionCheck) }
         ensures page { IfErr result (NamesPage at.page) };
 
     /// The place of the next version behind `at`, in order of pages and slots; of the first where `at`
@@ -136,9 +132,8 @@ pub trait TableCalls {
             → StandsOn pages next) }
         ensures steady { Steady none_mine (S.state space.old) (S.state space.new) }
         ensures takes_none { TakesNone (S.state space.old) (S.state space.new) }
-        ensures cause { HasCause (S.state space.old) (S.state space.new) result }
-        ensures fault { IfErr result (LookFault IsWalkCheck (S.state space.old)
-            (S.state space.new)) }
+        ensures cause { HasCause (S.state space.old) (S.state space.new) (fault_of result) }
+        ensures fault { IfErr result (LookFault IsWalkCheck) }
         ensures page { IfErr result NamesMain }
         ensures level { IfErr result (IsBarred (S.state space.old) at) };
 
@@ -164,9 +159,8 @@ pub trait TableCalls {
         ensures width { OnOk result (length out.new ≡ columns) }
         ensures steady { Steady none_mine (S.state space.old) (S.state space.new) }
         ensures takes_none { TakesNone (S.state space.old) (S.state space.new) }
-        ensures cause { HasCause (S.state space.old) (S.state space.new) result }
-        ensures fault { IfErr result (LookFault IsVersionCheck (S.state space.old)
-            (S.state space.new)) }
+        ensures cause { HasCause (S.state space.old) (S.state space.new) (fault_of result) }
+        ensures fault { IfErr result (LookFault IsVersionCheck) }
         ensures page { IfErr result (NamesPage at.page) };
 }
 

@@ -1,7 +1,7 @@
 //! Putting versions into a table.
 ghost use Rattle.std.specs.Prelude.{◌≡◌, ℕ, ◌+◌, ◌≤◌, ◌⊎◌, true, false, List, length, Some, None, Err, IfOk, IfErr, IfSome, OnOk, OnErr, MatchOption};
 ghost use Rattle.hg_base.specs.Space.{NoPins, key_in, at, IsFree, with_bytes};
-ghost use Rattle.hg_base.specs.Causes.{HasCause, NoneFull};
+ghost use Rattle.hg_base.specs.Causes.{HasCause, fault_of};
 ghost use Rattle.hg_base.specs.Steadiness.{Steady, IsPlain};
 ghost use Rattle.hg_slot.specs.Slotted.{Fits, IsSlotted};
 ghost use Rattle.hg_slot.specs.Changing.{IsInserted, IsWrong};
@@ -52,8 +52,8 @@ fn put_on<S: Pages>(space: &mut S, no: u32, bytes: &[u8]) -> Result<Option<u16>,
         × ((S.state space.old).bytes (key_in File.Main no) ≡ Some page) × IsSlotted page }
     ensures put { IfOk result (PutsRecord (S.state space.old) (S.state space.new) no bytes.now) }
     ensures err { OnErr result (Looks (S.state space.old) (S.state space.new)) }
-    ensures cause { HasCause (S.state space.old) (S.state space.new) result }
-    ensures fault { IfErr result (InsertFault (S.state space.old) (S.state space.new)) }
+    ensures cause { HasCause (S.state space.old) (S.state space.new) (fault_of result) }
+    ensures fault { IfErr result (InsertFault (S.state space.old)) }
     ensures page { IfErr result (NamesPage no) }
     ensures not_full { result ≡ Err PageFault.MainFull → ⊥ }
 {
@@ -73,8 +73,8 @@ fn new_page<S: Pages>(space: &mut S, bytes: &[u8]) -> Result<Place, PageFault>
     requires short { length bytes.now ≤ 4076 }
     ensures made { IfOk result (MakesPage (S.state space.old) (S.state space.new) bytes.now) }
     ensures err { OnErr result (Refused (S.state space.old) (S.state space.new)) }
-    ensures cause { HasCause (S.state space.old) (S.state space.new) result }
-    ensures fault { IfErr result (InsertFault (S.state space.old) (S.state space.new)) }
+    ensures cause { HasCause (S.state space.old) (S.state space.new) (fault_of result) }
+    ensures fault { IfErr result (InsertFault (S.state space.old)) }
     ensures whole { IfErr result IsNoDamage }
 {
     let pin = space.fresh(File::Main)?;
@@ -96,8 +96,8 @@ fn add_page<S: Pages>(table: &mut Table, space: &mut S, bytes: &[u8]) -> Result<
         (S.state space.new) table.old table.new bytes.now place) }
     ensures same { OnErr result (table.new ≡ table.old) }
     ensures err { OnErr result (Refused (S.state space.old) (S.state space.new)) }
-    ensures cause { HasCause (S.state space.old) (S.state space.new) result }
-    ensures fault { IfErr result (InsertFault (S.state space.old) (S.state space.new)) }
+    ensures cause { HasCause (S.state space.old) (S.state space.new) (fault_of result) }
+    ensures fault { IfErr result (InsertFault (S.state space.old)) }
     ensures whole { IfErr result IsNoDamage }
 {
     let place = new_page(space, bytes)?;
@@ -130,12 +130,10 @@ pub fn insert<S: Pages>(
         (8 + length (coded row.now))) }
     ensures steady { IfOk result (λ place. Steady (insert_mine table.old place)
         (S.state space.old) (S.state space.new)) }
-    ensures ok_counts { OnOk result (NoneFull (S.state space.old).counts
-        (S.state space.new).counts) }
     ensures same { OnErr result (table.new ≡ table.old) }
     ensures err { OnErr result (Refused (S.state space.old) (S.state space.new)) }
-    ensures cause { HasCause (S.state space.old) (S.state space.new) result }
-    ensures fault { IfErr result (InsertFault (S.state space.old) (S.state space.new)) }
+    ensures cause { HasCause (S.state space.old) (S.state space.new) (fault_of result) }
+    ensures fault { IfErr result (InsertFault (S.state space.old)) }
     ensures page { IfErr result (NamesGiven table.old.last) }
     ensures full { result ≡ Err PageFault.MainFull → HasNoRoom (S.state space.old)
         table.old.last (8 + length (coded row.now)) }

@@ -2,7 +2,7 @@
 ghost use Rattle.std.specs.Prelude.{◌≡◌, ◌≢◌, ℕ, ◌+◌, ◌≤◌, true, List, length, Some, None, IfErr, OnOk, OnErr};
 ghost use Rattle.std.specs.Int.{w32, to_le_bytes};
 ghost use Rattle.hg_base.specs.Space.{NoPins, key_in};
-ghost use Rattle.hg_base.specs.Causes.{HasCause};
+ghost use Rattle.hg_base.specs.Causes.{HasCause, fault_of};
 ghost use Rattle.hg_slot.specs.Slotted.{IsSlotted, record_at};
 ghost use Rattle.hg_slot.specs.Changing.{Overwrites};
 ghost use Rattle.hg_table.specs.Calls.{LookFault, IsVersionCheck, TakesNone, NamesPage};
@@ -50,9 +50,8 @@ pub fn kill<S: Pages>(space: &mut S, place: Place, died: Stamp) -> Result<(), Pa
     ensures err { OnErr result (Looks (S.state space.old) (S.state space.new)) }
     ensures links { (S.state space.new).next ≡ (S.state space.old).next }
     ensures heaps { (S.state space.new).of_heap ≡ (S.state space.old).of_heap }
-    ensures cause { HasCause (S.state space.old) (S.state space.new) result }
-    ensures fault { IfErr result (LookFault IsVersionCheck (S.state space.old)
-        (S.state space.new)) }
+    ensures cause { HasCause (S.state space.old) (S.state space.new) (fault_of result) }
+    ensures fault { IfErr result (LookFault IsVersionCheck) }
     ensures page { IfErr result (NamesPage place.page) }
 {
     let pin = open(space, place.page, Check::RowBytes)?;

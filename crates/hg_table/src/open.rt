@@ -1,7 +1,7 @@
 //! Pins of pages whose numbers may be any.
 ghost use Rattle.std.specs.Prelude.{◌≡◌, true, IfOk, IfErr, OnOk, OnErr};
 ghost use Rattle.hg_base.specs.Space.{NoPins, IsFree, IsPinned, IsSame, key_in};
-ghost use Rattle.hg_base.specs.Causes.{HasCause, NoneFull};
+ghost use Rattle.hg_base.specs.Causes.{HasCause, fault_of};
 ghost use Rattle.hg_table.specs.Calls.{LookFault, NamesPage, main_page};
 ghost use Rattle.hg_table.specs.Steps.{IsThis, IsNotFree};
 
@@ -36,12 +36,10 @@ pub fn open<S: Pages>(space: &mut S, no: u32, check: Check) -> Result<S::Pin, Pa
     ensures ok { OnOk result (IsPinned (S.state space.old) (S.state space.new)
         (key_in File.Main no)) }
     ensures err { OnErr result (IsSame (S.state space.old) (S.state space.new)) }
-    ensures cause { HasCause (S.state space.old) (S.state space.new) result }
-    ensures fault { IfErr result (LookFault (IsThis check) (S.state space.old)
-        (S.state space.new)) }
+    ensures cause { HasCause (S.state space.old) (S.state space.new) (fault_of result) }
+    ensures fault { IfErr result (LookFault (IsThis check)) }
     ensures page { IfErr result (NamesPage no) }
     ensures barred { IfErr result (IsNotFree (S.state space.old)) }
-    ensures none_full { NoneFull (S.state space.old).counts (S.state space.new).counts }
 {
     let page = main_page(no);
     if !space.can_pin(page) {

@@ -1,7 +1,7 @@
 //! Reading one version.
 ghost use Rattle.std.specs.Prelude.{◌≡◌, true, false, Option, length, IfOk, IfErr, IfSome, OnOk, option_map};
 ghost use Rattle.hg_base.specs.Space.{NoPins, key_in};
-ghost use Rattle.hg_base.specs.Causes.{HasCause};
+ghost use Rattle.hg_base.specs.Causes.{HasCause, fault_of};
 ghost use Rattle.hg_base.specs.declared.Stamp.{Stamp as StampOf};
 ghost use Rattle.hg_slot.specs.Slotted.{record_at};
 ghost use Rattle.hg_table.specs.Marks.{committed};
@@ -105,9 +105,8 @@ pub fn read<S: Pages>(
     ensures width { result ≡ Ok true → length out.new ≡ columns }
     ensures unseen { result ≡ Ok false → out.new ≡ out.old }
     ensures looks { Looks (S.state space.old) (S.state space.new) }
-    ensures cause { HasCause (S.state space.old) (S.state space.new) result }
-    ensures fault { IfErr result (LookFault IsVersionCheck (S.state space.old)
-        (S.state space.new)) }
+    ensures cause { HasCause (S.state space.old) (S.state space.new) (fault_of result) }
+    ensures fault { IfErr result (LookFault IsVersionCheck) }
     ensures page { IfErr result (NamesPage at.page) }
 {
     let pin = open(space, at.page, Check::RowBytes)?;
@@ -139,9 +138,8 @@ pub fn version<S: Pages>(
         })) }
     ensures width { OnOk result (length out.new ≡ columns) }
     ensures looks { Looks (S.state space.old) (S.state space.new) }
-    ensures cause { HasCause (S.state space.old) (S.state space.new) result }
-    ensures fault { IfErr result (LookFault IsVersionCheck (S.state space.old)
-        (S.state space.new)) }
+    ensures cause { HasCause (S.state space.old) (S.state space.new) (fault_of result) }
+    ensures fault { IfErr result (LookFault IsVersionCheck) }
     ensures page { IfErr result (NamesPage at.page) }
 {
     let pin = open(space, at.page, Check::RowBytes)?;

@@ -1,12 +1,13 @@
 //! The way along a table's versions.
 ghost use Rattle.std.specs.Prelude.{◌≡◌, ℕ, ◌+◌, ◌<◌, ◌≤◌, true, false, List, length, Some, None, IsOk, IfOk, IfErr, OnOk};
 ghost use Rattle.hg_base.specs.Space.{NoPins, key_in, IsFree};
-ghost use Rattle.hg_base.specs.Causes.{HasCause};
+ghost use Rattle.hg_base.specs.Lines.{IsLine};
+ghost use Rattle.hg_base.specs.Causes.{HasCause, fault_of};
 ghost use Rattle.hg_base.specs.Steadiness.{IsPlain};
 ghost use Rattle.hg_base.specs.declared.Table.{Table as TableOf};
 ghost use Rattle.hg_slot.specs.Slotted.{IsSlotted};
 ghost use Rattle.hg_slot.specs.Changing.{IsWrong};
-ghost use Rattle.hg_table.specs.Chains.{IsLine, IsChain};
+ghost use Rattle.hg_table.specs.Chains.{IsChain};
 ghost use Rattle.hg_table.specs.Versions.{Placed, RowVersion, IsTable, in_pages};
 ghost use Rattle.hg_table.specs.Places.{behind, first_place};
 ghost use Rattle.hg_table.specs.Calls.{HasStart, LookFault, IsWalkCheck, NamesPage, NamesMain, IsBarred, StandsOn, main_page};
@@ -61,8 +62,8 @@ fn look<S: Pages>(
         → (S.state space.old).bytes (key_in File.Main no) ≡ Some page → IsNextSlot page from slot) }
     ensures plain { OnOk result (IsFree (S.state space.old) (main_page no)) }
     ensures looks { Looks (S.state space.old) (S.state space.new) }
-    ensures cause { HasCause (S.state space.old) (S.state space.new) result }
-    ensures fault { IfErr result (LookFault IsWalkCheck (S.state space.old) (S.state space.new)) }
+    ensures cause { HasCause (S.state space.old) (S.state space.new) (fault_of result) }
+    ensures fault { IfErr result (LookFault IsWalkCheck) }
     ensures page { IfErr result (NamesPage no) }
     ensures level { entering ≡ true → IfErr result (IsBarred (S.state space.old) None) }
     ensures row { entering ≡ false → (slot : ℕ)
@@ -94,10 +95,10 @@ fn first_along<S: Pages>(space: &mut S, start: Option<u32>) -> Result<Option<Pla
     ensures first { IfOk result (λ first. (l : HoldsLine (S.state space.old) start)
         → first ≡ first_place (in_pages l.held l.pages)) }
     ensures on_line { IfOk result (λ first. (pages : List ℕ)
-        → IsLine (S.state space.old) start pages → StandsOn pages first) }
+        → IsLine File.Main (S.state space.old) start pages → StandsOn pages first) }
     ensures looks { Looks (S.state space.old) (S.state space.new) }
-    ensures cause { HasCause (S.state space.old) (S.state space.new) result }
-    ensures fault { IfErr result (LookFault IsWalkCheck (S.state space.old) (S.state space.new)) }
+    ensures cause { HasCause (S.state space.old) (S.state space.new) (fault_of result) }
+    ensures fault { IfErr result (LookFault IsWalkCheck) }
     ensures page { IfErr result NamesMain }
     ensures level { IfErr result (IsBarred (S.state space.old) None) }
 {
@@ -131,8 +132,8 @@ pub fn after<S: Pages>(
     ensures on_pages { IfOk result (λ next. (pages : List ℕ)
         → IsChain (S.state space.old) table.now pages → StandsOn pages at → StandsOn pages next) }
     ensures looks { Looks (S.state space.old) (S.state space.new) }
-    ensures cause { HasCause (S.state space.old) (S.state space.new) result }
-    ensures fault { IfErr result (LookFault IsWalkCheck (S.state space.old) (S.state space.new)) }
+    ensures cause { HasCause (S.state space.old) (S.state space.new) (fault_of result) }
+    ensures fault { IfErr result (LookFault IsWalkCheck) }
     ensures page { IfErr result NamesMain }
     ensures level { IfErr result (IsBarred (S.state space.old) at) }
 {

@@ -36,5 +36,5 @@ returns-in-Err g c = record {
       subst (λ (t : Table). PutsSome a d old t pages c.args.stamp.0 columns rows c.in-Err.fault) (sym failed.err)
       (puts-failed a b d old mid pages c.args.stamp.0 columns (take c.loop-tuple.tuple-index rows) rows c.in-Err.fault
       (c.loop-tuple.invariant.puts pages columns chain fit) (length-first rows c.loop-tuple.tuple-index c.loop-tuple-test.true)
-      failed.err_steady failed.err_taken failed.fault);
+      failed.err_steady failed.err_taken failed.fault failed.cause);
 }

@@ -2,10 +2,10 @@ use Rattle.std.specs.Prelude.{◌≡◌, ℕ, ◌+◌, true, Option, Some, IfErr
 use Rattle.std.proofs.Common.{refl, sym, ◌∙◌, ap, subst}
 use Rattle.std.proofs.lemmas.Result.{IfOk-weaker, err_from_is_err_and}
 use Rattle.hg_base.specs.Space.{Space, key}
+use Rattle.hg_base.specs.Lines.{has_page, pages_behind}
 use Rattle.hg_base.specs.declared.Place.{Place}
 use Rattle.hg_base.specs.declared.Table.{Table}
-use Rattle.hg_table.specs.Places.{behind, pages_behind, first_place}
-use Rattle.hg_table.specs.Chains.{has_page}
+use Rattle.hg_table.specs.Places.{behind, first_place}
 use Rattle.hg_table.specs.Calls.{HasStart, IsBarred, StandsOn}
 use Rattle.hg_table.specs.Steps.{IsNextSlot}
 use Rattle.hg_table.proofs.Following.{line_rest, stands_behind, table_line, rest_line, place_sound, start_on, first_of_table, next_here, next_behind}

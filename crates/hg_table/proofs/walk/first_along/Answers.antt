@@ -1,7 +1,8 @@
-use Rattle.std.specs.Prelude.{◌≡◌, ℕ, ◌+◌, true}
-use Rattle.std.proofs.Common.{sym, ◌∙◌, ap, subst, arith}
+use Rattle.std.specs.Prelude.{◌≡◌, ℕ, ◌+◌, true, Some, None}
+use Rattle.std.proofs.Common.{sym, ◌∙◌, ap, subst, refl, arith}
 use Rattle.hg_base.specs.Space.{Space, key}
-use Rattle.hg_base.specs.Causes.{Licensed}
+use Rattle.hg_base.specs.Causes.{HasCause}
+use Rattle.hg_base.specs.SteadyLaws.{HasCause_none, HasCause_behind}
 use Rattle.hg_table.specs.Calls.{LookFault, IsWalkCheck}
 use Rattle.hg_table.specs.Steps.{HoldsLine, IsNextSlot}
 use Rattle.hg_table.proofs.Walking.{IsOnWay, way_starts, way_passed, way_page, looks_same, passed_none, Passed, line_ended, line_found, line_passed, line_short, looks_then, next_page, next_sound, not_told}
@@ -42,6 +43,7 @@ loop-turn-init g c =
     let a : Space = g.S.Pages.state c.args.space.now in
     record {
       looks = looks_same a c.requires.out;
+      cause = HasCause_none a a refl;
       passed = λ h. passed_none a c.args.start h;
       way = λ pages line. way_starts a c.args.start pages line;
     }
@@ -54,6 +56,8 @@ loop-turn-preserved g c =
     let x : ℕ = c.in-Some.no in
     record {
       looks = looks_then a b d c.loop-turn.invariant.looks c.in_ok-slot.ensures.looks;
+      cause = HasCause_behind a b d None c.loop-turn.invariant.looks.steady.told c.loop-turn.invariant.cause
+          c.in_ok-slot.ensures.cause;
       way = λ pages line. subst (IsOnWay a pages) (sym (c.next-next.ensures ∙ ap (λ p. d.next (key p)) c.main_page.ensures))
           (way_passed a d pages x (looks_then a b d c.loop-turn.invariant.looks c.in_ok-slot.ensures.looks)
           (subst (IsOnWay a pages) c.in-Some.is (c.loop-turn.invariant.way pages line)));
@@ -75,13 +79,12 @@ pub returns-in-Some-next-clause-cause : goal.returns-in-Some-next-clause-cause
 returns-in-Some-next-clause-cause g c =
     let a : Space = g.S.Pages.state c.args.space.now in
     let b : Space = g.S.Pages.state c.loop-turn.space in
-    record {
+    subst (λ f. HasCause a b (Some f)) (sym c.damaged.ensures) (record {
       later = c.loop-turn.invariant.looks.steady.counts;
-      failed = subst (Licensed a b) (sym c.damaged.ensures) (not_told a.told (never_told g c));
-    }
+      counts = c.loop-turn.invariant.cause.counts;
+      damage = not_told a.told (never_told g c);
+    })
 
 pub returns-in-Some-next-clause-fault : goal.returns-in-Some-next-clause-fault
 returns-in-Some-next-clause-fault g c =
-    let a : Space = g.S.Pages.state c.args.space.now in
-    let b : Space = g.S.Pages.state c.loop-turn.space in
-    subst (LookFault IsWalkCheck a b) (sym c.damaged.ensures) (not_told a.told (never_told g c), tt)
+    subst (LookFault IsWalkCheck) (sym c.damaged.ensures) tt
