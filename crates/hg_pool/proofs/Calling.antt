@@ -1,6 +1,7 @@
 -- The calls of a pool as its code makes them: each on its devices and what it keeps.
 use Rattle.std.specs.Prelude.{◌≡◌, ℕ, ◌+◌, ◌-◌, ◌<◌, ◌||◌, Bool, true, false, List, length, Option, None, Some, Result, Ok, Err}
-use Rattle.std.proofs.Common.{sym, ◌∙◌, ap, subst, refl, arith, length-set}
+use Rattle.std.proofs.Common.{sym, ◌∙◌, ap, subst, refl, arith, length-set, inl, inr}
+use Rattle.std.proofs.lemmas.Bool.Decides.{eqb_tells}
 use Rattle.hg_base.specs.Space.{Space, at, key, key_in, with_counts, with_pin, without_pin, without_page, with_next, unpinned_bytes, IsSame, IsPinned, IsMade}
 use Rattle.std.proofs.lemmas.Grind.{common_steps}
 use Rattle.hg_base.specs.Lending.{refit}
@@ -12,20 +13,21 @@ use Rattle.hg_base.specs.declared.pages.PageFault.{PageFault}
 use Rattle.hg_base.specs.declared.pages.PageFault.TheVariants as fault
 use Rattle.hg_space.specs.Shown.{pages_of}
 use Rattle.hg_pool.specs.Disks.{Disks}
-use Rattle.hg_pool.specs.Picture.{Picture, picture_of, counts_of, shown, frame_at, place_at, taken_at, next_at, limit_of, is_in, is_key_of}
+use Rattle.hg_pool.specs.Picture.{Picture, picture_of, counts_of, shown, frame_at, place_at, places_in, taken_at, next_at, limit_of, is_in, is_key_of}
 use Rattle.hg_pool.specs.Sound.{IsSound, IsShaped, IsCoherent, AreSound}
-use Rattle.hg_pool.specs.Keeping.{places_in, with_place, with_frame, is_inside, IsFoundAt, new_frame, MapsAfter, TakesLowest}
+use Rattle.hg_pool.specs.Keeping.{with_place, Widened, with_frame, is_inside, IsFoundAt, new_frame, MapsAfter, TakesLowest}
 use Rattle.hg_pool.specs.Passing.{Passes, IsRoom}
-use Rattle.hg_pool.specs.Keys.{at-here, by_key-main, by_key-temp, is_key_of-here}
+use Rattle.hg_pool.specs.Keys.{at-here, at-other, key_in-one, by_key-main, by_key-temp, is_key_of-here}
 use Rattle.hg_pool.specs.Views.{page-of-in, coherent-at, fits-kept}
 use Rattle.hg_pool.specs.Loans.{frames-set, frame-in, and-left, picture-frame, written, with_written}
 use Rattle.hg_pool.specs.declared.frames.Frame.{Frame}
 use Rattle.hg_pool.specs.declared.maps.Maps.{Maps}
+use Rattle.hg_pool.specs.declared.places.Places.{Places}
 use Rattle.hg_pool.specs.declared.store.Store.{Store}
 use Rattle.hg_pool.proofs.Steps.{Pinned, Made, Becomes, held, settled, unpinned, released, dropped, linked, pinned-found, bytes-found, or-true}
 use Rattle.hg_pool.proofs.Counting.{pins-same, pins-more, pins-less}
-use Rattle.hg_pool.proofs.Ranges.{free-place}
-use Rattle.hg_pool.proofs.Passing.{shape-kept, place-set, main-places, temp-places}
+use Rattle.hg_pool.proofs.Ranges.{was-taken}
+use Rattle.hg_pool.proofs.Passing.{shape-kept, place-set, places-same, room-same}
 
 -- A pool is sound where its picture is one that is sound, and its devices are as they were.
 sound-of : (d : Disks) (s z : Store) (b : Picture) → picture_of d z ≡ b → IsCoherent b → limit_of z.maps ≡ limit_of s.maps → IsSound d s → IsShaped z → IsSound d z
@@ -54,7 +56,7 @@ holds-pin d s f p h found free few =
     let same : picture_of d z ≡ b = λ i. record (picture_of d z) { frame = frames-set s.frames.items f y found.there i; current = length-set s.frames.items f y i } in
     let whole : IsSound d z = sound-of d s z b same step.coherent refl h
     (shape-kept s z h.shape (pins-more s.frames.items f y found.there free refl ∙ ap (λ n. n + 1) h.shape.counted) (omega arith) (length-set s.frames.items f y)
-    (let l = h.shape.hand in let k = length-set s.frames.items f y in omega arith) (λ m. m) refl refl refl) in record {
+    (let l = h.shape.hand in let k = length-set s.frames.items f y in omega arith) (λ m. m) refl h.shape.placed (λ to. refl)) in record {
       whole = whole;
       ok = record {
         held = (frame_at s.frames.items f).bytes;
@@ -124,27 +126,43 @@ pub record MakesPage (file : File) (d : Disks) (s z : Store) (p : PageId) : Type
   pub ok : IsMade file (shown (picture_of d s)) (shown (picture_of d z)) p
   pub inside : is_inside z (key p) ≡ true
 
-pub makes-page : (file : File) (d : Disks) (s : Store) (m : Maps) (f n : ℕ) → IsSound d s → IsRoom s f → TakesLowest file s.maps m n → s.pins < 8
-    → MakesPage file d s (record (with_frame s f (new_frame (record { file = file; no = n }))) { places = with_place s.places (record { file = file; no = n }) f; pins = s.pins + 1; maps = m }) (record { file = file; no = n })
-makes-page file d s m f n h room takes few =
+-- each page that is taken behind that has a place
+new-placed : (s : Store) (m : Maps) (w : Places) (file : File) (n : ℕ) → IsShaped s → TakesLowest file s.maps m n → Widened s.places w (record { file = file; no = n })
+    → (to : File) (k : ℕ) → taken_at m (key_in to k) ≡ true → k < places_in w to
+new-placed s m w file n h takes wide to k t =
+    elim (eqb_tells (key_in to k) (key_in file n)) [
+      | inl e ↦
+          let one = key_in-one to file k n e.1 in
+          let P : File → Type 0 = λ x. k < places_in w x in
+          subst P (sym one.0) (let there = wide.there in let same = one.1 in omega arith)
+      | inr apart ↦
+          let before : taken_at s.maps (key_in to k) ≡ true =
+          sym (at-other (taken_at s.maps) (key_in file n) true (key_in to k) apart.1) ∙ sym (ap (λ g. g (key_in to k)) takes.after.taken) ∙ t in
+          let l = h.placed to k before in let wider = wide.wider to in omega arith
+    ]
+
+pub makes-page : (file : File) (d : Disks) (s : Store) (m : Maps) (w : Places) (f n : ℕ) → IsSound d s → IsRoom s f → TakesLowest file s.maps m n
+    → Widened s.places w (record { file = file; no = n }) → s.pins < 8
+    → MakesPage file d s (record (with_frame s f (new_frame (record { file = file; no = n }))) { places = with_place w (record { file = file; no = n }) f; pins = s.pins + 1; maps = m }) (record { file = file; no = n })
+makes-page file d s m w f n h room takes wide few =
     let p : PageId = record { file = file; no = n } in
     let y : Frame = new_frame p in
-    let z : Store = record (with_frame s f y) { places = with_place s.places p f; pins = s.pins + 1; maps = m } in
+    let z : Store = record (with_frame s f y) { places = with_place w p f; pins = s.pins + 1; maps = m } in
     let a : Picture = picture_of d s in
     let b : Picture = record a { frame = at (frame_at s.frames.items) f y; place = at (place_at s.places) (key p) f; taken = at (taken_at s.maps) (key p) true; next = at (next_at s.maps) (key p) None; pins = s.pins + 1 } in
     let step : Made a b p = settled a f p h.coherent room.none takes.free in
-    let in_range : n < places_in s.places file = free-place s m file n h.shape takes in
+    let noted : place_at (with_place w p f) ≡ at (place_at s.places) (key p) f = place-set w p f wide.there ∙ ap (λ g. at g (key p) f) wide.same in
     let same : picture_of d z ≡ b = λ i. record (picture_of d z) {
       limit = takes.after.limit i;
       taken = takes.after.taken i;
       next = takes.after.next i;
       frame = frames-set s.frames.items f y room.there i;
-      place = place-set s.places p f in_range i;
+      place = noted i;
       current = length-set s.frames.items f y i;
     } in record {
       whole = sound-of d s z b same step.coherent takes.after.limit h
           (shape-kept s z h.shape (pins-more s.frames.items f y room.there room.free refl ∙ ap (λ k. k + 1) h.shape.counted) (omega arith) (length-set s.frames.items f y)
-          (let l = h.shape.hand in let k = length-set s.frames.items f y in omega arith) takes.after.sound takes.after.limit (main-places s.places p f) (temp-places s.places p f));
+          (let l = h.shape.hand in let k = length-set s.frames.items f y in omega arith) takes.after.sound takes.after.limit (λ to k t. let l = new-placed s m w file n h.shape takes wide to k t in let e = places-same w p f to in omega arith) (λ to. room-same w p f to ∙ wide.room to));
       ok = record {
         in_file = refl;
         below_limit = takes.below;
@@ -160,7 +178,7 @@ makes-page file d s m f n h room takes few =
       };
       inside =
           ap (λ g. is_in g (place_at z.places) (key p)) (frames-set s.frames.items f y room.there)
-          ∙ ap (λ g. is_key_of (key p) (at (frame_at s.frames.items) f y (g (key p))).page) (place-set s.places p f in_range)
+          ∙ ap (λ g. is_key_of (key p) (at (frame_at s.frames.items) f y (g (key p))).page) noted
           ∙ ap (λ k. is_key_of (key p) (at (frame_at s.frames.items) f y k).page) (at-here (place_at s.places) (key p) f)
           ∙ ap (λ (x : Frame). is_key_of (key p) x.page) (at-here (frame_at s.frames.items) f y) ∙ is_key_of-here p;
     }
@@ -209,11 +227,19 @@ lets-go d s p h out =
     let same : picture_of d z ≡ b = λ i. record (picture_of d z) { frame = frames-set s.frames.items f y found.there i; current = length-set s.frames.items f y i } in record {
       whole = sound-of d s z b same step.coherent refl h
           (shape-kept s z h.shape (pins-less s.frames.items f y found.there pinned refl ∙ ap (λ n. n - 1) h.shape.counted) (let l = h.shape.few in omega arith) (length-set s.frames.items f y)
-          (let l = h.shape.hand in let k = length-set s.frames.items f y in omega arith) (λ m. m) refl refl refl);
+          (let l = h.shape.hand in let k = length-set s.frames.items f y in omega arith) (λ m. m) refl h.shape.placed (λ to. refl));
       after = ap shown same ∙ step.after;
     }
 
 -- A page that is given back, and another successor.
+
+given-placed : (s : Store) (m : Maps) (p : PageId) {links : ℕ → Option ℕ} → IsShaped s → MapsAfter s.maps m (at (taken_at s.maps) (key p) false) links
+    → (file : File) (n : ℕ) → taken_at m (key_in file n) ≡ true → n < places_in s.places file
+given-placed s m p h after file n t = h.placed file n (was-taken (taken_at s.maps) (key p) (key_in file n) (sym (ap (λ g. g (key_in file n)) after.taken) ∙ t))
+
+linked-placed : (s : Store) (m : Maps) (links : ℕ → Option ℕ) → IsShaped s → MapsAfter s.maps m (taken_at s.maps) links
+    → (file : File) (n : ℕ) → taken_at m (key_in file n) ≡ true → n < places_in s.places file
+linked-placed s m links h after file n t = h.placed file n (sym (ap (λ g. g (key_in file n)) after.taken) ∙ t)
 
 pub gives-back : (d : Disks) (s : Store) (m : Maps) (f : ℕ) (p : PageId) → IsSound d s → IsFoundAt s p f → (shown (picture_of d s)).pinned (key p) ≡ false
     → MapsAfter s.maps m (at (taken_at s.maps) (key p) false) (at (next_at s.maps) (key p) None)
@@ -233,7 +259,7 @@ gives-back d s m f p h found free after =
     } in record {
       whole = sound-of d s z b same step.coherent after.limit h
           (shape-kept s z h.shape (pins-same s.frames.items f y found.there refl ∙ h.shape.counted) h.shape.few (length-set s.frames.items f y)
-          (let l = h.shape.hand in let k = length-set s.frames.items f y in omega arith) after.sound after.limit refl refl);
+          (let l = h.shape.hand in let k = length-set s.frames.items f y in omega arith) after.sound after.limit (given-placed s m p h.shape after) (λ to. refl));
       after = ap shown same ∙ step.after;
     }
 
@@ -246,7 +272,7 @@ gives-back-out d s m p h out after =
     let b : Picture = record a { taken = at (taken_at s.maps) (key p) false; next = at (next_at s.maps) (key p) None } in
     let step : Becomes b (without_page (shown a) (key p)) = dropped a p h.coherent out in
     let same : picture_of d z ≡ b = λ i. record (picture_of d z) { limit = after.limit i; taken = after.taken i; next = after.next i } in record {
-      whole = sound-of d s z b same step.coherent after.limit h (shape-kept s z h.shape h.shape.counted h.shape.few refl h.shape.hand after.sound after.limit refl refl);
+      whole = sound-of d s z b same step.coherent after.limit h (shape-kept s z h.shape h.shape.counted h.shape.few refl h.shape.hand after.sound after.limit (given-placed s m p h.shape after) (λ to. refl));
       after = ap shown same ∙ step.after;
     }
 
@@ -258,7 +284,7 @@ links-on d s m p to h after =
     let b : Picture = record a { next = at (next_at s.maps) (key p) to } in
     let step : Becomes b (with_next (shown a) (key p) to) = linked a p to h.coherent in
     let same : picture_of d z ≡ b = λ i. record (picture_of d z) { limit = after.limit i; taken = after.taken i; next = after.next i } in record {
-      whole = sound-of d s z b same step.coherent after.limit h (shape-kept s z h.shape h.shape.counted h.shape.few refl h.shape.hand after.sound after.limit refl refl);
+      whole = sound-of d s z b same step.coherent after.limit h (shape-kept s z h.shape h.shape.counted h.shape.few refl h.shape.hand after.sound after.limit (linked-placed s m (at (next_at s.maps) (key p) to) h.shape after) (λ to. refl));
       after = ap shown same ∙ step.after;
     }
 
@@ -286,7 +312,7 @@ loan-sound d s p w h out =
     }))
     refl h
     (shape-kept s (with_frame s f x) h.shape (pins-same s.frames.items f x found.there refl ∙ h.shape.counted) h.shape.few (length-set s.frames.items f x)
-    (let l = h.shape.hand in let k = length-set s.frames.items f x in omega arith) (λ m. m) refl refl refl)
+    (let l = h.shape.hand in let k = length-set s.frames.items f x in omega arith) (λ m. m) refl h.shape.placed (λ to. refl))
 
 -- the bytes of a page that a pin holds are told
 pub pinned-bytes : (d : Disks) (s : Store) (p : PageId) → IsSound d s → (shown (picture_of d s)).pinned (key p) ≡ true

@@ -11,11 +11,9 @@ use Rattle.hg_base.specs.declared.File.TheVariants.{Main, Temp}
 use Rattle.hg_space.specs.PageMap.{PageMap, count_below}
 use Rattle.hg_pool.specs.Files.{by_key}
 use Rattle.hg_pool.specs.Keys.{by_key-main, by_key-temp}
-use Rattle.hg_pool.specs.Picture.{frame_at, no_frame, limit_of}
-use Rattle.hg_pool.specs.Sound.{pins_of, pinned_in, IsShaped}
-use Rattle.hg_pool.specs.Keeping.{places_in}
+use Rattle.hg_pool.specs.Picture.{frame_at, no_frame}
+use Rattle.hg_pool.specs.Sound.{pins_of, pinned_in}
 use Rattle.hg_pool.specs.declared.frames.Frame.{Frame}
-use Rattle.hg_pool.specs.declared.store.Store.{Store}
 
 -- the count of a map is that of the pages of its file
 pub count-main : (m t : PageMap) (n : ℕ) → count_below m n ≡ taken_below (by_key m.used t.used) Main n
@@ -86,8 +84,3 @@ pins-less frames f x h was now =
 -- a frame that the code looks at is the one at its number
 pub frame-here : (frames : List Frame) (f : ℕ) (x : Frame) → f < length frames → x ≡ slice_index_or frames f x → x ≡ frame_at frames f
 frame-here frames f x h e = grind (arith, nat_tests, common_steps)
-
--- each page of a file has a place
-pub places-limit : (s : Store) (file : File) → IsShaped s → places_in s.places file ≡ limit_of s.maps file
-places-limit s Main h = h.main_places
-places-limit s Temp h = h.temp_places

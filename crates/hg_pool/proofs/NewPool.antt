@@ -1,10 +1,11 @@
 -- A pool that is opened.
-use Rattle.std.specs.Prelude.{◌≡◌, ℕ, ◌/◌, ◌%◌, ◌==◌, ◌&&◌, ◌||◌, Bool, true, false, List, length, Option, None, Some, if◌then◌else◌, replicate}
+use Rattle.std.specs.Prelude.{◌≡◌, ℕ, ◌≤◌, ◌/◌, ◌%◌, ◌==◌, ◌&&◌, ◌||◌, Bool, true, false, List, length, Option, None, Some, if◌then◌else◌, replicate}
 use Rattle.std.proofs.Common.{sym, ◌∙◌, ap, subst, refl, arith, inl, inr}
+use Rattle.std.proofs.lemmas.Bool.{false≢true}
 use Rattle.std.proofs.lemmas.List.{get_or-replicate, length-replicate}
 use Rattle.std.proofs.Math.ListN.{get_or-eq_default}
 use Rattle.std.proofs.lemmas.List.Folds.{sum_by-replicate}
-use Rattle.hg_base.specs.Space.{Space, NoPins, key}
+use Rattle.hg_base.specs.Space.{Space, NoPins, key, key_in}
 use Rattle.hg_base.specs.SteadyLaws.{spaces_agree}
 use Rattle.hg_base.specs.declared.File.{File}
 use Rattle.hg_base.specs.declared.File.TheVariants.{Main, Temp}
@@ -12,7 +13,7 @@ use Rattle.hg_space.specs.Shown.{pages_of}
 use Rattle.hg_space.specs.PageMap as map
 use Rattle.hg_pool.specs.Files.{by_key}
 use Rattle.hg_pool.specs.Disks.{Disks}
-use Rattle.hg_pool.specs.Picture.{Picture, picture_of, shown, frame_at, place_at, taken_at, limit_of, no_heaps, no_frame, is_in, is_pinned, is_key_of, held_in, counts_of}
+use Rattle.hg_pool.specs.Picture.{Picture, picture_of, shown, frame_at, place_at, taken_at, limit_of, room_in, no_heaps, no_frame, is_in, is_pinned, is_key_of, held_in, counts_of}
 use Rattle.hg_pool.specs.Sound.{IsSound, pins_of, pinned_in}
 use Rattle.hg_pool.specs.Opening.{IsPossible, IsNewStore, new_space, limit_in, empty_frame}
 use Rattle.hg_pool.specs.Round.{first_round, round_in}
@@ -51,6 +52,15 @@ no-pin-of frames n f e = of-each (λ x. x.pinned) false frames n f refl refl e
 by_key-same : {X : Type 0} (a b : ℕ → X) (x : X) (q : ℕ) → ((n : ℕ) → a n ≡ x) → ((n : ℕ) → b n ≡ x) → by_key a b q ≡ x
 by_key-same a b x q h k = same-choice (q % 2 == 0) (a (q / 2)) (b (q / 2)) x (h (q / 2)) (k (q / 2))
 
+-- no page of a new store is taken, and there is room for a place of each
+new-free : (c : Config) (s : Store) → IsNewStore c s → (q : ℕ) → taken_at s.maps q ≡ false
+new-free c s h q = by_key-same (pages_of s.maps.main).used (pages_of s.maps.temp).used false q
+    (λ n. ap (λ (m : map.PageMap). m.used n) h.main_map) (λ n. ap (λ (m : map.PageMap). m.used n) h.temp_map)
+
+new-room : (c : Config) (s : Store) → IsNewStore c s → (file : File) → limit_of s.maps file ≤ room_in s.places file
+new-room c s h Main = let l = limits c s Main h in let k = h.main_room in omega arith
+new-room c s h Temp = let l = limits c s Temp h in let k = h.temp_room in omega arith
+
 pub new-sound : (c : Config) (d : Disks) (s : Store) → IsPossible c d.main.pages d.temp.pages → IsNewStore c s → IsSound d s
 new-sound c d s possible h =
     let count : length s.frames.items ≡ c.pool = ap length h.frames ∙ length-replicate {A = Frame} c.pool empty_frame in
@@ -71,8 +81,8 @@ new-sound c d s possible h =
         at_most = (let l = possible.reserved in let k = possible.at_most in omega arith);
         hand = (let l = h.hand in omega arith);
         maps = record { main = h.main_sound; temp = h.temp_sound };
-        main_places = h.main_places ∙ sym main;
-        temp_places = h.temp_places ∙ sym temp;
+        placed = λ file n t. absurd (false≢true (sym (new-free c s h (key_in file n)) ∙ t));
+        room = new-room c s h;
       };
       main_fits = (let l = possible.main_fits in omega arith);
       temp_fits = (let l = possible.temp_fits in omega arith);
@@ -81,8 +91,7 @@ new-sound c d s possible h =
 pub new-shown : (c : Config) (d : Disks) (s : Store) → IsNewStore c s → shown (picture_of d s) ≡ new_space c d
 new-shown c d s h =
     let v : Picture = picture_of d s in
-    let free : (q : ℕ) → v.taken q ≡ false = λ q. by_key-same (pages_of s.maps.main).used (pages_of s.maps.temp).used false q
-    (λ n. ap (λ (m : map.PageMap). m.used n) h.main_map) (λ n. ap (λ (m : map.PageMap). m.used n) h.temp_map) in
+    let free : (q : ℕ) → v.taken q ≡ false = new-free c s h in
     let next : (q : ℕ) → ◌≡◌ {A = Option ℕ} (v.next q) None = λ q. by_key-same (pages_of s.maps.main).next (pages_of s.maps.temp).next None q
     (λ n. ap (λ (m : map.PageMap). m.next n) h.main_map) (λ n. ap (λ (m : map.PageMap). m.next n) h.temp_map) in
     let out : (q : ℕ) → is_in v.frame v.place q ≡ false = λ q. ap (is_key_of q) (no-page-in s.frames.items c.pool (v.place q) h.frames) in

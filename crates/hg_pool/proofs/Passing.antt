@@ -13,9 +13,9 @@ use Rattle.hg_base.specs.declared.pages.PageFault.{PageFault}
 use Rattle.hg_base.specs.declared.pages.PageFault.TheVariants as fault
 use Rattle.hg_pool.specs.Files.{by_key}
 use Rattle.hg_pool.specs.Disks.{Disks, all_told, page_on, SameShape, same_pages_in, SamePages, SameButOne, DeviceCause}
-use Rattle.hg_pool.specs.Picture.{Picture, picture_of, counts_of, shown, frame_at, place_at, taken_at, limit_of, is_in, is_key_of}
+use Rattle.hg_pool.specs.Picture.{Picture, picture_of, counts_of, shown, frame_at, place_at, places_in, room_in, taken_at, limit_of, is_in, is_key_of}
 use Rattle.hg_pool.specs.Sound.{IsSound, IsShaped, IsCoherent, AreSound, pinned_in}
-use Rattle.hg_pool.specs.Keeping.{places_in, with_place, with_place_in, with_frame, counted, is_inside}
+use Rattle.hg_pool.specs.Keeping.{with_place, with_place_in, with_frame, counted, is_inside}
 use Rattle.hg_pool.specs.Passing.{Passes, LaterAnswers, Clears, IsClean, IsRoom}
 use Rattle.hg_pool.specs.Keys.{at-main, at-temp, at-here, at-other}
 use Rattle.hg_pool.specs.Loans.{frames-set}
@@ -39,33 +39,39 @@ place-set-in s Temp n f h =
 pub place-set : (s : Places) (page : PageId) (f : ℕ) → page.no < places_in s page.file → place_at (with_place s page f) ≡ at (place_at s) (key page) f
 place-set s page f h = place-set-in s page.file page.no f h
 
-main-places-in : (s : Places) (file : File) (n f : ℕ) → length (with_place_in s file n f).main.items ≡ length s.main.items
-main-places-in s Main n f = length-set s.main.items n f
-main-places-in s Temp n f = refl
+places-same-in : (s : Places) (file to : File) (n f : ℕ) → places_in (with_place_in s file n f) to ≡ places_in s to
+places-same-in s Main Main n f = length-set s.main.items n f
+places-same-in s Main Temp n f = refl
+places-same-in s Temp Main n f = refl
+places-same-in s Temp Temp n f = length-set s.temp.items n f
 
-temp-places-in : (s : Places) (file : File) (n f : ℕ) → length (with_place_in s file n f).temp.items ≡ length s.temp.items
-temp-places-in s Main n f = refl
-temp-places-in s Temp n f = length-set s.temp.items n f
+room-same-in : (s : Places) (file to : File) (n f : ℕ) → room_in (with_place_in s file n f) to ≡ room_in s to
+room-same-in s Main Main n f = refl
+room-same-in s Main Temp n f = refl
+room-same-in s Temp Main n f = refl
+room-same-in s Temp Temp n f = refl
 
-pub main-places : (s : Places) (page : PageId) (f : ℕ) → length (with_place s page f).main.items ≡ length s.main.items
-main-places s page f = main-places-in s page.file page.no f
+-- a place that is noted is none more
+pub places-same : (s : Places) (page : PageId) (f : ℕ) (to : File) → places_in (with_place s page f) to ≡ places_in s to
+places-same s page f to = places-same-in s page.file to page.no f
 
-pub temp-places : (s : Places) (page : PageId) (f : ℕ) → length (with_place s page f).temp.items ≡ length s.temp.items
-temp-places s page f = temp-places-in s page.file page.no f
+pub room-same : (s : Places) (page : PageId) (f : ℕ) (to : File) → room_in (with_place s page f) to ≡ room_in s to
+room-same s page f to = room-same-in s page.file to page.no f
 
--- the shape of a store whose maps, places and frames are as many as before
+-- the shape of a store whose frames and limits are as many as before, and whose taken pages have places
 pub shape-kept : (s z : Store) → IsShaped s → pinned_in z.frames.items ≡ z.pins → z.pins ≤ 8 → length z.frames.items ≡ length s.frames.items
     → z.hand ≤ length z.frames.items → (AreSound s.maps → AreSound z.maps) → limit_of z.maps ≡ limit_of s.maps
-    → length z.places.main.items ≡ length s.places.main.items → length z.places.temp.items ≡ length s.places.temp.items → IsShaped z
-shape-kept s z h counted few frames hand maps limit main temp = record {
+    → ((file : File) (n : ℕ) → taken_at z.maps (key_in file n) ≡ true → n < places_in z.places file)
+    → ((file : File) → room_in z.places file ≡ room_in s.places file) → IsShaped z
+shape-kept s z h counted few frames hand maps limit placed room = record {
   counted = counted;
   few = few;
   at_least = (let l = h.at_least in omega arith);
   at_most = (let l = h.at_most in omega arith);
   hand = hand;
   maps = maps h.maps;
-  main_places = main ∙ h.main_places ∙ sym (ap (λ l. l Main) limit);
-  temp_places = temp ∙ h.temp_places ∙ sym (ap (λ l. l Temp) limit);
+  placed = placed;
+  room = λ file. let l = ap (λ g. g file) limit in let k = room file in let m = h.room file in omega arith;
 }
 
 -- a fault of a device that was counted
@@ -198,7 +204,7 @@ moved d s hand n x h l =
     let z : Store = record s { hand = hand; counts = n } in record {
       whole = record {
         coherent = h.coherent;
-        shape = shape-kept s z h.shape h.shape.counted h.shape.few refl l (λ m. m) refl refl refl;
+        shape = shape-kept s z h.shape h.shape.counted h.shape.few refl l (λ m. m) refl h.shape.placed (λ to. refl);
         main_fits = h.main_fits;
         temp_fits = h.temp_fits;
       };
@@ -217,7 +223,7 @@ wrote-not {X} d e s n a f p x h page dirty kept cause later counts =
     let b : Picture = record (picture_of d s) { page = page_on e; counts = counts_of e z } in
     let keeps : Keeps (picture_of d s) b = write-failed (picture_of d s) f p (page_on e) (counts_of e z) h.coherent page dirty kept.others in
     let same : picture_of e z ≡ b = λ i. record (picture_of e z) { told = kept.shape.told i; device_limit = same_pages_in d e kept.shape i } in record {
-      whole = keeps-sound d e s z b same keeps kept.shape refl h (shape-kept s z h.shape h.shape.counted h.shape.few refl h.shape.hand (λ m. m) refl refl refl);
+      whole = keeps-sound d e s z b same keeps kept.shape refl h (shape-kept s z h.shape h.shape.counted h.shape.few refl h.shape.hand (λ m. m) refl h.shape.placed (λ to. refl));
       same = keeps-same d e s z b same keeps;
       later = later-of {X = X} d e s z (Err x) cause later;
       counts = device-counts {X = X} d e s z x cause counts;
@@ -235,13 +241,14 @@ wrote d e s n f p x h there page kept cause put =
     let b : Picture = record (picture_of d s) { frame = at (frame_at s.frames.items) f y; page = page_on e; counts = counts_of e z } in
     let keeps : Keeps (picture_of d s) b = cleaned (picture_of d s) f p (page_on e) (counts_of e z) h.coherent page put kept.others in
     let same : picture_of e z ≡ b = λ i. record (picture_of e z) {
-      told = kept.shape.told i; device_limit = same_pages_in d e kept.shape i;
+      told = kept.shape.told i;
+      device_limit = same_pages_in d e kept.shape i;
       frame = frames-set s.frames.items f y there i;
       current = length-set s.frames.items f y i;
     } in record {
       whole = keeps-sound d e s z b same keeps kept.shape refl h
           (shape-kept s z h.shape (pins-same s.frames.items f y there refl ∙ h.shape.counted) h.shape.few (length-set s.frames.items f y)
-          (let l = h.shape.hand in let k = length-set s.frames.items f y in omega arith) (λ m. m) refl refl refl);
+          (let l = h.shape.hand in let k = length-set s.frames.items f y in omega arith) (λ m. m) refl h.shape.placed (λ to. refl));
       same = keeps-same d e s z b same keeps;
       later = later-same d e s z (Ok x) cause refl;
       counts = same-counts d e s z x cause refl;
@@ -260,7 +267,7 @@ cleared d s n f x h there clean free =
     let same : picture_of d z ≡ b = λ i. record (picture_of d z) { frame = frames-set s.frames.items f y there i; current = length-set s.frames.items f y i } in record {
       whole = keeps-sound d d s z b same keeps (same-disks d) refl h
           (shape-kept s z h.shape (pins-same s.frames.items f y there refl ∙ h.shape.counted) h.shape.few (length-set s.frames.items f y)
-          (let l = h.shape.hand in let k = length-set s.frames.items f y in omega arith) (λ m. m) refl refl refl);
+          (let l = h.shape.hand in let k = length-set s.frames.items f y in omega arith) (λ m. m) refl h.shape.placed (λ to. refl));
       same = keeps-same d d s z b same keeps;
       later = Later_same (counts_of d s);
       counts = refl;
@@ -278,13 +285,14 @@ read-not {X} d e s n a f bytes x h there page kept cause later counts =
     let b : Picture = record (picture_of d s) { frame = at (frame_at s.frames.items) f y; page = page_on e; counts = counts_of e z } in
     let keeps : Keeps (picture_of d s) b = blurred (picture_of d s) f y (page_on e) (counts_of e z) h.coherent page page kept.pages in
     let same : picture_of e z ≡ b = λ i. record (picture_of e z) {
-      told = kept.shape.told i; device_limit = same_pages_in d e kept.shape i;
+      told = kept.shape.told i;
+      device_limit = same_pages_in d e kept.shape i;
       frame = frames-set s.frames.items f y there i;
       current = length-set s.frames.items f y i;
     } in record {
       whole = keeps-sound d e s z b same keeps kept.shape refl h
           (shape-kept s z h.shape (pins-same s.frames.items f y there refl ∙ h.shape.counted) h.shape.few (length-set s.frames.items f y)
-          (let l = h.shape.hand in let k = length-set s.frames.items f y in omega arith) (λ m. m) refl refl refl);
+          (let l = h.shape.hand in let k = length-set s.frames.items f y in omega arith) (λ m. m) refl h.shape.placed (λ to. refl));
       same = keeps-same d e s z b same keeps;
       later = later-of {X = X} d e s z (Err x) cause later;
       counts = device-counts {X = X} d e s z x cause counts;
@@ -305,14 +313,15 @@ read-in d e s n f bytes p x h room kept cause whole gives taken out in_range =
     let frames : frame_at (slice_set s.frames.items f y) ≡ at (frame_at s.frames.items) f y' =
     frames-set s.frames.items f y room.there ∙ ap (λ k. at (frame_at s.frames.items) f (record y { pinned = k })) room.free in
     let same : picture_of e z ≡ b = λ i. record (picture_of e z) {
-      told = kept.shape.told i; device_limit = same_pages_in d e kept.shape i;
+      told = kept.shape.told i;
+      device_limit = same_pages_in d e kept.shape i;
       frame = frames i;
       place = place-set s.places p f in_range i;
       current = length-set s.frames.items f y i;
     } in record {
       whole = keeps-sound d e s z b same keeps kept.shape refl h
           (shape-kept s z h.shape (pins-same s.frames.items f y room.there refl ∙ h.shape.counted) h.shape.few (length-set s.frames.items f y)
-          (let l = h.shape.hand in let k = length-set s.frames.items f y in omega arith) (λ m. m) refl (main-places s.places p f) (temp-places s.places p f));
+          (let l = h.shape.hand in let k = length-set s.frames.items f y in omega arith) (λ m. m) refl (λ to k t. let l = h.shape.placed to k t in let e = places-same s.places p f to in omega arith) (room-same s.places p f));
       same = keeps-same d e s z b same keeps;
       later = later-same d e s z (Ok x) cause refl;
       counts = same-counts d e s z x cause refl;

@@ -6,13 +6,14 @@ use Rattle.std.proofs.lemmas.Bool.Decides.{nat_tests}
 use Rattle.hg_base.specs.Space.{key}
 use Rattle.hg_base.specs.declared.PageId.{PageId}
 use Rattle.hg_pool.specs.Disks.{Disks}
-use Rattle.hg_pool.specs.Picture.{shown, picture_of, frame_at, place_at}
+use Rattle.hg_pool.specs.Picture.{shown, picture_of, frame_at, place_at, places_in}
 use Rattle.hg_pool.specs.Sound.{IsSound}
-use Rattle.hg_pool.specs.Keeping.{places_in, with_place}
+use Rattle.hg_pool.specs.Keeping.{with_place}
 use Rattle.hg_pool.specs.Keys.{at-here}
 use Rattle.hg_pool.specs.Passing.{AreEmpty, Reaches}
 use Rattle.hg_pool.specs.Round.{Round, IsNext, Stays, ComesIn, way_to, with_out}
 use Rattle.hg_pool.specs.Work.{IsUnused, CallsNone}
+use Rattle.hg_pool.specs.declared.places.Places.{Places}
 use Rattle.hg_pool.specs.declared.store.Store.{Store}
 use Rattle.hg_pool.proofs.Passing.{place-set}
 
@@ -85,8 +86,8 @@ stays-in a b c e f g same kept held is = record {
 }
 
 -- the frame that was noted for a page is its place
-pub noted-place : (s : Store) (page : PageId) (f : ℕ) → page.no < places_in s.places page.file → place_at (with_place s.places page f) (key page) ≡ f
-noted-place s page f h = ap (λ g. g (key page)) (place-set s.places page f h) ∙ at-here (place_at s.places) (key page) f
+pub noted-place : (s : Places) (page : PageId) (f : ℕ) → page.no < places_in s page.file → place_at (with_place s page f) (key page) ≡ f
+noted-place s page f h = ap (λ g. g (key page)) (place-set s page f h) ∙ at-here (place_at s) (key page) f
 
 -- A call that called no device, along another answer.
 

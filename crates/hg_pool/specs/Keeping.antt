@@ -1,11 +1,11 @@
 -- What the calls on the parts of a pool leave of them. Our own rule.
-use Rattle.std.specs.Prelude.{◌≡◌, ℕ, ◌<◌, Bool, true, false, length, Option, None, Some}
+use Rattle.std.specs.Prelude.{◌≡◌, ℕ, ◌<◌, ◌≤◌, Bool, true, false, length, Option, None, Some}
 use Rattle.std.specs.Vec.{with_item}
 use Rattle.hg_base.specs.Space.{at, key, key_in, zero_page}
 use Rattle.hg_base.specs.declared.File.{File}
 use Rattle.hg_base.specs.declared.File.TheVariants.{Main, Temp}
 use Rattle.hg_base.specs.declared.PageId.{PageId}
-use Rattle.hg_pool.specs.Picture.{frame_at, place_at, taken_at, next_at, limit_of, is_in}
+use Rattle.hg_pool.specs.Picture.{frame_at, place_at, places_in, room_in, taken_at, next_at, limit_of, is_in}
 use Rattle.hg_pool.specs.Sound.{AreSound}
 use Rattle.hg_pool.specs.declared.frames.Frame.{Frame}
 use Rattle.hg_pool.specs.declared.places.Places.{Places}
@@ -16,11 +16,6 @@ use Rattle.hg_io.specs.Count.{raised}
 use Rattle.hg_base.specs.declared.pages.PageFault.{PageFault}
 use Rattle.hg_base.specs.declared.pages.PageFault.TheVariants as fault
 
--- how many pages of a file have a place
-abbrev pub places_in : Places → File → ℕ
-places_in s Main = length s.main.items
-places_in s Temp = length s.temp.items
-
 abbrev pub with_place_in : Places → File → ℕ → ℕ → Places
 with_place_in s Main n f = record s { main = with_item s.main n f }
 with_place_in s Temp n f = record s { temp = with_item s.temp n f }
@@ -28,6 +23,13 @@ with_place_in s Temp n f = record s { temp = with_item s.temp n f }
 -- the page was brought into the frame f last
 abbrev pub with_place : Places → PageId → ℕ → Places
 with_place s page f = with_place_in s page.file page.no f
+
+-- each page has the place that it had, and this one has a place of its own
+pub record Widened (a b : Places) (page : PageId) : Type 0 where
+  pub same : place_at b ≡ place_at a
+  pub there : page.no < places_in b page.file
+  pub wider : (file : File) → places_in a file ≤ places_in b file
+  pub room : (file : File) → room_in b file ≡ room_in a file
 
 -- maps that have these pages taken and these successors, of as many pages as before
 pub record MapsAfter (a b : Maps) (pages : ℕ → Bool) (links : ℕ → Option ℕ) : Type 0 where

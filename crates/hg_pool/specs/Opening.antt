@@ -1,5 +1,5 @@
 -- A pool that is opened. Our own rule.
-use Rattle.std.specs.Prelude.{◌≡◌, ℕ, ◌≤◌, false, None, length, replicate}
+use Rattle.std.specs.Prelude.{◌≡◌, ℕ, ◌≤◌, false, None, replicate, vec_capacity}
 use Rattle.hg_base.specs.Space.{Space, zero_page}
 use Rattle.hg_base.specs.declared.File.{File}
 use Rattle.hg_base.specs.declared.File.TheVariants.{Main, Temp}
@@ -57,8 +57,8 @@ no_counts = record { reads = 0; writes = 0; evictions = 0 }
 -- what a new pool keeps
 pub record IsNewStore (c : Config) (s : Store) : Type 0 where
   pub frames : s.frames.items ≡ replicate c.pool empty_frame
-  pub main_places : length s.places.main.items ≡ c.main_pages
-  pub temp_places : length s.places.temp.items ≡ c.temp_pages
+  pub main_room : c.main_pages ≤ vec_capacity s.places.main
+  pub temp_room : c.temp_pages ≤ vec_capacity s.places.temp
   pub main_map : pages_of s.maps.main ≡ map.unused_pages c.main_pages
   pub temp_map : pages_of s.maps.temp ≡ map.unused_pages c.temp_pages
   pub main_sound : map.IsSound (pages_of s.maps.main)

@@ -1,6 +1,6 @@
 -- What a pool comes down to, as functions of the key of a page and of the number of a frame, and the
 -- space that it shows. Our own rule.
-use Rattle.std.specs.Prelude.{ℕ, ◌==◌, ◌&&◌, ◌||◌, Bool, false, List, [], length, Option, None, Some, if◌then◌else◌, slice_index_or}
+use Rattle.std.specs.Prelude.{ℕ, ◌==◌, ◌&&◌, ◌||◌, Bool, false, List, [], length, Option, None, Some, if◌then◌else◌, slice_index_or, vec_capacity}
 use Rattle.hg_base.specs.Content.{Heaps}
 use Rattle.hg_base.specs.Space.{Space, Counts, key}
 use Rattle.hg_base.specs.declared.File.{File}
@@ -24,6 +24,15 @@ frame_at frames f = slice_index_or frames f no_frame
 -- the frame in which the page with that key may be
 abbrev pub place_at : Places → ℕ → ℕ
 place_at places = by_key (λ n. slice_index_or places.main.items n 0) (λ n. slice_index_or places.temp.items n 0)
+
+-- how many pages of a file have a place of their own, and for how many there is room
+abbrev pub places_in : Places → File → ℕ
+places_in s Main = length s.main.items
+places_in s Temp = length s.temp.items
+
+abbrev pub room_in : Places → File → ℕ
+room_in s Main = vec_capacity s.main
+room_in s Temp = vec_capacity s.temp
 
 abbrev pub taken_at : Maps → ℕ → Bool
 taken_at maps = by_key (pages_of maps.main).used (pages_of maps.temp).used

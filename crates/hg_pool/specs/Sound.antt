@@ -1,11 +1,12 @@
 -- What holds of every pool. Our own rule.
-use Rattle.std.specs.Prelude.{◌≡◌, ℕ, ◌≤◌, true, false, List, length, Some, sum_by, if◌then◌else◌}
-use Rattle.hg_base.specs.Space.{key}
+use Rattle.std.specs.Prelude.{◌≡◌, ℕ, ◌<◌, ◌≤◌, true, false, List, length, Some, sum_by, if◌then◌else◌}
+use Rattle.hg_base.specs.Space.{key, key_in}
+use Rattle.hg_base.specs.declared.File.{File}
 use Rattle.hg_base.specs.declared.PageId.{PageId}
 use Rattle.hg_space.specs.Shown.{pages_of}
 use Rattle.hg_space.specs.PageMap as map
 use Rattle.hg_pool.specs.Disks.{Disks}
-use Rattle.hg_pool.specs.Picture.{Picture, picture_of}
+use Rattle.hg_pool.specs.Picture.{Picture, picture_of, taken_at, limit_of, places_in, room_in}
 use Rattle.hg_pool.specs.declared.frames.Frame.{Frame}
 use Rattle.hg_pool.specs.declared.maps.Maps.{Maps}
 use Rattle.hg_pool.specs.declared.store.Store.{Store}
@@ -41,8 +42,9 @@ pub record IsShaped (s : Store) : Type 0 where
   pub at_most : length s.frames.items ≤ 65536
   pub hand : s.hand ≤ length s.frames.items
   pub maps : AreSound s.maps
-  pub main_places : length s.places.main.items ≡ (pages_of s.maps.main).limit
-  pub temp_places : length s.places.temp.items ≡ (pages_of s.maps.temp).limit
+  -- each page that is taken has a place, and there is room for one of each page
+  pub placed : (file : File) (n : ℕ) → taken_at s.maps (key_in file n) ≡ true → n < places_in s.places file
+  pub room : (file : File) → limit_of s.maps file ≤ room_in s.places file
 
 pub record IsSound (d : Disks) (s : Store) : Type 0 where
   pub coherent : IsCoherent (picture_of d s)

@@ -86,6 +86,7 @@ impl<M: PageDevice, T: PageDevice> Parts<M, T> {
             None => unreachable!(),
             Some(no) => {
                 let page = PageId { file, no };
+                self.store.places.reach(page);
                 self.store.set_new(at, page);
                 Ok(page)
             }

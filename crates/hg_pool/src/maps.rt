@@ -24,6 +24,16 @@ impl Maps {
         }
     }
 
+    /// How many pages the file may have.
+    pub(crate) fn limit(&self, file: File) -> u32
+        ensures { result ≡ limit_of self.now file }
+    {
+        match file {
+            File::Main => self.main.limit(),
+            File::Temp => self.temp.limit(),
+        }
+    }
+
     /// How many pages of the file are taken.
     pub(crate) fn used(&self, file: File) -> u32
         ensures { result ≡ taken_below (taken_at self.now) file (limit_of self.now file) }

@@ -1,5 +1,5 @@
 //! The store of a new pool.
-ghost use Rattle.std.specs.Prelude.{◌≡◌, ◌≤◌, IfOk, vec_len, replicate};
+ghost use Rattle.std.specs.Prelude.{◌≡◌, ◌≤◌, IfOk, vec_capacity, replicate};
 ghost use Rattle.hg_pool.specs.Opening.{empty_frame, IsNewStore};
 
 use crate::frames::Frame;
@@ -23,14 +23,14 @@ fn frames(alloc: Global, count: u32, room: u32) -> Result<Vec<Frame>, AllocError
     Ok(made)
 }
 
-/// The places of the pages of both files.
+/// Room for the places of the pages of both files.
 fn places(alloc: Global, main_pages: u32, temp_pages: u32) -> Result<Places, AllocError>
-    ensures main { IfOk result (λ made. vec_len made.main ≡ main_pages) }
-    ensures temp { IfOk result (λ made. vec_len made.temp ≡ temp_pages) }
+    ensures main { IfOk result (λ made. vec_capacity made.main ≡ main_pages) }
+    ensures temp { IfOk result (λ made. vec_capacity made.temp ≡ temp_pages) }
 {
     Ok(Places {
-        main: vec![in alloc; 0; main_pages as usize]?,
-        temp: vec![in alloc; 0; temp_pages as usize]?,
+        main: Vec::with_capacity(alloc, main_pages as usize)?,
+        temp: Vec::with_capacity(alloc, temp_pages as usize)?,
     })
 }
 

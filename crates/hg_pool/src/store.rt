@@ -1,9 +1,9 @@
 //! What a pool keeps in memory.
 ghost use Rattle.std.specs.Prelude.{◌≡◌, ℕ, ◌+◌, ◌-◌, ◌<◌, ◌≤◌, ◌↔◌, true, false, None, Some, IsTrue, IfSome, IfNone, length};
 ghost use Rattle.hg_base.specs.Space.{key};
-ghost use Rattle.hg_pool.specs.Picture.{frame_at, place_at, taken_at, is_pinned};
+ghost use Rattle.hg_pool.specs.Picture.{frame_at, place_at, places_in, taken_at, is_pinned};
 ghost use Rattle.hg_pool.specs.Sound.{IsShaped};
-ghost use Rattle.hg_pool.specs.Keeping.{places_in, with_place, with_frame, IsFoundAt, IsFullIn, is_inside, new_frame};
+ghost use Rattle.hg_pool.specs.Keeping.{with_place, with_frame, IsFoundAt, IsFullIn, is_inside, new_frame};
 ghost use Rattle.hg_pool.specs.Passing.{IsClean};
 ghost use Rattle.hg_pool.specs.Round.{IsNext, round_in};
 ghost use Rattle.hg_io.specs.Count.{raised};
@@ -63,7 +63,6 @@ pub(crate) struct Store {
 impl Store {
     /// The frame that the page is in.
     pub(crate) fn find(&self, page: PageId) -> Option<usize>
-        requires { page.no < places_in self.now.places page.file }
         ensures found { IfSome result (λ f. IsFoundAt self.now page f) }
         ensures none { IfNone result (is_inside self.now (key page) ≡ false) }
     {
@@ -77,7 +76,6 @@ impl Store {
 
     /// Whether a pin holds the page.
     fn is_pinned(&self, page: PageId) -> bool
-        requires { page.no < places_in self.now.places page.file }
         ensures { result ≡ is_pinned (frame_at self.now.frames.items) (place_at self.now.places) (key page) }
     {
         match self.find(page) {
@@ -100,13 +98,12 @@ impl Store {
         requires { IsShaped self.now }
         ensures { IsTrue result ↔ IsFullIn self.now.maps file }
     {
-        self.maps.used(file) as usize == self.places.limit(file)
+        self.maps.used(file) == self.maps.limit(file)
     }
 
     /// The bytes of a page that is in a frame.
     pub(crate) fn bytes(&self, page: PageId) -> &[u8]
-        requires in_range { page.no < places_in self.now.places page.file }
-        requires there { place_at self.now.places (key page) < length self.now.frames.items }
+        requires { place_at self.now.places (key page) < length self.now.frames.items }
         ensures value { result.now ≡ (frame_at self.now.frames.items (place_at self.now.places (key page))).bytes }
         ensures whole { length result.now ≡ 4096 }
     {

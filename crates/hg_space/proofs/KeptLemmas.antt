@@ -15,6 +15,10 @@ pub page-within : (s seen : Kept) (n : ℕ) → s ≡ seen → (pages_of seen).u
 unfolding pages_of
 page-within s seen n e used = used-within s n (ap (λ x. is_used x n) e ∙ used)
 
+pub limit-seen : (s seen : Kept) → s ≡ seen → s.limit ≡ (pages_of seen).limit
+unfolding pages_of
+limit-seen s seen e = ap (λ x. x.limit) e
+
 pub sound-seen : (s seen : Kept) → s ≡ seen → reached s ≤ s.limit → IsSound (pages_of seen)
 sound-seen s seen e within = let P : Kept → Type 0 = λ x. IsSound (pages_of x) in subst P e (pages_of_sound s within)
 

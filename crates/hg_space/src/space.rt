@@ -125,6 +125,13 @@ impl Space {
         self.used -= 1;
     }
 
+    /// How many pages there are, used or not.
+    pub fn limit(&self) -> u32
+        ensures { result ≡ (pages_of self.now).limit }
+    {
+        self.limit
+    }
+
     /// How many pages are used.
     pub fn used(&self) -> u32
         ensures count { result ≡ used_count (pages_of self.now) }

@@ -35,7 +35,6 @@ returns-clause-passes g c =
     passes-then d e k s c.room.new.self.store c.load.new.self.store c.in_ok-at.at (Ok c.in_ok-at.at) c.in_ok-at.ensures.passes
     (passes-ok e k c.room.new.self.store c.load.new.self.store u c.in_ok-at.at c.in_ok-load.ensures.passes)
 
-
 -- the page of the next frame left it, and the read into that frame failed
 pub returns-in_err-load-clause-refused : goal.returns-in_err-load-clause-refused
 returns-in_err-load-clause-refused g c =

@@ -1,18 +1,19 @@
 use Rattle.std.proofs.Common.{◌≡◌, ℕ, ◌+◌, ◌<◌, ◌∙◌, ap, sym, subst, refl, arith, Result, OnErr}
-use Rattle.hg_base.specs.Space.{key, IsMade, IsFull}
+use Rattle.hg_base.specs.Space.{at, key, IsMade, IsFull}
 use Rattle.hg_base.specs.declared.PageId.{PageId}
 use Rattle.hg_base.specs.declared.pages.PageFault.{PageFault}
 use Rattle.hg_pool.specs.Disks.{Disks, disks_in}
-use Rattle.hg_pool.specs.Picture.{shown, picture_of, place_at}
+use Rattle.hg_pool.specs.Picture.{shown, picture_of, place_at, places_in}
 use Rattle.hg_pool.specs.Sound.{IsSound}
-use Rattle.hg_pool.specs.Keeping.{places_in, with_frame, with_place, new_frame, IsFullIn, is_inside}
+use Rattle.hg_pool.specs.Keeping.{with_frame, with_place, new_frame, IsFullIn, is_inside}
 use Rattle.hg_pool.specs.declared.maps.Maps.{Maps}
 use Rattle.hg_pool.specs.declared.store.Store.{Store}
 use Rattle.std.proofs.lemmas.Bool.{false≢true}
 use Rattle.std.proofs.lemmas.Result.{err_from_is_err_and}
 use Rattle.hg_pool.proofs.Calling.{makes-page, made-behind}
 use Rattle.hg_pool.specs.Round.{PassesNext, with_out, round_in}
-use Rattle.hg_pool.proofs.Ranges.{free-place}
+use Rattle.hg_pool.proofs.Ranges.{next-place, next-room}
+use Rattle.hg_pool.specs.declared.places.Places.{Places}
 use Rattle.hg_pool.specs.RoundLaws.{round-held}
 use Rattle.hg_pool.proofs.Rounds.{comes-in, noted-place, all-empty}
 use Rattle.hg_pool.specs.Shown.{frame_of, page_in, KeepsFrames}
@@ -37,8 +38,8 @@ returns-clause-whole g c =
     let z : Store = c.room.new.self.store in
     let few : z.pins < 8 = (let l = c.in_ok-at.ensures.clears.pins in let k = c.requires.few in omega arith) in
     let page : PageId = record { file = c.args.file; no = c.in-Some.no } in
-    let makes = makes-page c.args.file e z c.take.new.self c.in_ok-at.at c.in-Some.no c.in_ok-at.ensures.passes.whole c.in_ok-at.ensures.room c.in-Some.ensures.some few in
-    let made : Store = record (with_frame z c.in_ok-at.at (new_frame page)) { places = with_place z.places page c.in_ok-at.at; pins = z.pins + 1; maps = c.take.new.self } in
+    let makes = makes-page c.args.file e z c.take.new.self c.reach.new.self c.in_ok-at.at c.in-Some.no c.in_ok-at.ensures.passes.whole c.in_ok-at.ensures.room c.in-Some.ensures.some c.reach.ensures few in
+    let made : Store = record (with_frame z c.in_ok-at.at (new_frame page)) { places = with_place c.reach.new.self page c.in_ok-at.at; pins = z.pins + 1; maps = c.take.new.self } in
     let after : c.set_new.new.self ≡ made = c.set_new.ensures in
     let P : Store → Type 0 = λ y. IsSound e y in subst P (sym after) makes.whole
 
@@ -50,8 +51,8 @@ returns-clause-ok g c =
     let z : Store = c.room.new.self.store in
     let few : z.pins < 8 = (let l = c.in_ok-at.ensures.clears.pins in let k = c.requires.few in omega arith) in
     let page : PageId = record { file = c.args.file; no = c.in-Some.no } in
-    let makes = makes-page c.args.file e z c.take.new.self c.in_ok-at.at c.in-Some.no c.in_ok-at.ensures.passes.whole c.in_ok-at.ensures.room c.in-Some.ensures.some few in
-    let made : Store = record (with_frame z c.in_ok-at.at (new_frame page)) { places = with_place z.places page c.in_ok-at.at; pins = z.pins + 1; maps = c.take.new.self } in
+    let makes = makes-page c.args.file e z c.take.new.self c.reach.new.self c.in_ok-at.at c.in-Some.no c.in_ok-at.ensures.passes.whole c.in_ok-at.ensures.room c.in-Some.ensures.some c.reach.ensures few in
+    let made : Store = record (with_frame z c.in_ok-at.at (new_frame page)) { places = with_place c.reach.new.self page c.in_ok-at.at; pins = z.pins + 1; maps = c.take.new.self } in
     let after : c.set_new.new.self ≡ made = c.set_new.ensures in
     let P : Store → Type 0 = λ y. IsMade c.args.file (shown (picture_of d s)) (shown (picture_of e y)) page in
     subst P (sym after) (made-behind c.args.file (shown (picture_of d s)) (shown (picture_of e z)) _ page c.in_ok-at.ensures.passes.same makes.ok)
@@ -64,8 +65,8 @@ returns-clause-in_frame g c =
     let z : Store = c.room.new.self.store in
     let few : z.pins < 8 = (let l = c.in_ok-at.ensures.clears.pins in let k = c.requires.few in omega arith) in
     let page : PageId = record { file = c.args.file; no = c.in-Some.no } in
-    let makes = makes-page c.args.file e z c.take.new.self c.in_ok-at.at c.in-Some.no c.in_ok-at.ensures.passes.whole c.in_ok-at.ensures.room c.in-Some.ensures.some few in
-    let made : Store = record (with_frame z c.in_ok-at.at (new_frame page)) { places = with_place z.places page c.in_ok-at.at; pins = z.pins + 1; maps = c.take.new.self } in
+    let makes = makes-page c.args.file e z c.take.new.self c.reach.new.self c.in_ok-at.at c.in-Some.no c.in_ok-at.ensures.passes.whole c.in_ok-at.ensures.room c.in-Some.ensures.some c.reach.ensures few in
+    let made : Store = record (with_frame z c.in_ok-at.at (new_frame page)) { places = with_place c.reach.new.self page c.in_ok-at.at; pins = z.pins + 1; maps = c.take.new.self } in
     let after : c.set_new.new.self ≡ made = c.set_new.ensures in
     ap (λ (y : Store). is_inside y (key page)) after ∙ makes.inside
 
@@ -75,9 +76,10 @@ returns-clause-comes g c =
     let z : Store = c.room.new.self.store in
     let i : ℕ = c.in_ok-at.at in
     let page : PageId = record { file = c.args.file; no = c.in-Some.no } in
-    let in_range : c.in-Some.no < places_in z.places c.args.file = free-place z c.take.new.self c.args.file c.in-Some.no c.in_ok-at.ensures.passes.whole.shape c.in-Some.ensures.some in
+    let w : Places = c.reach.new.self in
+    let in_range : c.in-Some.no < places_in w c.args.file = c.reach.ensures.there in
     let held : round_in c.set_new.new.self ≡ with_out (round_in z) i = ap round_in c.set_new.ensures ∙ round-held z i (new_frame page) c.in_ok-at.ensures.room.there refl in
-    let place : place_at c.set_new.new.self.places (key page) ≡ i = ap (λ (y : Store). place_at y.places (key page)) c.set_new.ensures ∙ noted-place z page i in_range in
+    let place : place_at c.set_new.new.self.places (key page) ≡ i = ap (λ (y : Store). place_at y.places (key page)) c.set_new.ensures ∙ noted-place w page i in_range in
     comes-in (round_in s) (round_in z) (round_in c.set_new.new.self) i _ c.in_ok-at.ensures.reaches held place
 
 pub returns-in_err-at-clause-passes_next : goal.returns-in_err-at-clause-passes_next
@@ -113,10 +115,11 @@ returns-clause-keeps_frames g c =
     let i : ℕ = c.in_ok-at.at in
     let room = c.in_ok-at.ensures.room in
     let page : PageId = record { file = c.args.file; no = c.in-Some.no } in
-    let in_range : c.in-Some.no < places_in z.places c.args.file = free-place z c.take.new.self c.args.file c.in-Some.no c.in_ok-at.ensures.passes.whole.shape c.in-Some.ensures.some in
-    let place : frame_of b page ≡ i = ap (λ (y : Store). place_at y.places (key page)) c.set_new.ensures ∙ noted-place z page i in_range in
+    let w : Places = c.reach.new.self in
+    let in_range : c.in-Some.no < places_in w c.args.file = c.reach.ensures.there in
+    let place : frame_of b page ≡ i = ap (λ (y : Store). place_at y.places (key page)) c.set_new.ensures ∙ noted-place w page i in_range in
     let fills : KeepsFrames m b page i = frame-filled m b page i (new_frame page) room.there room.none refl
-    (ap (λ (y : Store). y.frames.items) c.set_new.ensures) (ap (λ (y : Store). place_at y.places) c.set_new.ensures ∙ place-set z.places page i in_range) in
+    (ap (λ (y : Store). y.frames.items) c.set_new.ensures) (ap (λ (y : Store). place_at y.places) c.set_new.ensures ∙ place-set w page i in_range ∙ ap (λ g. at g (key page) i) c.reach.ensures.same) in
     let P : ℕ → Type 0 = λ k. KeepsFrames a b page k in
     subst P (sym place) (keeps-then-but a m b page i c.in_ok-at.ensures.keeps fills)
 
@@ -126,8 +129,9 @@ returns-clause-evicts g c =
     let z : Store = c.room.new.self.store in
     let i : ℕ = c.in_ok-at.at in
     let page : PageId = record { file = c.args.file; no = c.in-Some.no } in
-    let in_range : c.in-Some.no < places_in z.places c.args.file = free-place z c.take.new.self c.args.file c.in-Some.no c.in_ok-at.ensures.passes.whole.shape c.in-Some.ensures.some in
-    let place : place_at c.set_new.new.self.places (key page) ≡ i = ap (λ (y : Store). place_at y.places (key page)) c.set_new.ensures ∙ noted-place z page i in_range in
+    let w : Places = c.reach.new.self in
+    let in_range : c.in-Some.no < places_in w c.args.file = c.reach.ensures.there in
+    let place : place_at c.set_new.new.self.places (key page) ≡ i = ap (λ (y : Store). place_at y.places (key page)) c.set_new.ensures ∙ noted-place w page i in_range in
     ap (λ (y : Store). y.counts.evictions) c.set_new.ensures ∙ c.in_ok-at.ensures.evicts
     ∙ ap (λ (k : ℕ). evicted (page_in a k) a.store.counts.evictions) (sym place)
 
@@ -138,3 +142,10 @@ returns-clause-uncounted g c =
 pub returns-in_err-at-clause-uncounted : goal.returns-in_err-at-clause-uncounted
 returns-in_err-at-clause-uncounted g c = λ same reads writes. c.in_err-at.ensures.uncounted (ap (λ n. n.writes) same) writes
 
+pub reach-requires-clause-near : goal.reach-requires-clause-near
+reach-requires-clause-near g c =
+    next-place c.room.new.self.store c.take.new.self c.args.file c.in-Some.no c.in_ok-at.ensures.passes.whole.shape c.in-Some.ensures.some
+
+pub reach-requires-clause-room : goal.reach-requires-clause-room
+reach-requires-clause-room g c =
+    next-room c.room.new.self.store c.take.new.self c.args.file c.in-Some.no c.in_ok-at.ensures.passes.whole.shape c.in-Some.ensures.some
