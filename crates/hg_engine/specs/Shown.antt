@@ -1,6 +1,6 @@
 -- What contracts see of an engine: the space of its pages, and which state of the plain machine it
 -- stands for.
-use Rattle.std.specs.Prelude.{◌≡◌, ◌≤◌, ℕ, Bool, List, is_some}
+use Rattle.std.specs.Prelude.{◌≤◌, ℕ, Bool, List, is_some}
 use Rattle.hg_base.specs.Space.{Space}
 use Rattle.hg_base.specs.declared.File.TheVariants.{Main, Temp}
 use Rattle.hg_io.specs.declared.device.PageDevice.{Ghosts}
