@@ -1,5 +1,7 @@
 -- Steps of the tables of an engine are steps of the engine.
 use Rattle.std.specs.Prelude.{List}
+use Rattle.std.proofs.Common.{ap}
+use Rattle.hg_base.specs.declared.File.TheVariants.{Main, Temp}
 use Rattle.hg_base.specs.Space.{Space}
 use Rattle.hg_machine.specs.Reply.{Reply as Line}
 use Rattle.hg_reply.specs.Steps.{Says}
@@ -12,7 +14,11 @@ says-so a b reply lines tells counted = record { text = tells.text; errors = tel
 
 pub is-later : (a b : Space) → IsSameSpace a b → IsLater a b
 is-later a b same = record {
-  main = same.later.main_device;
-  temp = same.later.temp_device;
+  devices = record {
+    main = same.later.main_device;
+    temp = same.later.temp_device;
+    main_pages = ap (λ l. l Main) same.device_limit;
+    temp_pages = ap (λ l. l Temp) same.device_limit;
+  };
   full = same.later.main_full;
 }

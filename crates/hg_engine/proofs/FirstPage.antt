@@ -36,9 +36,9 @@ takes-first a b c page pins made after =
     })
 
 -- a space of some pages of which none is taken is not full
-pub not-full : (a b : Space) (f : PageFault) → IsUnused a → 0 < a.limit Main → f ≡ full_fault Main → FreshFault Main a b f → ⊥
-not-full a b f unused some is h =
-    let full = subst (FreshFault Main a b) is h in absurd (false≢true (sym (unused (key_in Main 0)) ∙ full.1 0 some))
+pub not-full : (a : Space) (f : PageFault) → IsUnused a → 0 < a.limit Main → f ≡ full_fault Main → FreshFault Main a f → ⊥
+not-full a f unused some is h =
+    let full = subst (FreshFault Main a) is h in absurd (false≢true (sym (unused (key_in Main 0)) ∙ full.1 0 some))
 
 -- the page that was made is pinned
 pub made-pinned : (a b : Space) (page : PageId) → IsMade Main a b page → b.pinned (key page) ≡ true

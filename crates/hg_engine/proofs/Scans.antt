@@ -3,13 +3,15 @@ use Rattle.std.specs.Prelude.{◌≡◌, ℕ, ◌+◌, ◌<◌, ◌≤◌, Bool,
 use Rattle.std.proofs.Common.{sym, ◌∙◌, ap, refl, arith}
 use Rattle.hg_base.specs.Space.{Space, NoPins}
 use Rattle.hg_base.specs.Steadiness.{Steady}
-use Rattle.hg_base.specs.SteadyLaws.{Steady_same, Steady_then}
+use Rattle.hg_base.specs.SteadyLaws.{Steady_same, Steady_then, main_failed, temp_failed}
 use Rattle.hg_base.specs.declared.Place.{Place}
 use Rattle.hg_base.specs.declared.Table.{Table}
 use Rattle.hg_base.specs.declared.pages.PageFault.{PageFault}
 use Rattle.hg_base.specs.declared.pages.PageFault.TheVariants as fault
+use Rattle.hg_base.specs.declared.Check.{Check}
+use Rattle.hg_base.specs.Causes.{HasCause}
 use Rattle.hg_model.specs.declared.values.Value.{Value}
-use Rattle.hg_table.specs.Calls.{none_mine, TakesNone}
+use Rattle.hg_table.specs.Calls.{none_mine, TakesNone, LookFault}
 use Rattle.hg_table.specs.Versions.{Placed}
 use Rattle.hg_engine.specs.Seen.{is_seen, row_of, seen_rows}
 use Rattle.hg_engine.specs.Scanning.{Position, IsScan, Passes, Finds, ScanFault}
@@ -113,6 +115,14 @@ pub scan-ends : (a b : Space) (t : Table) (columns : ℕ) (from at : Option Plac
     → Position a t columns pages done rest from → length rest < most → seen_rows c n rest ≡ []
 scan-ends a b t columns from at most budget c n pages done rest s looks position few =
     let h = s.goes_on pages done rest position few in h.rows ∙ ap (seen_rows c n) (looks pages h.done h.left h.position)
+
+-- the cause of a look
+pub scan-caused : (checks : Check → Type 0) (a b : Space) (f : PageFault) → LookFault checks f → HasCause a b (Some f) → ScanFault a b f
+scan-caused checks a b fault.MainFault h k = main_failed a b k
+scan-caused checks a b fault.TempFault h k = temp_failed a b k
+scan-caused checks a b fault.MainFull h k = h
+scan-caused checks a b fault.TempFull h k = h
+scan-caused checks a b (fault.Damaged page check) h k = k.damage
 
 -- a cause in the last look is one in all
 pub scan-fault : (a b d : Space) (f : PageFault) → Steady none_mine a b → ScanFault b d f → ScanFault a d f

@@ -2,17 +2,23 @@
 -- stands for.
 use Rattle.std.specs.Prelude.{◌≡◌, ◌≤◌, ℕ, Bool, List, is_some}
 use Rattle.hg_base.specs.Space.{Space}
+use Rattle.hg_base.specs.declared.File.TheVariants.{Main, Temp}
 use Rattle.hg_io.specs.declared.device.PageDevice.{Ghosts}
 use Rattle.hg_machine.specs.State.{State}
 use Rattle.hg_pool.specs.Shown.{state_of, main_device, temp_device}
 use Rattle.hg_machine.specs.Reply.{Reply as Line}
-use Rattle.hg_reply.specs.Steps.{DeviceFaults, Says, FullOnlyWhereFull, Moves}
+use Rattle.hg_reply.specs.Steps.{DeviceFacts, NoneFell, Says, FullOnlyWhereFull, Moves}
 use Rattle.hg_reply.specs.declared.reply.Reply.{Reply}
 use Rattle.hg_engine.specs.Stepping.{TablesAre, looks_left}
 use Rattle.hg_engine.specs.declared.engine.Engine.{Engine}
 
-abbrev pub faults_in : Space → DeviceFaults
-faults_in s = record { main = s.counts.main_device; temp = s.counts.temp_device }
+abbrev pub faults_in : Space → DeviceFacts
+faults_in s = record {
+  main = s.counts.main_device;
+  temp = s.counts.temp_device;
+  main_pages = s.device_limit Main;
+  temp_pages = s.device_limit Temp;
+}
 
 module _ {M T : Type 0} where
   -- the pages of an engine
@@ -30,7 +36,7 @@ module _ {M T : Type 0} where
   abbrev pub IsEngineOf : Ghosts M → Ghosts T → Engine M T → State → Type 0
   IsEngineOf m t e state = TablesAre (space_of m t e) e.tables state
 
-  abbrev pub faults_of : Ghosts M → Ghosts T → Engine M T → DeviceFaults
+  abbrev pub faults_of : Ghosts M → Ghosts T → Engine M T → DeviceFacts
   faults_of m t e = faults_in (space_of m t e)
 
   -- how often all pages of the main file were taken when one more was asked for
@@ -51,8 +57,7 @@ module _ {M T : Type 0} where
     pub full : FullOnlyWhereFull (fulls_of m t old) (fulls_of m t new) lines
     pub moves : Moves (IsEngineOf m t) old new Step lines
 
--- no count falls
+-- no count falls, and the devices have as many pages as before
 pub record IsLater (a b : Space) : Type 0 where
-  pub main : a.counts.main_device ≤ b.counts.main_device
-  pub temp : a.counts.temp_device ≤ b.counts.temp_device
+  pub devices : NoneFell (faults_in a) (faults_in b)
   pub full : a.counts.main_full ≤ b.counts.main_full

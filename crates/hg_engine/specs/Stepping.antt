@@ -73,6 +73,7 @@ pub record PutsInto (a b : Space) (old new : List Entry) (k stamp : ℕ) (rows :
 pub record IsSameSpace (a b : Space) : Type 0 where
   pub told : b.told ≡ a.told
   pub limit : b.limit ≡ a.limit
+  pub device_limit : b.device_limit ≡ a.device_limit
   pub pins : NoPins b
   pub later : Later a.counts b.counts
 

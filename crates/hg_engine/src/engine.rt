@@ -168,5 +168,7 @@ impl<M: PageDevice, T: PageDevice> Machine for Engine<M, T> {
         self.next()
     }
 
-    ghost pends = { pends_of M.PageDevice T.PageDevice };
+    ghost pends = { pends_of
+        (record { pages = M.pages; told = M.told; page = M.page; reads = M.reads; writes = M.writes; faults = M.faults })
+        (record { pages = T.pages; told = T.told; page = T.page; reads = T.reads; writes = T.writes; faults = T.faults }) };
 }

@@ -8,14 +8,23 @@ use Rattle.hg_machine.specs.Reply.{Reply as Line, text_of, has_error, fault_line
 use Rattle.hg_machine.specs.State.{State}
 use Rattle.hg_reply.specs.declared.reply.Reply.{Reply}
 
--- the counts of faults of the two devices, as the devices have them
-pub record DeviceFaults : Type 0 where
+-- what a run says of the two devices: how often each failed, by its own count, and how many pages it has
+pub record DeviceFacts : Type 0 where
   pub main : ℕ
   pub temp : ℕ
+  pub main_pages : ℕ
+  pub temp_pages : ℕ
+
+-- no count fell, and each device has as many pages as before
+pub record NoneFell (before after : DeviceFacts) : Type 0 where
+  pub main : before.main ≤ after.main
+  pub temp : before.temp ≤ after.temp
+  pub main_pages : after.main_pages ≡ before.main_pages
+  pub temp_pages : after.temp_pages ≡ before.temp_pages
 
 -- these reply lines are what the step said, and no more of them say that a device failed than that
 -- device's count rose in the step
-pub record Says (reply : Reply) (before after : DeviceFaults) (lines : List Line) : Type 0 where
+pub record Says (reply : Reply) (before after : DeviceFacts) (lines : List Line) : Type 0 where
   pub text : reply.text.items ≡ text_of lines
   pub errors : reply.has_error ≡ has_error lines
   pub main_faults : raised before.main (fault_lines Main lines) ≤ after.main

@@ -23,13 +23,13 @@ pub trait Machine {
     ghost use Rattle.hg_machine.specs.Reply.{Reply as Line};
     ghost use Rattle.hg_machine.specs.Run.{Begins, Turn};
     ghost use Rattle.hg_machine.specs.State.{State};
-    ghost use Rattle.hg_reply.specs.Steps.{DeviceFaults, Says, FullOnlyWhereFull, Moves};
+    ghost use Rattle.hg_reply.specs.Steps.{DeviceFacts, NoneFell, Says, FullOnlyWhereFull, Moves};
 
     /// Which states of the plain machine the engine stands for.
     ghost stands: { Self → State → Type 0 };
 
-    /// The devices' own counts of faults.
-    ghost faults: { Self → DeviceFaults };
+    /// The devices' own counts of faults, and how many pages they have.
+    ghost faults: { Self → DeviceFacts };
 
     /// How often a page of the main file was asked for while all of them were taken.
     ghost fulls: { Self → ℕ };
@@ -48,8 +48,8 @@ pub trait Machine {
             × Moves stands self.old self.new (λ before lines after. Begins before statement lines after) lines
             × FullOnlyWhereFull (fulls self.old) (fulls self.new) lines }
         ensures more { (result ≡ Next.More) ↔ (pending self.new ≡ true) }
-        ensures later { ((faults self.old).main ≤ (faults self.new).main) × ((faults self.old).temp ≤ (faults self.new).temp)
-            × (fulls self.old ≤ fulls self.new) };
+        ensures later { NoneFell (faults self.old) (faults self.new) }
+        ensures fulls_later { fulls self.old ≤ fulls self.new };
 
     /// Gives one turn of the statement at work.
     fn more(&mut self, reply: &mut Reply) -> Next
@@ -60,8 +60,8 @@ pub trait Machine {
             × FullOnlyWhereFull (fulls self.old) (fulls self.new) lines }
         ensures nearer { turns self.new < turns self.old }
         ensures more { (result ≡ Next.More) ↔ (pending self.new ≡ true) }
-        ensures later { ((faults self.old).main ≤ (faults self.new).main) × ((faults self.old).temp ≤ (faults self.new).temp)
-            × (fulls self.old ≤ fulls self.new) };
+        ensures later { NoneFell (faults self.old) (faults self.new) }
+        ensures fulls_later { fulls self.old ≤ fulls self.new };
 
     ghost pends: { (e : Self) (s : State) → stands e s → pending e ≡ is_some s.left };
 }

@@ -5,7 +5,7 @@ use Rattle.hg_io.specs.Bytes.{then}
 use Rattle.hg_machine.specs.Script.{Line, last_part, unended, whole_lines, lines_of}
 use Rattle.hg_machine.specs.State.{State}
 use Rattle.hg_machine.specs.Reply.{has_error}
-use Rattle.hg_reply.specs.Steps.{DeviceFaults}
+use Rattle.hg_reply.specs.Steps.{DeviceFacts}
 use Rattle.hg_serve.specs.declared.output.Output.{Output}
 use Rattle.hg_serve.specs.declared.session.Session.{Session}
 use Rattle.hg_serve.specs.declared.statuses.Status.{Status}
@@ -53,7 +53,7 @@ pub something-kept : (kept part : List ℕ) → kept ≡ take 4097 part → 0 < 
 something-kept kept part is some = omega (arith, ap length is, length-take 4097 part)
 
 module _ {E : Type 0} (Stands : E → State → Type 0) where
-  pub breaks-serves : (first now : E) (old : Seen) (w1 w2 : Option (List ℕ)) (f : DeviceFaults) (s : Session) (taken : List ℕ)
+  pub breaks-serves : (first now : E) (old : Seen) (w1 w2 : Option (List ℕ)) (f : DeviceFacts) (s : Session) (taken : List ℕ)
       → Serves Stands first now old (seen w1 f) s taken → Breaks w1 w2 s.output.bytes.items []
       → Halts Stands first now old (seen w2 f) (whole_lines taken)
   breaks-serves first now old w1 w2 f s taken serves broke = record {
@@ -101,7 +101,7 @@ module _ {E : Type 0} (Stands : E → State → Type 0) where
       };
     }
 
-  all-answered : (first now : E) (old : Seen) (w1 w2 : Option (List ℕ)) (f : DeviceFaults) (output : Output) (lines : List Line) (errors : Bool)
+  all-answered : (first now : E) (old : Seen) (w1 w2 : Option (List ℕ)) (f : DeviceFacts) (output : Output) (lines : List Line) (errors : Bool)
       → Answers Stands first now old (seen w1 f) output lines → Passes w1 w2 output.bytes.items [] [] → output.errors ≡ errors
       → AllAnswered Stands first now old (seen w2 f) lines errors
   all-answered first now old w1 w2 f output lines errors a passes shown = record {
@@ -113,7 +113,7 @@ module _ {E : Type 0} (Stands : E → State → Type 0) where
   }
 
   -- what waited was written at the end
-  pub closes-answers : (first now : E) (old : Seen) (w1 w2 : Option (List ℕ)) (f : DeviceFaults) (output : Output) (lines : List Line) (s : Status)
+  pub closes-answers : (first now : E) (old : Seen) (w1 w2 : Option (List ℕ)) (f : DeviceFacts) (output : Output) (lines : List Line) (s : Status)
       → Answers Stands first now old (seen w1 f) output lines → Finishes w1 w2 output s
       → Closes Stands first now old (seen w2 f) lines s
   closes-answers first now old w1 w2 f output lines status.Clean a (passes, shown) =

@@ -2,11 +2,12 @@
 use Rattle.std.proofs.Common.{◌≡◌, ◌≢◌, ℕ, ◌<◌, ◌≤◌, ◌+◌, ◌-◌, ◌^◌, Bool, List, [], ◌++◌, length, take, Option, None, Some, refl, sym, ap, ◌∙◌, arith, inl, inr, ◌⊎◌, append-nil, length-append}
 use Rattle.hg_io.specs.Bytes.{then, before, AtEnd, before-before}
 use Rattle.hg_io.specs.Count.{raised}
+use Rattle.hg_base.specs.declared.File.TheVariants.{Main, Temp}
 use Rattle.hg_machine.specs.Script.{Line, whole_lines, lines_of}
 use Rattle.hg_machine.specs.State.{State}
-use Rattle.hg_machine.specs.Reply.{Reply, text_of}
+use Rattle.hg_machine.specs.Reply.{Reply, text_of, fault_lines}
 use Rattle.hg_machine.specs.Outcome.{Outside, Took, Replies, AnswersAll, AnswersWholeLines, AnswersUpToLimit, AnswersInPart}
-use Rattle.hg_reply.specs.Steps.{Moves, DeviceFaults}
+use Rattle.hg_reply.specs.Steps.{Moves, DeviceFacts}
 use Rattle.hg_serve.specs.declared.session.Session.{Session}
 use Rattle.hg_serve.specs.declared.statuses.Status.{Status}
 use Rattle.hg_serve.specs.declared.statuses.Status.TheVariants as status
@@ -85,17 +86,17 @@ never-no_memory n status.TooLong few is = cc
 module _ {E : Type 0} (Stands : E → State → Type 0) (first now : E) (start : State) where
   the-replies : (old new : Outside) (lines : List Line) (replies : List Reply) → Stands first start
       → Moves Stands first now (Running lines) replies
-      → Counted (record { main = old.main_faults; temp = old.temp_faults }) (record { main = new.main_faults; temp = new.temp_faults }) replies
+      → raised old.main_faults (fault_lines Main replies) ≤ new.main_faults → raised old.temp_faults (fault_lines Temp replies) ≤ new.temp_faults
       → Replies (Reaches Stands now start) old new lines replies
-  the-replies old new lines replies stood moves counted =
+  the-replies old new lines replies stood moves main temp =
       let there = moves.to start stood in
       record {
         run = record { last = there.0; stands = there.1; runs = there.2 };
-        main_faults = counted.main;
-        temp_faults = counted.temp;
+        main_faults = main;
+        temp_faults = temp;
       }
 
-  module _ (left0 left1 : Option (List ℕ)) (given0 given1 : ℕ) (w0 w1 : Option (List ℕ)) (f0 f1 : DeviceFaults) (taken : List ℕ)
+  module _ (left0 left1 : Option (List ℕ)) (given0 given1 : ℕ) (w0 w1 : Option (List ℕ)) (f0 f1 : DeviceFacts) (taken : List ℕ)
       (stood : Stands first start) (took : Took (outside left0 given0 w0 f0) (outside left1 given1 w1 f1) taken) where
     pub breaks-off : length taken ≤ 2 ^ 32 → Halts Stands first now (seen w0 f0) (seen w1 f1) (whole_lines taken)
         → AnswersInPart (Reaches Stands now start) (outside left0 given0 w0 f0) (outside left1 given1 w1 f1)
@@ -107,7 +108,7 @@ module _ {E : Type 0} (Stands : E → State → Type 0) (first now : E) (start :
       later = h.later;
       first = inl h.parts;
       replies = h.replies;
-      of_run = the-replies _ _ h.front h.replies stood h.moves h.tells.counted;
+      of_run = the-replies _ _ h.front h.replies stood h.moves h.tells.counted.main h.tells.counted.temp;
       front = h.tells.breaks.front;
       rest = h.tells.breaks.rest;
       parts = h.tells.breaks.parts;
@@ -123,7 +124,7 @@ module _ {E : Type 0} (Stands : E → State → Type 0) (first now : E) (start :
       few = few;
       at_end = last;
       replies = a.replies;
-      answers = record { of_run = the-replies _ _ (lines_of taken) a.replies stood a.moves a.counted; text = a.text };
+      answers = record { of_run = the-replies _ _ (lines_of taken) a.replies stood a.moves a.counted.main a.counted.temp; text = a.text };
       errors_shown = a.shown;
     }
 
@@ -142,7 +143,7 @@ module _ {E : Type 0} (Stands : E → State → Type 0) (first now : E) (start :
       later = h.later;
       first = inr (last, h.parts);
       replies = h.replies;
-      of_run = the-replies _ _ h.front h.replies stood h.moves h.tells.counted;
+      of_run = the-replies _ _ h.front h.replies stood h.moves h.tells.counted.main h.tells.counted.temp;
       front = h.tells.breaks.front;
       rest = h.tells.breaks.rest;
       parts = h.tells.breaks.parts;
@@ -163,7 +164,7 @@ module _ {E : Type 0} (Stands : E → State → Type 0) (first now : E) (start :
         took = took;
         few = few;
         replies = serves.replies;
-        answers = record { of_run = the-replies _ _ (whole_lines taken) serves.replies stood serves.moves serves.counted; text = all_text };
+        answers = record { of_run = the-replies _ _ (whole_lines taken) serves.replies stood serves.moves serves.counted.main serves.counted.temp; text = all_text };
       }
 
       pub limit-comes : length taken ≡ 2 ^ 32 → AnswersUpToLimit (Reaches Stands now start) (outside left0 given0 w0 f0) (outside left1 given1 w1 f1)
@@ -172,7 +173,7 @@ module _ {E : Type 0} (Stands : E → State → Type 0) (first now : E) (start :
         took = took;
         all = all;
         replies = serves.replies;
-        answers = record { of_run = the-replies _ _ (whole_lines taken) serves.replies stood serves.moves serves.counted; text = all_text };
+        answers = record { of_run = the-replies _ _ (whole_lines taken) serves.replies stood serves.moves serves.counted.main serves.counted.temp; text = all_text };
       }
 
 -- how a session that was closed took its bytes

@@ -6,7 +6,7 @@ use Rattle.hg_machine.specs.Reply.{Reply}
 use Rattle.hg_machine.specs.Run.{IsRun}
 use Rattle.hg_machine.specs.Script.{Line}
 use Rattle.hg_machine.specs.State.{State, first_state}
-use Rattle.hg_reply.specs.Steps.{DeviceFaults}
+use Rattle.hg_reply.specs.Steps.{DeviceFacts}
 use Rattle.hg_serve.specs.Ending.{Ends, outside}
 use Rattle.hg_serve.specs.Run.{Reaches}
 use Rattle.hg_serve.specs.declared.statuses.Status.{Status}
@@ -66,7 +66,7 @@ module _ {E : Type 0} (Stands : E → State → Type 0) (now : E) (told : Bool) 
   over-devices : (lines : List Line) (replies : List Reply) → Reaches Stands now (first_state told limit) lines replies → IsRun told pages lines replies
   over-devices lines replies reached = subst (λ n. IsRun told n lines replies) limit_is (record { last = reached.last; runs = reached.runs })
 
-  pub ends-over : (s : Status) (left0 left1 : Option (List ℕ)) (given0 given1 : ℕ) (w0 w1 : Option (List ℕ)) (f0 f1 e0 e1 : DeviceFaults) → f0 ≡ e0 → f1 ≡ e1
+  pub ends-over : (s : Status) (left0 left1 : Option (List ℕ)) (given0 given1 : ℕ) (w0 w1 : Option (List ℕ)) (f0 f1 e0 e1 : DeviceFacts) → f0 ≡ e0 → f1 ≡ e1
       → Ends (Reaches Stands now (first_state told limit)) (outside left0 given0 w0 f0) (outside left1 given1 w1 f1) s
       → Ends (IsRun told pages) (outside left0 given0 w0 e0) (outside left1 given1 w1 e1) s
   ends-over s left0 left1 given0 given1 w0 w1 f0 f1 e0 e1 before after ends =

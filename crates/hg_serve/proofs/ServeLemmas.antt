@@ -5,7 +5,7 @@ use Rattle.std.proofs.lemmas.List.{take_all, take_more, take-append-le, take-app
 use Rattle.hg_machine.specs.Script.{Line, ended_lines, last_part, whole_lines}
 use Rattle.hg_machine.specs.State.{State}
 use Rattle.hg_machine.specs.Reply.{text_of, has_error}
-use Rattle.hg_reply.specs.Steps.{DeviceFaults}
+use Rattle.hg_reply.specs.Steps.{DeviceFacts}
 use Rattle.hg_serve.specs.declared.session.Session.{Session}
 use Rattle.hg_serve.specs.declared.statuses.Status.{Status}
 use Rattle.hg_serve.specs.Output.{Seen, seen, Passes}
@@ -86,7 +86,7 @@ module _ {E : Type 0} (Stands : E → State → Type 0) where
     part = line ∙ rw last_part-nil;
   }
 
-  pub serves-flushed : (first now : E) (old : Seen) (w1 w2 : Option (List ℕ)) (f : DeviceFaults) (s t : Session) (taken : List ℕ)
+  pub serves-flushed : (first now : E) (old : Seen) (w1 w2 : Option (List ℕ)) (f : DeviceFacts) (s t : Session) (taken : List ℕ)
       → Serves Stands first now old (seen w1 f) s taken
       → t.line ≡ s.line → Passes w1 w2 s.output.bytes.items [] [] → t.output.bytes.items ≡ []
       → t.output.errors ≡ s.output.errors → Serves Stands first now old (seen w2 f) t taken

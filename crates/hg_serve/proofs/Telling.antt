@@ -6,9 +6,10 @@ use Rattle.hg_base.specs.declared.File.TheVariants.{Main, Temp}
 use Rattle.hg_io.specs.Bytes.{then, then-then}
 use Rattle.hg_machine.specs.Reply.{Reply, reply_text, is_error, is_fault_of, text_of, has_error, fault_lines}
 use Rattle.hg_reply.specs.declared.reply.Reply.{Reply as Said}
-use Rattle.hg_reply.specs.Steps.{DeviceFaults, Says}
+use Rattle.hg_reply.specs.Steps.{DeviceFacts, Says}
 use Rattle.hg_serve.specs.declared.output.Output.{Output}
-use Rattle.hg_serve.specs.Output.{Passes, Breaks, Seen, seen, Counted, NoneFell, Tells, TellsInPart}
+use Rattle.hg_serve.specs.Output.{Passes, Breaks, Seen, seen, Counted, Tells, TellsInPart}
+use Rattle.hg_reply.specs.Steps.{NoneFell}
 
 pub or-false : (b : Bool) → (b || false) ≡ b
 or-false true = refl
@@ -104,29 +105,34 @@ passes-flushed w0 w1 b0 b1 p empty = record { passed = p.passed; parts = p.parts
 
 -- the counts of faults
 
-pub counted-none : (f : DeviceFaults) → Counted f f []
+pub counted-none : (f : DeviceFacts) → Counted f f []
 counted-none f = record {
   main = omega (arith, fault_lines-nil Main);
   temp = omega (arith, fault_lines-nil Temp);
 }
 
-pub counted-then : (f g h : DeviceFaults) (rs ss : List Reply) → Counted f g rs → Counted g h ss → Counted f h (rs ++ ss)
+pub counted-then : (f g h : DeviceFacts) (rs ss : List Reply) → Counted f g rs → Counted g h ss → Counted f h (rs ++ ss)
 counted-then f g h rs ss p q = record {
   main = omega (arith, fault_lines-append Main rs ss, p.main, q.main);
   temp = omega (arith, fault_lines-append Temp rs ss, p.temp, q.temp);
 }
 
-pub counted-says : (r : Said) (f g : DeviceFaults) (rs : List Reply) → Says r f g rs → Counted f g rs
+pub counted-says : (r : Said) (f g : DeviceFacts) (rs : List Reply) → Says r f g rs → Counted f g rs
 counted-says r f g rs s = record { main = s.main_faults; temp = s.temp_faults }
 
-pub fell-none : (f : DeviceFaults) → NoneFell f f
-fell-none f = record { main = omega arith; temp = omega arith }
+pub fell-none : (f : DeviceFacts) → NoneFell f f
+fell-none f = record { main = omega arith; temp = omega arith; main_pages = refl; temp_pages = refl }
 
-pub fell-then : (f g h : DeviceFaults) → NoneFell f g → NoneFell g h → NoneFell f h
-fell-then f g h p q = record { main = omega (arith, p.main, q.main); temp = omega (arith, p.temp, q.temp) }
+pub fell-then : (f g h : DeviceFacts) → NoneFell f g → NoneFell g h → NoneFell f h
+fell-then f g h p q = record {
+  main = omega (arith, p.main, q.main);
+  temp = omega (arith, p.temp, q.temp);
+  main_pages = q.main_pages ∙ p.main_pages;
+  temp_pages = q.temp_pages ∙ p.temp_pages;
+}
 
 -- a reply of one line that says of no fault, or of none
-pub says-one : (s : Said) (f : DeviceFaults) (r : Reply) → s.text.items ≡ reply_text r → s.has_error ≡ is_error r
+pub says-one : (s : Said) (f : DeviceFacts) (r : Reply) → s.text.items ≡ reply_text r → s.has_error ≡ is_error r
     → is_fault_of Main r ≡ false → is_fault_of Temp r ≡ false → Says s f f (r ∷ [])
 says-one s f r text errors main temp = record {
   text = text ∙ text_of-one r;
@@ -135,7 +141,7 @@ says-one s f r text errors main temp = record {
   temp_faults = omega (arith, fault_lines-one Temp r temp);
 }
 
-pub says-none : (s : Said) (f : DeviceFaults) → s.text.items ≡ [] → s.has_error ≡ false → Says s f f []
+pub says-none : (s : Said) (f : DeviceFacts) → s.text.items ≡ [] → s.has_error ≡ false → Says s f f []
 says-none s f text errors = record {
   text = text ∙ sym text_of-nil;
   errors = errors ∙ sym has_error-nil;
@@ -160,7 +166,7 @@ tells-then s0 s1 s2 a b c rs ss p q = record {
 }
 
 -- a step of the engine, and its reply put behind the others
-pub tells-put : (w0 w1 : Option (List ℕ)) (f0 f1 : DeviceFaults) (a b : Output) (r : Said) (rs : List Reply) → Says r f0 f1 rs
+pub tells-put : (w0 w1 : Option (List ℕ)) (f0 f1 : DeviceFacts) (a b : Output) (r : Said) (rs : List Reply) → Says r f0 f1 rs
     → Passes w0 w1 a.bytes.items b.bytes.items r.text.items → b.errors ≡ (a.errors || r.has_error)
     → Tells (seen w0 f0) (seen w1 f1) a b rs
 tells-put w0 w1 f0 f1 a b r rs s passes errors = record {
@@ -169,7 +175,7 @@ tells-put w0 w1 f0 f1 a b r rs s passes errors = record {
   counted = counted-says r f0 f1 rs s;
 }
 
-pub part-put : (w0 w1 : Option (List ℕ)) (f0 f1 : DeviceFaults) (waiting : List ℕ) (r : Said) (rs : List Reply) → Says r f0 f1 rs
+pub part-put : (w0 w1 : Option (List ℕ)) (f0 f1 : DeviceFacts) (waiting : List ℕ) (r : Said) (rs : List Reply) → Says r f0 f1 rs
     → Breaks w0 w1 waiting r.text.items → TellsInPart (seen w0 f0) (seen w1 f1) waiting rs
 part-put w0 w1 f0 f1 waiting r rs s breaks = record {
   breaks = subst (λ t. Breaks w0 w1 waiting t) s.text breaks;
@@ -177,7 +183,7 @@ part-put w0 w1 f0 f1 waiting r rs s breaks = record {
 }
 
 -- lines that are dropped
-pub part-more : (w0 w1 : Option (List ℕ)) (f0 f1 f2 : DeviceFaults) (waiting : List ℕ) (rs ss : List Reply)
+pub part-more : (w0 w1 : Option (List ℕ)) (f0 f1 f2 : DeviceFacts) (waiting : List ℕ) (rs ss : List Reply)
     → TellsInPart (seen w0 f0) (seen w1 f1) waiting rs → Counted f1 f2 ss → TellsInPart (seen w0 f0) (seen w1 f2) waiting (rs ++ ss)
 part-more w0 w1 f0 f1 f2 waiting rs ss p c = record {
   breaks = rw (text_of-append rs ss) (breaks-more w0 w1 waiting (text_of rs) (text_of ss) p.breaks);

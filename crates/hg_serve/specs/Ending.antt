@@ -2,12 +2,12 @@
 use Rattle.std.specs.Prelude.{◌≡◌, ℕ, ◌<◌, ◌≤◌, ◌^◌, true, false, List, take, Option, Result, MatchResult}
 use Rattle.hg_io.specs.Bytes.{before, AtEnd}
 use Rattle.hg_machine.specs.Outcome.{Runs, Outside, AnswersAll, AnswersWholeLines, AnswersUpToLimit, AnswersInPart}
-use Rattle.hg_reply.specs.Steps.{DeviceFaults}
+use Rattle.hg_reply.specs.Steps.{DeviceFacts}
 use Rattle.hg_serve.specs.declared.statuses.Status.{Status}
 use Rattle.hg_serve.specs.declared.statuses.Status.TheVariants as status
 
 -- the outside at one moment
-abbrev pub outside : Option (List ℕ) → ℕ → Option (List ℕ) → DeviceFaults → Outside
+abbrev pub outside : Option (List ℕ) → ℕ → Option (List ℕ) → DeviceFacts → Outside
 outside left given written faults =
     record { left = left; given = given; written = written; main_faults = faults.main; temp_faults = faults.temp }
 

@@ -4,7 +4,7 @@ use Rattle.hg_base.specs.declared.File.TheVariants.{Main, Temp}
 use Rattle.hg_io.specs.Bytes.{then}
 use Rattle.hg_io.specs.Count.{raised}
 use Rattle.hg_machine.specs.Reply.{Reply, text_of, has_error, fault_lines}
-use Rattle.hg_reply.specs.Steps.{DeviceFaults}
+use Rattle.hg_reply.specs.Steps.{DeviceFacts}
 use Rattle.hg_serve.specs.declared.output.Output.{Output}
 
 -- a front of the bytes was written
@@ -30,20 +30,15 @@ pub record Breaks (written_before written_after : Option (List ℕ)) (waiting te
 -- what is seen outside of a session at one moment: the bytes written, and the devices' counts of faults
 pub record Seen : Type 0 where
   pub written : Option (List ℕ)
-  pub faults : DeviceFaults
+  pub faults : DeviceFacts
 
-abbrev pub seen : Option (List ℕ) → DeviceFaults → Seen
+abbrev pub seen : Option (List ℕ) → DeviceFacts → Seen
 seen written faults = record { written = written; faults = faults }
 
 -- no more of these lines say that a device failed than that device's count rose
-pub record Counted (before after : DeviceFaults) (replies : List Reply) : Type 0 where
+pub record Counted (before after : DeviceFacts) (replies : List Reply) : Type 0 where
   pub main : raised before.main (fault_lines Main replies) ≤ after.main
   pub temp : raised before.temp (fault_lines Temp replies) ≤ after.temp
-
--- no count fell
-pub record NoneFell (before after : DeviceFaults) : Type 0 where
-  pub main : before.main ≤ after.main
-  pub temp : before.temp ≤ after.temp
 
 -- these reply lines were put behind the others, and a front of all went to the sink
 pub record Tells (old new : Seen) (before after : Output) (replies : List Reply) : Type 0 where

@@ -6,7 +6,7 @@ use Rattle.hg_machine.specs.Reply.{Reply}
 use Rattle.hg_machine.specs.Run.{IsRun, RunsLines}
 use Rattle.hg_machine.specs.Script.{Line}
 use Rattle.hg_machine.specs.State.{State}
-use Rattle.hg_reply.specs.Steps.{DeviceFaults}
+use Rattle.hg_reply.specs.Steps.{DeviceFacts}
 
 -- the machine answers these lines so, from this state to one that the engine stands for now
 pub record Reaches {E : Type 0} (Stands : E → State → Type 0) (now : E) (first : State) (lines : List Line) (replies : List Reply) : Type 0 where
@@ -20,5 +20,5 @@ module _ {M T : Type 0} where
   RunOver m t main temp = IsRun (m.told main && t.told temp) (min (m.pages main) 65536)
 
   -- the devices' own counts of faults
-  abbrev pub faults_over : Ghosts M → Ghosts T → M → T → DeviceFaults
-  faults_over m t main temp = record { main = m.faults main; temp = t.faults temp }
+  abbrev pub faults_over : Ghosts M → Ghosts T → M → T → DeviceFacts
+  faults_over m t main temp = record { main = m.faults main; temp = t.faults temp; main_pages = m.pages main; temp_pages = t.pages temp }

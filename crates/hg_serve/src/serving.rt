@@ -5,7 +5,7 @@ ghost use Rattle.hg_io.specs.Bytes.{Reads};
 ghost use Rattle.hg_machine.specs.State.{State};
 ghost use Rattle.hg_machine.specs.Outcome.{Took, AnswersAll, AnswersWholeLines, AnswersUpToLimit, AnswersInPart};
 ghost use Rattle.hg_engine.specs.Shown.{IsEngineOf, faults_of, is_pending};
-ghost use Rattle.hg_serve.specs.Output.{NoneFell};
+ghost use Rattle.hg_reply.specs.Steps.{NoneFell};
 ghost use Rattle.hg_serve.specs.Ending.{Ends, ReadsSome, TakesSoMany, outside};
 ghost use Rattle.hg_serve.specs.Run.{Reaches};
 

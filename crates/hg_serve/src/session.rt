@@ -6,7 +6,8 @@ ghost use Rattle.hg_machine.specs.Run.{Turns};
 ghost use Rattle.hg_machine.specs.State.{State};
 ghost use Rattle.hg_reply.specs.Lines.{reply_of};
 ghost use Rattle.hg_reply.specs.Steps.{Says, Moves};
-ghost use Rattle.hg_serve.specs.Output.{seen, Counted, NoneFell, Tells, TellsInPart};
+ghost use Rattle.hg_serve.specs.Output.{seen, Counted, Tells, TellsInPart};
+ghost use Rattle.hg_reply.specs.Steps.{NoneFell};
 ghost use Rattle.hg_serve.specs.Session.{BeginsAsked};
 
 use crate::lines::{Asked, read_line};
@@ -116,7 +117,8 @@ impl Session {
     ghost use Rattle.hg_io.specs.Count.{Rose, HasCause};
     ghost use Rattle.hg_machine.specs.Script.{whole_lines, lines_of};
     ghost use Rattle.hg_machine.specs.State.{State};
-    ghost use Rattle.hg_serve.specs.Output.{Seen, seen, NoneFell, Passes, Breaks};
+    ghost use Rattle.hg_serve.specs.Output.{Seen, seen, Passes, Breaks};
+    ghost use Rattle.hg_reply.specs.Steps.{NoneFell};
     ghost use Rattle.hg_serve.specs.Session.{AnswersLine, BreaksInLine};
     ghost use Rattle.hg_serve.specs.Serving.{Serves, Halts, Finishes, Closes};
 

@@ -2,6 +2,7 @@
 ghost use Rattle.std.specs.Prelude.{◌≡◌, ◌↔◌, ◌⊎◌, ◌<◌, ◌≤◌, ◌+◌, ◌-◌, ◌^◌, min, vec_len, true, false};
 ghost use Rattle.hg_io.specs.Count.{Rose};
 ghost use Rattle.hg_machine.specs.Outcome.{AnswersAll, AnswersWholeLines, AnswersUpToLimit, AnswersInPart};
+ghost use Rattle.hg_reply.specs.Steps.{NoneFell};
 ghost use Rattle.hg_serve.specs.Ending.{outside};
 ghost use Rattle.hg_serve.specs.Run.{RunOver, faults_over};
 
@@ -90,6 +91,8 @@ pub fn run<S: Source, K: Sink, M: PageDevice, T: PageDevice>(
     ensures no_memory_writes_nothing { result.status ≡ Status.NoMemory → sink.new ≡ sink.old }
     ensures no_memory_calls_no_device { result.status ≡ Status.NoMemory → (result.main ≡ main) × (result.temp ≡ temp) }
 
+    // The devices have as many pages as before, and no count falls.
+    ensures later { NoneFell (faults_over M.PageDevice T.PageDevice main temp) (faults_over M.PageDevice T.PageDevice result.main result.temp) }
     ensures source_later { S.faults source.old ≤ S.faults source.new }
     ensures sink_later { K.faults sink.old ≤ K.faults sink.new }
 {

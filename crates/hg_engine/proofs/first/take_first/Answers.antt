@@ -18,5 +18,5 @@ returns g c =
 
 pub unreachable-requires : goal.unreachable-requires
 unreachable-requires g c =
-    not-full (state_of g.M.PageDevice g.T.PageDevice c.args.pool.now) (state_of g.M.PageDevice g.T.PageDevice c.fresh.new.self) c.in-Err.field-0
+    not-full (state_of g.M.PageDevice g.T.PageDevice c.args.pool.now) c.in-Err.field-0
     c.requires.unused c.requires.room ((c.in-Err.ensures {u = tt}).unused c.requires.unused).only_full (c.in-Err.ensures {u = tt}).fault

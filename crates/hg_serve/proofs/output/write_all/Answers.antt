@@ -1,4 +1,4 @@
-use Rattle.std.proofs.Common.{arith}
+use Rattle.std.proofs.Common.{arith, ◌∙◌}
 use Rattle.hg_serve.proofs.Writing.{more_written}
 use Rattle.hg_serve.proofs.output.write_all.Goals as goal
 
@@ -8,5 +8,5 @@ loop-at-preserved g c =
     record {
       inside = omega (arith, wrote.bound, c.split_at.ensures.back_len);
       written = more_written _ _ _ _ _ _ _ c.loop-at.invariant.written c.split_at.ensures.back wrote.bytes.0;
-      later = omega (arith, c.loop-at.invariant.later, wrote.cause.later);
+      same = wrote.cause.stays ∙ c.loop-at.invariant.same;
     }

@@ -11,7 +11,7 @@ pub loop-taken-init : goal.loop-taken-init
 loop-taken-init g c = record {
   served = (
     [],
-    took-none _ (g.met.S.Source.given_ends c.args.source.now),
+    took-none _ (omega (arith, g.met.S.Source.given_ends c.args.source.now)),
     refl,
     serves-start _ c.args.engine.now _ _ c.new-session.ensures.empty c.new-session.ensures.errors c.new-session.ensures.line,
   );
@@ -19,8 +19,8 @@ loop-taken-init g c = record {
   stands = c.requires.stands;
   within = omega arith;
   later = fell-none _;
-  source_later = omega arith;
-  sink_later = omega arith;
+  source_same = refl;
+  sink_same = refl;
 }
 
 -- the sink failed before a read
@@ -66,7 +66,7 @@ returns-then-count-eq0-clause-ends g c = λ first stood.
     in
     closes _ _ _ first _ _ _ _ _ _ _ _ served.0 stood
     (took-end _ (outside (g.S.Source.left c.loop-taken.source) (g.S.Source.given c.loop-taken.source) (g.K.Sink.written c.loop-taken.sink) (g.E.Machine.faults c.loop-taken.engine)) _
-    served.0 _ c.in-Ok.count served.1 read.bytes.0 c.if-count-eq0.true read.given (g.met.S.Source.given_ends c.loop-taken.source))
+    served.0 _ c.in-Ok.count served.1 read.bytes.0 c.if-count-eq0.true read.given (omega (arith, g.met.S.Source.given_ends c.loop-taken.source)))
     c.end.result (omega (arith, served.2, c.loop-taken-test.true)) (read.bytes.1 c.if-count-eq0.true some)
     ((c.end.ensures.closes c.args.engine.now _ served.0 serves))
 
@@ -82,7 +82,7 @@ returns-then-count-eq0-clause-bytes g c =
       closes-so_many _ c.args.engine.now _ _ _ (lines_of served.0) _ c.end.result (omega (arith, served.2, c.loop-taken-test.true))
           (c.end.ensures.closes c.args.engine.now _ served.0 serves),
       took-end _ (outside (g.S.Source.left c.loop-taken.source) (g.S.Source.given c.loop-taken.source) (g.K.Sink.written c.loop-taken.sink) (g.E.Machine.faults c.loop-taken.engine)) _
-          served.0 _ c.in-Ok.count served.1 read.bytes.0 c.if-count-eq0.true read.given (g.met.S.Source.given_ends c.loop-taken.source),
+          served.0 _ c.in-Ok.count served.1 read.bytes.0 c.if-count-eq0.true read.given (omega (arith, g.met.S.Source.given_ends c.loop-taken.source)),
     )
 
 pub returns-then-count-eq0-clause-source_fault : goal.returns-then-count-eq0-clause-source_fault
@@ -147,8 +147,8 @@ loop-taken-preserved g c =
       stands = c.feed.ensures.stands;
       within = omega (arith, c.loop-taken-test.true, c.min-room.ensures, read.bound);
       later = fell-then _ _ _ so_far.later c.feed.ensures.later;
-      source_later = omega (arith, so_far.source_later, read.cause.later);
-      sink_later = omega (arith, so_far.sink_later, flushed.cause.later, fed.cause.later);
+      source_same = read.cause.stays ∙ so_far.source_same;
+      sink_same = fed.cause.stays ∙ flushed.cause.stays ∙ so_far.sink_same;
     }
 
 -- the limit

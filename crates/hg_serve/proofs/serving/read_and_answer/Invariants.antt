@@ -2,7 +2,8 @@ use Rattle.std.proofs.Common.{◌≡◌, ◌≤◌, ◌-◌, ◌^◌, ℕ, List,
 use Rattle.hg_machine.specs.Outcome.{Took}
 use Rattle.hg_machine.specs.State.{State}
 use Rattle.hg_serve.specs.Ending.{outside}
-use Rattle.hg_serve.specs.Output.{seen, NoneFell}
+use Rattle.hg_serve.specs.Output.{seen}
+use Rattle.hg_reply.specs.Steps.{NoneFell}
 use Rattle.hg_serve.specs.Serving.{Serves}
 use Rattle.hg_serve.proofs.serving.read_and_answer.Given as goal
 
@@ -18,8 +19,8 @@ invariant-loop-taken g l = record {
   stands : (s : State) × g.E.Machine.stands l.engine s;
   within : l.taken ≤ 2 ^ 32;
   later : NoneFell (g.E.Machine.faults l.fn.engine) (g.E.Machine.faults l.engine);
-  source_later : g.S.Source.faults l.fn.source ≤ g.S.Source.faults l.source;
-  sink_later : g.K.Sink.faults l.fn.sink ≤ g.K.Sink.faults l.sink;
+  source_same : g.S.Source.faults l.source ≡ g.S.Source.faults l.fn.source;
+  sink_same : g.K.Sink.faults l.sink ≡ g.K.Sink.faults l.fn.sink;
 }
 
 abbrev pub decreases-loop-taken : goal.decreases-loop-taken

@@ -9,7 +9,7 @@ loop-left-init g c = record {
   more = c.requires.more;
   stands = c.requires.stands;
   later = fell-none _;
-  sink_later = omega arith;
+  sink_same = refl;
 }
 
 pub loop-left-preserved : goal.loop-left-preserved
@@ -26,8 +26,8 @@ loop-left-preserved g c =
       );
       more = c.more-left.ensures.more;
       stands = stands-on _ _ _ _ step.0 so_far.stands step.2;
-      later = fell-then _ _ _ so_far.later (record { main = c.more-left.ensures.later.0; temp = c.more-left.ensures.later.1 });
-      sink_later = omega (arith, so_far.sink_later, put.cause.later);
+      later = fell-then _ _ _ so_far.later c.more-left.ensures.later;
+      sink_same = put.cause.stays ∙ so_far.sink_same;
     }
 
 pub returns-in-Err-clause-part : goal.returns-in-Err-clause-part

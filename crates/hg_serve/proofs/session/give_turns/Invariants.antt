@@ -3,7 +3,8 @@ use Rattle.hg_machine.specs.Reply.{Reply}
 use Rattle.hg_machine.specs.State.{State}
 use Rattle.hg_reply.specs.declared.machine.Next.TheVariants.{More}
 use Rattle.hg_reply.specs.Steps.{Moves}
-use Rattle.hg_serve.specs.Output.{seen, NoneFell, Tells}
+use Rattle.hg_serve.specs.Output.{seen, Tells}
+use Rattle.hg_reply.specs.Steps.{NoneFell}
 use Rattle.hg_serve.proofs.Running.{SomeTurns}
 use Rattle.hg_serve.proofs.session.give_turns.Given as goal
 
@@ -15,7 +16,7 @@ invariant-loop-left g l = record {
   more : (l.left ≡ More) ↔ (g.E.Machine.pending l.engine ≡ true);
   stands : (s : State) × g.E.Machine.stands l.engine s;
   later : NoneFell (g.E.Machine.faults l.fn.engine) (g.E.Machine.faults l.engine);
-  sink_later : g.K.Sink.faults l.fn.sink ≤ g.K.Sink.faults l.sink;
+  sink_same : g.K.Sink.faults l.sink ≡ g.K.Sink.faults l.fn.sink;
 }
 
 abbrev pub decreases-loop-left : goal.decreases-loop-left

@@ -24,7 +24,7 @@ loop-left-preserved g c =
       );
       more = c.more-left.ensures.more;
       stands = stands-on _ _ _ _ step.0 so_far.stands step.2;
-      later = fell-then _ _ _ so_far.later (record { main = c.more-left.ensures.later.0; temp = c.more-left.ensures.later.1 });
+      later = fell-then _ _ _ so_far.later c.more-left.ensures.later;
     }
 
 pub returns-clause-turns : goal.returns-clause-turns

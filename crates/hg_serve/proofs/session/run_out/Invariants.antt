@@ -3,7 +3,8 @@ use Rattle.hg_machine.specs.Reply.{Reply}
 use Rattle.hg_machine.specs.State.{State}
 use Rattle.hg_reply.specs.declared.machine.Next.TheVariants.{More}
 use Rattle.hg_reply.specs.Steps.{Moves}
-use Rattle.hg_serve.specs.Output.{Counted, NoneFell}
+use Rattle.hg_serve.specs.Output.{Counted}
+use Rattle.hg_reply.specs.Steps.{NoneFell}
 use Rattle.hg_serve.proofs.Running.{SomeTurns}
 use Rattle.hg_serve.proofs.session.run_out.Given as goal
 

@@ -10,7 +10,7 @@ loop-b-init g c = record {
   stands = c.requires.stands;
   serves = λ first w taken serves. serves-as _ first _ w _ _ _ _ (sym (append-nil taken)) serves;
   later = fell-none _;
-  sink_later = omega arith;
+  sink_same = refl;
 }
 
 pub returns-in-Err-clause-part : goal.returns-in-Err-clause-part
@@ -35,7 +35,7 @@ loop-b-preserved g c =
           serves-as _ first _ w _ _ _ _ (parts-more taken bytes i c.loop-b-test.true)
           (fed.ok first w (taken ++ take i bytes) (so_far.serves first w taken serves));
       later = fell-then _ _ _ so_far.later c.take_byte.ensures.later;
-      sink_later = omega (arith, so_far.sink_later, fed.cause.later);
+      sink_same = fed.cause.stays ∙ so_far.sink_same;
     }
 
 pub returns-clause-ok : goal.returns-clause-ok

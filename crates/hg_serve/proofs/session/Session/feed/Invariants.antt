@@ -1,6 +1,7 @@
 use Rattle.std.proofs.Common.{◌≡◌, ◌≤◌, ◌++◌, List, ℕ, take, false}
 use Rattle.hg_machine.specs.State.{State}
-use Rattle.hg_serve.specs.Output.{Seen, seen, NoneFell}
+use Rattle.hg_serve.specs.Output.{Seen, seen}
+use Rattle.hg_reply.specs.Steps.{NoneFell}
 use Rattle.hg_serve.specs.Serving.{Serves}
 use Rattle.hg_serve.proofs.session.Session.feed.Given as goal
 
@@ -12,5 +13,5 @@ invariant-loop-b g l = record {
       → Serves g.E.Machine.stands first l.fn.engine w (seen (g.K.Sink.written l.fn.sink) (g.E.Machine.faults l.fn.engine)) l.fn.self taken
       → Serves g.E.Machine.stands first l.engine w (seen (g.K.Sink.written l.sink) (g.E.Machine.faults l.engine)) l.self (taken ++ take l.b-index l.bytes);
   later : NoneFell (g.E.Machine.faults l.fn.engine) (g.E.Machine.faults l.engine);
-  sink_later : g.K.Sink.faults l.fn.sink ≤ g.K.Sink.faults l.sink;
+  sink_same : g.K.Sink.faults l.sink ≡ g.K.Sink.faults l.fn.sink;
 }
