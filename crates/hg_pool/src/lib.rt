@@ -2,6 +2,10 @@
 //! the pool is opened. It stands on the base crate, the traits of the outside and the page maps. The
 //! contract that the layers above use is that of [`hg_base::Pages`], which [`Pool`] implements, with
 //! what `Pool::new` says of a new pool.
+//!
+//! What a call asks of the devices is said by their own counts of reads and writes (`Asked`): a page
+//! that is in a frame asks nothing, and any other at most one write, of the page that leaves the frame
+//! where it owes one, and then one read. The pool's counts rise just as those do.
 #![tactic(auto)]
 
 mod calls;

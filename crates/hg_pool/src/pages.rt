@@ -46,8 +46,9 @@ impl<M: PageDevice, T: PageDevice> Pages for Pool<M, T> {
 
     /// A page that is in no frame is read, once, into the frame that the round comes to next among
     /// those that no pin holds. A page whose bytes are newer than those on its device leaves that frame
-    /// only after a write that succeeded. After a fault each page is as it was. Pages in other frames
-    /// stay there, so that a pin of them succeeds and calls no device.
+    /// only after a write that succeeded; where the read fails then, it has left it all the same. After a
+    /// fault each page is as it was. Pages in other frames stay there, so that a pin of them succeeds and
+    /// calls no device.
     fn pin(&mut self, page: PageId) -> Result<PoolPin, PageFault>
         requires taken { (state_of M.PageDevice T.PageDevice self.old).taken (key page) ≡ true }
         requires not_pinned { (state_of M.PageDevice T.PageDevice self.old).pinned (key page) ≡ false }
