@@ -471,12 +471,15 @@ fn over_a_clean_device(rt: HostRuntime) -> Result<(), Fail> {
     Ok(())
 }
 
-/// A device that takes every page, and gives zeros for each. It tells nothing.
+/// A device that takes every page, and gives zeros for each. It tells nothing, and its counts of calls
+/// stand at their end.
 #[derive(Drop)]
 struct Forgetful;
 
 impl PageDevice for Forgetful {
-    ghost use Rattle.std.specs.Prelude.{[], false};
+    ghost use Rattle.std.specs.Prelude.{[], false, ◌^◌, ◌-◌};
+    ghost use Rattle.std.proofs.Math.Nat.{le_refl};
+    ghost use Rattle.hg_io.specs.Count.{none_ends};
 
     ghost pages = { λ _. 64 };
 
@@ -484,7 +487,17 @@ impl PageDevice for Forgetful {
 
     ghost page = { λ _ _. [] };
 
+    ghost reads = { λ _. 2 ^ 64 - 1 };
+
+    ghost writes = { λ _. 2 ^ 64 - 1 };
+
     ghost faults = { λ _. 0 };
+
+    ghost reads_end = { λ _. le_refl (2 ^ 64 - 1) };
+
+    ghost writes_end = { λ _. le_refl (2 ^ 64 - 1) };
+
+    ghost faults_end = { λ _. none_ends };
 
     fn limit(&self) -> u32 {
         64
