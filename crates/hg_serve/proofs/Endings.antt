@@ -11,7 +11,7 @@ use Rattle.hg_reply.specs.Steps.{Moves, DeviceFacts}
 use Rattle.hg_serve.specs.declared.session.Session.{Session}
 use Rattle.hg_serve.specs.declared.statuses.Status.{Status}
 use Rattle.hg_serve.specs.declared.statuses.Status.TheVariants as status
-use Rattle.hg_serve.specs.Output.{Seen, seen, Counted}
+use Rattle.hg_serve.specs.Output.{Seen, seen}
 use Rattle.hg_serve.specs.Serving.{Serves, Halts, AllAnswered, Closes, Running}
 use Rattle.hg_serve.specs.Ending.{Ends, TakesSoMany, outside}
 use Rattle.hg_serve.specs.Run.{Reaches}

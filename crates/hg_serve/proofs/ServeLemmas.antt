@@ -1,16 +1,15 @@
 -- how a session goes on by a byte
-use Rattle.std.proofs.Common.{◌≡◌, ◌≢◌, ℕ, ◌<◌, ◌≤◌, ◌+◌, Bool, true, false, List, [], ◌∷◌, ◌++◌, ◌==◌, ◌||◌, length, take, Option, refl, sym, ap, ◌∙◌, subst, arith, append_assoc, append-nil, length-take, length-append, get_or, drop, drop-cons, add-one}
+use Rattle.std.proofs.Common.{◌≡◌, ◌≢◌, ℕ, ◌<◌, ◌≤◌, ◌+◌, true, false, List, [], ◌∷◌, ◌++◌, ◌==◌, ◌||◌, length, take, Option, sym, ap, ◌∙◌, subst, arith, append_assoc, append-nil, length-take, length-append, get_or, drop, drop-cons, add-one}
 use Rattle.std.proofs.lemmas.Bool.Decides.{nat_tests}
 use Rattle.std.proofs.lemmas.List.{take_all, take_more, take-append-le, take-append-drop}
-use Rattle.hg_machine.specs.Script.{Line, ended_lines, last_part, whole_lines}
+use Rattle.hg_machine.specs.Script.{ended_lines, last_part, whole_lines}
 use Rattle.hg_machine.specs.State.{State}
 use Rattle.hg_machine.specs.Reply.{text_of, has_error}
 use Rattle.hg_reply.specs.Steps.{DeviceFacts}
 use Rattle.hg_serve.specs.declared.session.Session.{Session}
-use Rattle.hg_serve.specs.declared.statuses.Status.{Status}
 use Rattle.hg_serve.specs.Output.{Seen, seen, Passes}
 use Rattle.hg_serve.specs.Session.{AnswersLine, BreaksInLine}
-use Rattle.hg_serve.specs.Serving.{Serves, Halts, Closes}
+use Rattle.hg_serve.specs.Serving.{Serves, Halts}
 use Rattle.hg_serve.proofs.Telling.{passes-then, breaks-then, text_of-append, has_error-append, text_of-nil, has_error-nil, passes-none, counted-none, counted-then}
 use Rattle.hg_serve.proofs.Moving.{moves-lines, moves-no_line}
 use Rattle.hg_serve.proofs.Scripts.{whole_lines-append, whole_lines-feed, whole_lines-other, last_part-feed, last_part-other, whole_lines-nil, last_part-nil}

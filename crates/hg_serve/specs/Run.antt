@@ -1,5 +1,5 @@
 -- What counts as a run: for an engine that stands for some state, and for two devices.
-use Rattle.std.specs.Prelude.{ℕ, ◌&&◌, min, List}
+use Rattle.std.specs.Prelude.{◌&&◌, min, List}
 use Rattle.hg_io.specs.declared.device.PageDevice.{Ghosts}
 use Rattle.hg_machine.specs.Outcome.{Runs}
 use Rattle.hg_machine.specs.Reply.{Reply}

@@ -1,5 +1,5 @@
 -- What a session promises from line to line, over any engine.
-use Rattle.std.specs.Prelude.{◌≡◌, ℕ, Bool, List, [], ◌∷◌}
+use Rattle.std.specs.Prelude.{◌≡◌, ℕ, List, [], ◌∷◌}
 use Rattle.hg_machine.specs.Script.{Line}
 use Rattle.hg_machine.specs.State.{State}
 use Rattle.hg_machine.specs.Reply.{Reply, syntax_error, line_too_long}

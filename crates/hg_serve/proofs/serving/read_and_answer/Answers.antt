@@ -1,4 +1,4 @@
-use Rattle.std.proofs.Common.{◌<◌, [], ◌++◌, refl, sym, ap, ◌∙◌, arith, length-append}
+use Rattle.std.proofs.Common.{◌<◌, [], ◌++◌, refl, ◌∙◌, arith, length-append}
 use Rattle.hg_machine.specs.Script.{lines_of}
 use Rattle.hg_serve.specs.Ending.{outside}
 use Rattle.hg_serve.proofs.Telling.{fell-none, fell-then}

@@ -1,4 +1,4 @@
-use Rattle.std.proofs.Common.{[], ◌++◌, refl, ap, ◌∙◌, arith}
+use Rattle.std.proofs.Common.{[], ◌++◌, refl, ◌∙◌}
 use Rattle.hg_serve.proofs.Telling.{tells-none, tells-then, tells-put, part-then, part-put, part-more, fell-none, fell-then}
 use Rattle.hg_serve.proofs.Moving.{at-rest, stands-on, moves-no_turn, moves-turn, moves-turns, moves-ends}
 use Rattle.hg_serve.proofs.session.give_turns.Goals as goal

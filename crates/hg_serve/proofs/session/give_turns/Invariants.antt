@@ -1,4 +1,4 @@
-use Rattle.std.proofs.Common.{◌≡◌, ◌≤◌, ◌↔◌, List, true}
+use Rattle.std.proofs.Common.{◌≡◌, ◌↔◌, List, true}
 use Rattle.hg_machine.specs.Reply.{Reply}
 use Rattle.hg_machine.specs.State.{State}
 use Rattle.hg_reply.specs.declared.machine.Next.TheVariants.{More}

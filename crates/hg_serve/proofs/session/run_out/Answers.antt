@@ -1,4 +1,4 @@
-use Rattle.std.proofs.Common.{[], ◌++◌, refl, ap, ◌∙◌}
+use Rattle.std.proofs.Common.{[], ◌++◌}
 use Rattle.hg_serve.proofs.Telling.{counted-none, counted-then, counted-says, fell-none, fell-then}
 use Rattle.hg_serve.proofs.Moving.{at-rest, stands-on, moves-no_turn, moves-turn, moves-ends}
 use Rattle.hg_serve.proofs.session.run_out.Goals as goal

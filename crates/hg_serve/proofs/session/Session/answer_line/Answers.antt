@@ -1,4 +1,4 @@
-use Rattle.std.proofs.Common.{◌++◌, ap, ◌∙◌}
+use Rattle.std.proofs.Common.{◌++◌, ◌∙◌}
 use Rattle.hg_machine.specs.Script.{Line}
 use Rattle.hg_serve.proofs.Telling.{on_err, tells-then, tells-put, part-then, part-put, part-more}
 use Rattle.hg_serve.proofs.Moving.{moves-line}

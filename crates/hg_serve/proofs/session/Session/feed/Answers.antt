@@ -1,4 +1,4 @@
-use Rattle.std.proofs.Common.{◌++◌, ◌∷◌, [], ◌+◌, take, drop, get_or, refl, sym, ap, ◌∙◌, arith, append-nil}
+use Rattle.std.proofs.Common.{◌++◌, ◌∷◌, [], ◌+◌, take, drop, get_or, refl, sym, ap, ◌∙◌, append-nil}
 use Rattle.std.proofs.lemmas.List.{take_all}
 use Rattle.hg_serve.proofs.Telling.{fell-none, fell-then}
 use Rattle.hg_serve.proofs.ServeLemmas.{halts-later, parts-at, parts-more, serves-as, halts-as}

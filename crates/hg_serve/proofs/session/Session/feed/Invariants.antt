@@ -1,4 +1,4 @@
-use Rattle.std.proofs.Common.{◌≡◌, ◌≤◌, ◌++◌, List, ℕ, take, false}
+use Rattle.std.proofs.Common.{◌≡◌, ◌++◌, List, ℕ, take, false}
 use Rattle.hg_machine.specs.State.{State}
 use Rattle.hg_serve.specs.Output.{Seen, seen}
 use Rattle.hg_reply.specs.Steps.{NoneFell}
