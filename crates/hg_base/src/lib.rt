@@ -6,6 +6,8 @@
 
 mod addr;
 mod bytes;
+mod grants;
+mod heaps;
 mod pages;
 mod plain;
 #[cfg(test)]
@@ -14,7 +16,9 @@ mod tests;
 pub use addr::Addr;
 use arrayvec::ArrayVec;
 pub use bytes::{get_u16, get_u32, get_u64, put_u16, put_u32, put_u64};
-pub use pages::{Heaps, PageFault, Pages};
+pub use grants::{Freeable, Grant, Ledger};
+pub use heaps::Heaps;
+pub use pages::{PageFault, Pages};
 pub use plain::{PlainPin, PlainSpace};
 use std::marker::Model;
 

@@ -1,6 +1,6 @@
 //! The seam between the buffer pool and everything that is kept on pages.
 
-use crate::{Check, File, PageId, Request};
+use crate::{Check, File, PageId};
 
 /// Why a call over pages failed.
 #[derive(Clone, Copy, PartialEq, Eq, Debug)]
@@ -126,15 +126,4 @@ pub trait Pages {
     ghost writes: { (s : Self) (p : ℕ) (b w : List ℕ)
         → (state s).bytes p ≡ Some b → (state s).pinned p ≡ true → length w ≡ length b
         → state (after_write s p w) ≡ with_bytes (state s) p w };
-}
-
-/// A space that has heaps too. This is the part of the trait that tells what holds of them all.
-pub trait Heaps: Pages {
-    ghost use Rattle.std.specs.Prelude.{◌≡◌};
-    ghost use Rattle.hg_base.specs.HeapFacts.{AreHeaps};
-
-    /// The most pages that the request's heaps had at once since its cap was last set.
-    fn peak(&self, request: Request) -> u32
-        ensures count { result ≡ (Self.state self.now).heaps.peak request }
-        ensures heaps { AreHeaps (Self.state self.now) };
 }

@@ -4,7 +4,7 @@ ghost use Rattle.std.specs.Prelude.{◌≡◌, ◌+◌, ◌*◌, ◌<◌, ◌≤
 ghost use Rattle.hg_base.specs.Space.{key};
 ghost use Rattle.hg_base.specs.Plain.{page_limit};
 
-use crate::{File, Heaps, PageFault, PageId, Pages, Request};
+use crate::{File, PageFault, PageId, Pages};
 use std::alloc::{AllocError, Global};
 use std::marker::Model;
 
@@ -344,10 +344,4 @@ impl Pages for PlainSpace {
     }
 
     ghost writes = { writes_of };
-}
-
-impl Heaps for PlainSpace {
-    fn peak(&self, _request: Request) -> u32 {
-        0
-    }
 }
