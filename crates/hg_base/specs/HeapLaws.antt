@@ -60,17 +60,17 @@ shifted-none (Some n) h = absurd (none-some (n + 1) (sym h))
 pub place_in-front : (xs ys : List ℕ) (a n : ℕ) → place_in xs a ≡ Some n → place_in (xs ++ ys) a ≡ Some n
 place_in-front [] ys a n h = absurd (none-some n h)
 place_in-front (x ∷ xs) ys a n h = elim (x == a) as (λ b. (if b then Some 0 else shifted (place_in xs a)) ≡ Some n → (if b then Some 0 else shifted (place_in (xs ++ ys) a)) ≡ Some n) [
-      | true ↦ λ e. e
-      | false ↦ λ e. shifted-some (place_in xs a) (place_in (xs ++ ys) a) n (λ m. place_in-front xs ys a m) e
-    ] h
+  | true ↦ λ e. e
+  | false ↦ λ e. shifted-some (place_in xs a) (place_in (xs ++ ys) a) n (λ m. place_in-front xs ys a m) e
+] h
 
 -- an address that stands behind others, and is none of them, names what it names there
 pub place_in-behind : (xs : List ℕ) (a : ℕ) → place_in xs a ≡ None → place_in (xs ++ a ∷ []) a ≡ Some (length xs)
 place_in-behind [] a h = ap (λ b. if b then Some 0 else None) (eq-eqb a a refl)
 place_in-behind (x ∷ xs) a h = elim (x == a) as (λ b. (if b then Some 0 else shifted (place_in xs a)) ≡ None → (if b then Some 0 else shifted (place_in (xs ++ a ∷ []) a)) ≡ Some (length (x ∷ xs))) [
-      | true ↦ λ e. absurd (none-some 0 (sym e))
-      | false ↦ λ e. ap shifted (place_in-behind xs a (shifted-none (place_in xs a) e)) ∙ ap Some (omega arith)
-    ] h
+  | true ↦ λ e. absurd (none-some 0 (sym e))
+  | false ↦ λ e. ap shifted (place_in-behind xs a (shifted-none (place_in xs a) e)) ∙ ap Some (omega arith)
+] h
 
 slice_get-front : {X : Type 0} (xs ys : List X) (n : ℕ) (x : X) → slice_get xs n ≡ Some x → slice_get (xs ++ ys) n ≡ Some x
 slice_get-front [] ys n x h = absurd (none-some x h)

@@ -91,6 +91,10 @@ room_in s h = of_locked (λ o frames. Some (room_left o.layout)) (standing_of s 
 abbrev pub next_in : Space → ℕ → Option ℕ
 next_in s h = of_locked (λ o frames. Some (next_address o.layout frames)) (standing_of s h)
 
+-- each object of the heap is there as before, under its address
+abbrev pub KeepsObjects : Space → Space → ℕ → Type 0
+KeepsObjects a b h = (at : ℕ) (x : Object) → object_in a h at ≡ Some x → object_in b h at ≡ Some x
+
 -- a word that may be a link: 0, or the address of an object
 abbrev pub IsTarget : Space → ℕ → ℕ → Type 0
 IsTarget s h word = (word ≡ 0) ⊎ IsSome (object_in s h word)

@@ -15,7 +15,7 @@ use crate::{Addr, Grant, HeapNo, NoRoom, PageFault, Pages, Request};
 ///
 /// A grant of one page comes with each page of a heap, and comes back with it.
 pub trait Heaps: Pages {
-    ghost use Rattle.std.specs.Prelude.{◌≡◌, ◌≢◌, ℕ, ◌+◌, ◌<◌, ◌≤◌, ◌↔◌, List, length, take, IsSome, Some, None, Option, IsOk, IfOk, IfErr, IfSome, OnOk, OnErr, IsErrOf, MatchOption, option_map};
+    ghost use Rattle.std.specs.Prelude.{◌≡◌, ◌≢◌, ℕ, ◌+◌, ◌<◌, ◌≤◌, ◌↔◌, List, length, take, replicate, IsSome, Some, None, Option, IsOk, IfOk, IfErr, IfSome, OnOk, OnErr, IsErrOf, MatchOption, option_map};
     ghost use Rattle.std.specs.Borrow.{sem};
     ghost use Rattle.hg_base.specs.Lending.{LendsBytes};
     ghost use Rattle.hg_base.specs.Space.{Space, IsSame, IsFull};
@@ -23,7 +23,7 @@ pub trait Heaps: Pages {
     ghost use Rattle.hg_base.specs.Content.{row_object, directory, object_size};
     ghost use Rattle.hg_base.specs.HeapContent.{no_links};
     ghost use Rattle.hg_base.specs.HeapFacts.{AreHeaps};
-    ghost use Rattle.hg_base.specs.HeapStates.{MayGrow, CanLock, CanDrain, MakesHeap, AddsHeapPage, Locks, Drains, ReadFault, IsLocked, IsTarget, IsWordAt, HasWord, heap_count, object_in, payload_in, link_in, words_in, roots_in, room_in, next_in, after_row, after_directory, after_word, after_root, after_bytes, after_unlock, after_drop, pages_in, request_in, refused_fault, NamesOneOf};
+    ghost use Rattle.hg_base.specs.HeapStates.{MayGrow, CanLock, CanDrain, MakesHeap, AddsHeapPage, Locks, Drains, ReadFault, IsLocked, IsTarget, IsWordAt, HasWord, heap_count, payload_in, link_in, words_in, roots_in, room_in, next_in, after_row, after_directory, after_word, after_root, after_bytes, after_unlock, after_drop, pages_in, request_in, refused_fault, NamesOneOf, KeepsObjects};
     ghost use Rattle.hg_base.specs.declared.File.TheVariants.{Temp};
 
     // the space once the last bytes behind a loan of a payload are known
@@ -71,6 +71,11 @@ pub trait Heaps: Pages {
         ensures address { IfOk result (λ a. next_in (Self.state self.old) h.0 ≡ Some a.word) }
         ensures ok { OnOk result (Self.state self.new ≡ after_row (Self.state self.old) h.0
             payload.now link.word) }
+        ensures there { IfOk result (λ a. payload_in (Self.state self.new) h.0 a.word
+            ≡ Some payload.now) }
+        ensures leads { IfOk result (λ a. link_in (Self.state self.new) h.0 a.word
+            ≡ Some link.word) }
+        ensures kept { KeepsObjects (Self.state self.old) (Self.state self.new) h.0 }
         ensures err { OnErr result (Self.state self.new ≡ Self.state self.old) };
 
     /// Places a directory of `n` addresses, all of them nil. NoRoom as in `place`.
@@ -80,12 +85,16 @@ pub trait Heaps: Pages {
             (directory (no_links n)) ≤ free) }
         ensures address { IfOk result (λ a. next_in (Self.state self.old) h.0 ≡ Some a.word) }
         ensures ok { OnOk result (Self.state self.new ≡ after_directory (Self.state self.old) h.0 n) }
+        ensures there { IfOk result (λ a. words_in (Self.state self.new) h.0 a.word
+            ≡ Some (replicate n 0)) }
+        ensures kept { KeepsObjects (Self.state self.old) (Self.state self.new) h.0 }
         ensures err { OnErr result (Self.state self.new ≡ Self.state self.old) };
 
     /// The k-th address of a directory, from 0.
     fn word(&self, h: HeapNo, dir: Addr, k: u16) -> Addr
         requires { HasWord (words_in (Self.state self.now) h.0 dir.word) k }
-        ensures { IsWordAt (words_in (Self.state self.now) h.0 dir.word) k result.word };
+        ensures value { IsWordAt (words_in (Self.state self.now) h.0 dir.word) k result.word }
+        ensures target { IsTarget (Self.state self.now) h.0 result.word };
 
     /// Sets the k-th address of a directory to nil or to any object of the heap.
     fn set_word(&mut self, h: HeapNo, dir: Addr, k: u16, to: Addr)
@@ -96,7 +105,8 @@ pub trait Heaps: Pages {
     /// The address that a row leads to.
     fn follow(&self, h: HeapNo, a: Addr) -> Addr
         requires { IsSome (payload_in (Self.state self.now) h.0 a.word) }
-        ensures { link_in (Self.state self.now) h.0 a.word ≡ Some result.word };
+        ensures value { link_in (Self.state self.now) h.0 a.word ≡ Some result.word }
+        ensures target { IsTarget (Self.state self.now) h.0 result.word };
 
     /// The payload of a row, where it stands.
     fn payload(&self, h: HeapNo, a: Addr) -> &[u8]
@@ -125,7 +135,8 @@ pub trait Heaps: Pages {
     fn root(&self, h: HeapNo, k: u8) -> Addr
         requires locked { IsLocked (Self.state self.now) h.0 }
         requires four { k < 4 }
-        ensures { IsWordAt (roots_in (Self.state self.now) h.0) k result.word };
+        ensures value { IsWordAt (roots_in (Self.state self.now) h.0) k result.word }
+        ensures target { IsTarget (Self.state self.now) h.0 result.word };
 
     /// Sets a root to nil or to any object of the heap.
     fn set_root(&mut self, h: HeapNo, k: u8, to: Addr)

@@ -3,9 +3,28 @@ ghost use Rattle.std.specs.Prelude.{◌≡◌, ◌≢◌, ℕ, ◌+◌, ◌<◌,
 ghost use Rattle.hg_base.specs.Space.{Space, key, NoPins, IsSame};
 ghost use Rattle.hg_base.specs.Causes.{HasCause, fault_of};
 ghost use Rattle.hg_base.specs.Steadiness.{Steady, these_pages};
+ghost use Rattle.hg_base.specs.HeapStates.{IsLocked, payload_in, KeepsObjects};
 
-use crate::{File, Heaps, PageFault, PageId, Pages, Place, PlainSpace, Request};
+use crate::{
+    Addr, File, Grant, HeapNo, Heaps, Ledger, NoRoom, PageFault, PageId, Pages, Place, PlainSpace,
+    Request,
+};
 use std::test::Fail;
+
+/// Puts a row in front of the list that begins at root 0 of a heap.
+fn push_front<H: Heaps>(heaps: &mut H, h: HeapNo, payload: &[u8]) -> Result<Addr, NoRoom>
+    requires locked { IsLocked (H.state heaps.old) h.0 }
+    requires some { 0 < length payload.now }
+    requires short { length payload.now ≤ 3920 }
+    ensures there { IfOk result (λ a. payload_in (H.state heaps.new) h.0 a.word ≡ Some payload.now) }
+    ensures kept { KeepsObjects (H.state heaps.old) (H.state heaps.new) h.0 }
+    ensures err { OnErr result (H.state heaps.new ≡ H.state heaps.old) }
+{
+    let first = heaps.root(h, 0);
+    let row = heaps.place(h, payload, first)?;
+    heaps.set_root(h, 0, row);
+    Ok(row)
+}
 
 /// The first byte of a page.
 fn first_byte<S: Pages>(space: &mut S, page: PageId) -> Result<u8, PageFault>
@@ -158,7 +177,6 @@ fn pages_of_a_plain_space(rt: HostRuntime) -> Result<(), Fail> {
     assert_eq!(rt; (space.taken(File::Main), space.taken(File::Temp)), (3, 1));
     assert_eq!(rt; (space.main_faults(), space.temp_faults()), (0, 0));
     assert_eq!(rt; (space.fulls(File::Main), space.fulls(File::Temp)), (0, 0));
-    assert_eq!(rt; space.peak(Request(3)), 0);
     Ok(())
 }
 
@@ -168,5 +186,24 @@ fn places_as_numbers(rt: HostRuntime) -> Result<(), Fail> {
     assert_eq!(rt; place.number(), 458_880);
     assert_eq!(rt; Place::of_number(458_880), Some(place));
     assert_eq!(rt; Place::of_number(1 << 48), None);
+    Ok(())
+}
+
+#[test]
+fn grants_of_a_ledger(rt: HostRuntime) -> Result<(), Fail> {
+    let mut ledger = Ledger::new();
+    let first = ledger.grant(Request(3));
+    let second = ledger.grant(Request(3));
+    let mut both = first.join(second);
+    assert_eq!(rt;
+        (both.request(), both.pages(), ledger.held(Request(3))),
+        (Request(3), 2, 2)
+    );
+    let one = both.split();
+    assert_eq!(rt; (one.pages(), both.pages()), (1, 1));
+    ledger.returned(one);
+    ledger.returned(both);
+    ledger.returned(Grant::none(Request(3)));
+    assert_eq!(rt; (ledger.held(Request(3)), ledger.held(Request(4))), (0, 0));
     Ok(())
 }
