@@ -1,9 +1,14 @@
 pub mod BoundByHand
+pub mod ChangeRefusalsByHand
 pub mod ChangesByHand
 pub mod CreationsByHand
 pub mod FiltersByHand
 pub mod GroupingByHand
 pub mod JoinsByHand
+pub mod LimitsByHand
 pub mod LinesByHand
+pub mod NeedsByHand
 pub mod OrderingByHand
+pub mod PlansByHand
 pub mod RefusalsByHand
+pub mod ScriptsByHand

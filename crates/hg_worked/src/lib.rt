@@ -5,8 +5,8 @@
 mod rows;
 
 pub use rows::{
-    changed_tables, created_things, filters, grouped_statements, joins, lines_read,
-    ordered_statements, refused_statements,
+    changed_tables, created_things, filters, grouped_statements, joins, limits, lines_read, needs,
+    ordered_statements, plans, refused_changes, refused_statements, scripts,
 };
 
 #[cfg(test)]
