@@ -6,9 +6,14 @@ pub mod FiltersByHand
 pub mod GroupingByHand
 pub mod JoinsByHand
 pub mod LimitsByHand
+pub mod LineCountsByHand
+pub mod LineNumbersByHand
 pub mod LinesByHand
 pub mod NeedsByHand
 pub mod OrderingByHand
 pub mod PlansByHand
 pub mod RefusalsByHand
+pub mod Repeats
 pub mod ScriptsByHand
+pub mod Sentences
+pub mod Spelling

@@ -1,6 +1,6 @@
 -- By computation, and over 2,000 rows by their number.
-use Rattle.std.proofs.Common.{◌≡◌, refl, ap, ◌∙◌, arith, true, List, [], ◌∷◌, ◌++◌, length, append-nil, ◌+◌, ◌*◌, suc}
-use Rattle.std.specs.List.{filter, flat_map}
+use Rattle.std.proofs.Common.{◌≡◌, refl, ap, arith, true, List, [], ◌∷◌, length, suc}
+use Rattle.std.specs.List.{filter}
 use Rattle.hg_model.specs.CommandNeeds.{needs_of}
 use Rattle.hg_model.specs.Intake.{intake, select_need, rows_before}
 use Rattle.hg_model.specs.SelectMeaning.{meaning, kept_rows, keeps_row, row_values, group_values, group_key, keeps_group, pair_of, row_pair, group_pair, pairs_of}

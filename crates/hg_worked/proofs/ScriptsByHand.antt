@@ -1,15 +1,15 @@
 -- By computation, and by the length of a line.
-use Rattle.std.proofs.Common.{◌≡◌, ◌≤◌, ◌<◌, ℕ, zero, suc, refl, subst, sym, arith, true, List, [], ◌∷◌, ◌++◌, length, length-append, replicate}
+use Rattle.std.proofs.Common.{ℕ, refl, arith, List, [], ◌∷◌, length-append, replicate}
 use Rattle.std.proofs.lemmas.List.{length-replicate}
 use Rattle.hg_model.specs.LineReading as heard
 use Rattle.hg_model.specs.LineReading.{ReadsLine}
 use Rattle.hg_model.specs.Reading as reading
 use Rattle.hg_model.specs.Reading.{Blank, BadNumber}
-use Rattle.hg_model.specs.Script.{lines_of, whole_lines, ended_lines, last_part, without_return, text_of_line}
+use Rattle.hg_model.specs.Script.{lines_of, whole_lines, ended_lines, last_part, without_return}
 use Rattle.hg_model.specs.Tokens as tokens
 use Rattle.hg_model.specs.Tokens.{Spells}
 use Rattle.hg_worked.proofs.LinesByHand.{no_turns}
-use Rattle.hg_worked.specs.Scripts.{ScriptsHold, LineReadingsHold, comment_line}
+use Rattle.hg_worked.specs.Scripts.{ScriptsHold, LineReadingsHold}
 
 pub scripts_hold : ScriptsHold
 unfolding lines_of whole_lines ended_lines last_part

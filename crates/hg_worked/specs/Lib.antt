@@ -6,6 +6,8 @@ pub mod Filters
 pub mod Grouping
 pub mod Joins
 pub mod LimitsHeld
+pub mod LineCounts
+pub mod LineNumbers
 pub mod Lines
 pub mod Ordering
 pub mod PageNeeds

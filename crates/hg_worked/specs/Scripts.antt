@@ -1,5 +1,5 @@
 -- Worked scripts, each with its lines by hand.
-use Rattle.std.specs.Prelude.{◌≡◌, ℕ, true, false, List, [], ◌∷◌, ◌++◌, codes, replicate}
+use Rattle.std.specs.Prelude.{◌≡◌, ℕ, true, false, [], ◌∷◌, ◌++◌, codes, replicate}
 use Rattle.hg_model.specs.LineReading.{ReadsLine, TooLong, ReadAs}
 use Rattle.hg_model.specs.Reading.{Blank, BadNumber}
 use Rattle.hg_model.specs.Script.{Line, lines_of, whole_lines, text_of_line}

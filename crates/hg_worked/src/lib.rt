@@ -6,7 +6,8 @@ mod rows;
 
 pub use rows::{
     changed_tables, created_things, filters, grouped_statements, joins, limits, lines_read, needs,
-    ordered_statements, plans, refused_changes, refused_statements, scripts,
+    numbers_out_of_range, ordered_statements, plans, refused_changes, refused_statements, scripts,
+    too_many_things,
 };
 
 #[cfg(test)]

@@ -7,6 +7,8 @@ ghost use Rattle.hg_worked.specs.Grouping.{GroupingHold};
 ghost use Rattle.std.specs.Prelude.{ℕ};
 ghost use Rattle.hg_worked.specs.Joins.{JoinsHold};
 ghost use Rattle.hg_worked.specs.LimitsHeld.{LimitsHold};
+ghost use Rattle.hg_worked.specs.LineCounts.{LineCountsFit, LineCountsHold};
+ghost use Rattle.hg_worked.specs.LineNumbers.{LineNumbersHold, PoolNumbersHold};
 ghost use Rattle.hg_worked.specs.Lines.{LinesHold};
 ghost use Rattle.hg_worked.specs.Ordering.{OrderingHold};
 ghost use Rattle.hg_worked.specs.PageNeeds.{CommandNeedsHold, CountedJoinNeeds, IntakesHold, JoinNeeds};
@@ -63,6 +65,18 @@ pub fn scripts()
 /// What lines are read as, worked by hand, whatever the most frames of the pool may be.
 pub fn lines_read()
     ensures { (max : ℕ) → LinesHold max }
+{}
+
+/// Lines with a number out of range, for each command that has one, worked by hand.
+pub fn numbers_out_of_range()
+    ensures any { (max : ℕ) → LineNumbersHold max }
+    ensures pool { PoolNumbersHold }
+{}
+
+/// Lines that have too many of something, for each kind, and such that just have not, worked by hand.
+pub fn too_many_things()
+    ensures too_many { (max : ℕ) → LineCountsHold max }
+    ensures just_fit { (max : ℕ) → LineCountsFit max }
 {}
 
 /// CREATE TABLE and CREATE INDEX, worked by hand.
