@@ -1,6 +1,10 @@
-pub mod InTurn
+pub mod ChangeCounts
 pub mod Folds
+pub mod InTurn
 pub mod KeyOrder
 pub mod Leaves
 pub mod Magnitudes
+pub mod ScriptLines
+pub mod Splitting
+pub mod Testing
 pub mod Widths

@@ -17,6 +17,7 @@ pub data Refusal : Type 0 where
   DuplicateKey : Refusal
   BadNumber : Refusal
   RowTooLong : Refusal
+  StampsUsedUp : Refusal
   KeyTooLong : Refusal
 
 abbrev pub code_of : Refusal → ℕ
@@ -33,6 +34,7 @@ code_of (NullNotAllowed c) = 12
 code_of DuplicateKey = 13
 code_of BadNumber = 22
 code_of RowTooLong = 23
+code_of StampsUsedUp = 24
 code_of KeyTooLong = 25
 
 -- the first cause of a list of them

@@ -1,26 +1,57 @@
--- A script as lines. Our own rule: a line is the bytes up to a line feed, a last one without a line feed
--- counts where it has a byte, and one carriage return directly before the line feed is dropped. A line's
--- length is counted before that.
-use Rattle.std.specs.Prelude.{ℕ, Bool, List, [], ◌∷◌, ◌++◌, ◌==◌, ◌&&◌, length, take, ◌-◌, nat_lt, get_or, if◌then◌else◌}
+-- A script as lines. Our own rule: a line is the bytes up to a line feed; a last line without a line feed
+-- is a line where it has a byte; one carriage return directly before the line feed is not of its text; a
+-- line has at most 4,096 bytes before its line feed, counted before that carriage return is dropped.
+use Rattle.std.specs.Prelude.{ℕ, ◌<◌, ◌≤◌, Bool, true, false, List, [], ◌∷◌, ◌++◌, length, ◌==◌, if◌then◌else◌}
 
--- the lines that some bytes end, where `part` of the first came before; and what begins no whole line
-abbrev pub lines_after : List ℕ → List ℕ → List (List ℕ)
-lines_after part [] = []
-lines_after part (b ∷ bs) = if b == 10 then part ∷ lines_after [] bs else lines_after (part ++ b ∷ []) bs
+pub record Line : Type 0 where
+  pub bytes : List ℕ
+  -- whether a line feed stands behind it
+  pub ended : Bool
 
-abbrev pub rest_after : List ℕ → List ℕ → List ℕ
-rest_after part [] = part
-rest_after part (b ∷ bs) = if b == 10 then rest_after [] bs else rest_after (part ++ b ∷ []) bs
+-- the lines that a line feed ends, where `part` stands in front of the bytes
+unfoldable pub ended_lines : List ℕ → List ℕ → List Line
+ended_lines part [] = []
+ended_lines part (b ∷ bs) =
+    if b == 10 then (record { bytes = part; ended = true }) ∷ ended_lines [] bs else ended_lines (part ++ b ∷ []) bs
 
--- a line without the carriage return at its end
+-- what stands behind the last line feed, where `part` stands in front of the bytes
+unfoldable pub last_part : List ℕ → List ℕ → List ℕ
+last_part part [] = part
+last_part part (b ∷ bs) = if b == 10 then last_part [] bs else last_part (part ++ b ∷ []) bs
+
+-- a last line without a line feed, where it has a byte
+abbrev pub unended : List ℕ → List Line
+unended [] = []
+unended (b ∷ bs) = (record { bytes = b ∷ bs; ended = false }) ∷ []
+
+-- the lines of a script that a line feed ends
+unfoldable pub whole_lines : List ℕ → List Line
+whole_lines script = ended_lines [] script
+
+-- all lines of a script
+unfoldable pub lines_of : List ℕ → List Line
+lines_of script = whole_lines script ++ unended (last_part [] script)
+
+-- without a carriage return at the end
 abbrev pub without_return : List ℕ → List ℕ
-without_return line =
-    if nat_lt 0 (length line) && get_or line (length line - 1) 0 == 13 then take (length line - 1) line else line
+without_return [] = []
+without_return (b ∷ []) = if b == 13 then [] else b ∷ []
+without_return (b ∷ c ∷ bs) = b ∷ without_return (c ∷ bs)
 
-abbrev pub is_too_long : List ℕ → Bool
-is_too_long line = nat_lt 4096 (length line)
+-- the text of a line: no carriage return is dropped where no line feed follows
+abbrev pub text_of_line : Line → List ℕ
+text_of_line line = if line.ended then without_return line.bytes else line.bytes
 
--- the last line, if it has a byte: no carriage return is dropped from it, since no line feed follows
-abbrev pub last_line : List ℕ → List (List ℕ)
-last_line [] = []
-last_line (b ∷ bs) = (b ∷ bs) ∷ []
+-- the length of a line, with the carriage return that its text has not
+abbrev pub line_length : Line → ℕ
+line_length line = length line.bytes
+
+abbrev pub IsTooLong : Line → Type 0
+IsTooLong line = 4096 < line_length line
+
+abbrev pub IsNotTooLong : Line → Type 0
+IsNotTooLong line = line_length line ≤ 4096
+
+-- the bytes that lines stand for, each with its line feed where it has one
+abbrev pub bytes_of_line : Line → List ℕ
+bytes_of_line line = if line.ended then line.bytes ++ 10 ∷ [] else line.bytes

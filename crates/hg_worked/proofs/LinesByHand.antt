@@ -109,7 +109,7 @@ not_empty (tokens.Spells.sign ts x bs is ends s) n e = cc
 no_command : (max : ℕ) → Reads max (codes "SELEC") Syntax
 no_command max = reading.Reads.syntax_error (λ s. not_empty s refl refl) (λ ts c x s l. false_true (sym (not_begun s refl) ∙ begun_line l))
 
-no_turns : (max : ℕ) → Reads max (codes "WORK 0") BadNumber
+pub no_turns : (max : ℕ) → Reads max (codes "WORK 0") BadNumber
 no_turns max =
     reading.Reads.bad_number (Word (codes "work") ∷ Digits (codes "0") ∷ []) (Work 0) []
     (tokens.Spells.word _ (codes "WORK") (codes " 0") refl refl (tokens.Spells.blank _ 32 (codes "0") refl (tokens.Spells.number [] (codes "0") [] refl refl tokens.Spells.at_end)))

@@ -1,10 +1,17 @@
 pub mod Answers
+pub mod ChangeRefusals
 pub mod Changes
 pub mod Creations
 pub mod Filters
 pub mod Grouping
 pub mod Joins
+pub mod LimitsHeld
+pub mod LineCounts
+pub mod LineNumbers
 pub mod Lines
 pub mod Ordering
+pub mod PageNeeds
+pub mod Plans
 pub mod Refusals
 pub mod Samples
+pub mod Scripts

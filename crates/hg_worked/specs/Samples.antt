@@ -1,13 +1,16 @@
 -- The tables of the worked statements.
 use Rattle.std.specs.Prelude.{true, false, List, [], ◌∷◌, Some, None, pos, negsuc, codes}
+use Rattle.hg_model.specs.Creation.{Index}
 use Rattle.hg_model.specs.Query.{Query}
 use Rattle.hg_model.specs.Tables.{Table}
 use Rattle.hg_model.specs.declared.trees.Cmp.TheVariants as cmp
+use Rattle.hg_model.specs.declared.trees.Column.{Column}
 use Rattle.hg_model.specs.declared.trees.Literal.TheVariants as literal
 use Rattle.hg_model.specs.declared.trees.Node.{Node}
 use Rattle.hg_model.specs.declared.trees.Node.TheVariants as node
 use Rattle.hg_model.specs.declared.trees.OrderBy.TheVariants.{Column as ByColumn}
 use Rattle.hg_model.specs.declared.trees.SqlType.TheVariants.{Integer, Varchar}
+use Rattle.hg_model.specs.declared.values.Value.{Value}
 use Rattle.hg_model.specs.declared.values.Value.TheVariants.{Null, Int, Text}
 
 abbrev pub tables_1 : List Table
@@ -79,3 +82,18 @@ column_a = node.Col (record { table = None; name = codes "a" })
 -- SELECT * FROM t WHERE a > 1 ORDER BY a DESC
 abbrev pub above_one : Query
 above_one = record { distinct = false; star = true; outputs = []; tables = (record { table = codes "t"; alias = codes "t"; on = None } ∷ []); filter = (Some 2); group = []; having = None; order = (record { by = ByColumn 3; descending = true } ∷ []); nodes = (column_a ∷ (node.Lit (literal.Int (pos 1))) ∷ (node.Compare cmp.Gt 0 1) ∷ column_a ∷ []) }
+
+-- three tables of two columns each, over any rows
+abbrev pub columns_kv : List Column
+columns_kv = record { name = codes "k"; ty = Integer; not_null = false } ∷ record { name = codes "v"; ty = Integer; not_null = false } ∷ []
+
+abbrev pub tables_pqr : List (List Value) → List (List Value) → List (List Value) → List Table
+tables_pqr ps qs rs =
+    record { name = codes "p"; columns = columns_kv; rows = ps } ∷ record { name = codes "q"; columns = columns_kv; rows = qs }
+    ∷ record { name = codes "r"; columns = columns_kv; rows = rs } ∷ []
+
+-- indexes on q (k), p (v), p (k, v) and p (k), in the order of their creation
+abbrev pub indexes_pq : List Index
+indexes_pq =
+    record { name = None; table = codes "q"; columns = (0 ∷ []); unique = false } ∷ record { name = None; table = codes "p"; columns = (1 ∷ []); unique = false }
+    ∷ record { name = None; table = codes "p"; columns = (0 ∷ 1 ∷ []); unique = false } ∷ record { name = None; table = codes "p"; columns = (0 ∷ []); unique = false } ∷ []

@@ -5,8 +5,9 @@
 mod rows;
 
 pub use rows::{
-    changed_tables, created_things, filters, grouped_statements, joins, lines_read,
-    ordered_statements, refused_statements,
+    changed_tables, created_things, filters, grouped_statements, joins, limits, lines_read, needs,
+    numbers_out_of_range, ordered_statements, plans, refused_changes, refused_statements, scripts,
+    too_many_things,
 };
 
 #[cfg(test)]
