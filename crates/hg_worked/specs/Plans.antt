@@ -24,6 +24,10 @@ tests_of q k = let scope = scope_of (tables_pqr [] [] []) q in tests_at scope (p
 abbrev pub index_for : Query → ℕ → Option IndexRead
 index_for q k = let scope = scope_of (tables_pqr [] [] []) q in index_of indexes_pq scope (positions_of scope q) q k (slice_get q.tables k)
 
+-- nine conditions p.k = q.k
+abbrev pub nine_equalities : Query
+nine_equalities = record { distinct = false; star = true; outputs = []; tables = (record { table = codes "p"; alias = codes "p"; on = None } ∷ record { table = codes "q"; alias = codes "q"; on = None } ∷ []); filter = (Some 34); group = []; having = None; order = []; nodes = ((node.Col (record { table = Some (codes "p"); name = codes "k" })) ∷ (node.Col (record { table = Some (codes "q"); name = codes "k" })) ∷ (node.Compare cmp.Eq 0 1) ∷ (node.Col (record { table = Some (codes "p"); name = codes "k" })) ∷ (node.Col (record { table = Some (codes "q"); name = codes "k" })) ∷ (node.Compare cmp.Eq 3 4) ∷ (node.Both 2 5) ∷ (node.Col (record { table = Some (codes "p"); name = codes "k" })) ∷ (node.Col (record { table = Some (codes "q"); name = codes "k" })) ∷ (node.Compare cmp.Eq 7 8) ∷ (node.Both 6 9) ∷ (node.Col (record { table = Some (codes "p"); name = codes "k" })) ∷ (node.Col (record { table = Some (codes "q"); name = codes "k" })) ∷ (node.Compare cmp.Eq 11 12) ∷ (node.Both 10 13) ∷ (node.Col (record { table = Some (codes "p"); name = codes "k" })) ∷ (node.Col (record { table = Some (codes "q"); name = codes "k" })) ∷ (node.Compare cmp.Eq 15 16) ∷ (node.Both 14 17) ∷ (node.Col (record { table = Some (codes "p"); name = codes "k" })) ∷ (node.Col (record { table = Some (codes "q"); name = codes "k" })) ∷ (node.Compare cmp.Eq 19 20) ∷ (node.Both 18 21) ∷ (node.Col (record { table = Some (codes "p"); name = codes "k" })) ∷ (node.Col (record { table = Some (codes "q"); name = codes "k" })) ∷ (node.Compare cmp.Eq 23 24) ∷ (node.Both 22 25) ∷ (node.Col (record { table = Some (codes "p"); name = codes "k" })) ∷ (node.Col (record { table = Some (codes "q"); name = codes "k" })) ∷ (node.Compare cmp.Eq 27 28) ∷ (node.Both 26 29) ∷ (node.Col (record { table = Some (codes "p"); name = codes "k" })) ∷ (node.Col (record { table = Some (codes "q"); name = codes "k" })) ∷ (node.Compare cmp.Eq 31 32) ∷ (node.Both 30 33) ∷ []) }
+
 pub record ConditionsHold : Type 0 where
   -- SELECT * FROM p WHERE k = 1 AND v BETWEEN 2 AND 3
   pub between_is_split : split_conditions (record { distinct = false; star = true; outputs = []; tables = (record { table = codes "p"; alias = codes "p"; on = None } ∷ []); filter = (Some 9); group = []; having = None; order = []; nodes = ((node.Col (record { table = None; name = codes "k" })) ∷ (node.Lit (literal.Int (pos 1))) ∷ (node.Compare cmp.Eq 0 1) ∷ (node.Col (record { table = None; name = codes "v" })) ∷ (node.Lit (literal.Int (pos 2))) ∷ (node.Compare cmp.Ge 3 4) ∷ (node.Lit (literal.Int (pos 3))) ∷ (node.Compare cmp.Le 3 6) ∷ (node.Both 5 7) ∷ (node.Both 2 8) ∷ []) }) ≡ 2 ∷ 5 ∷ 7 ∷ []
@@ -49,10 +53,10 @@ pub record ConditionsHold : Type 0 where
   pub no_equality : keys_of (record { distinct = false; star = true; outputs = []; tables = (record { table = codes "p"; alias = codes "p"; on = None } ∷ record { table = codes "q"; alias = codes "q"; on = None } ∷ []); filter = (Some 2); group = []; having = None; order = []; nodes = ((node.Col (record { table = Some (codes "p"); name = codes "k" })) ∷ (node.Col (record { table = Some (codes "q"); name = codes "k" })) ∷ (node.Compare cmp.Le 0 1) ∷ []) }) 1 ≡ []
   -- SELECT * FROM p, q, r WHERE p.k = q.k AND r.v = p.v AND q.v = r.k
   pub of_any_earlier_table : keys_of (record { distinct = false; star = true; outputs = []; tables = (record { table = codes "p"; alias = codes "p"; on = None } ∷ record { table = codes "q"; alias = codes "q"; on = None } ∷ record { table = codes "r"; alias = codes "r"; on = None } ∷ []); filter = (Some 10); group = []; having = None; order = []; nodes = ((node.Col (record { table = Some (codes "p"); name = codes "k" })) ∷ (node.Col (record { table = Some (codes "q"); name = codes "k" })) ∷ (node.Compare cmp.Eq 0 1) ∷ (node.Col (record { table = Some (codes "r"); name = codes "v" })) ∷ (node.Col (record { table = Some (codes "p"); name = codes "v" })) ∷ (node.Compare cmp.Eq 3 4) ∷ (node.Both 2 5) ∷ (node.Col (record { table = Some (codes "q"); name = codes "v" })) ∷ (node.Col (record { table = Some (codes "r"); name = codes "k" })) ∷ (node.Compare cmp.Eq 7 8) ∷ (node.Both 6 9) ∷ []) }) 2 ≡ record { condition = 5; own = 3; earlier = 4 } ∷ record { condition = 9; own = 8; earlier = 7 } ∷ []
-  -- SELECT * FROM p, q WHERE p.k = q.k AND p.k = q.k AND p.k = q.k AND p.k = q.k AND p.k = q.k AND p.k = q.k AND p.k = q.k AND p.k = q.k AND p.k = q.k
-  pub eight_keys : map (λ (key : JoinKey). key.condition) (keys_of (record { distinct = false; star = true; outputs = []; tables = (record { table = codes "p"; alias = codes "p"; on = None } ∷ record { table = codes "q"; alias = codes "q"; on = None } ∷ []); filter = (Some 34); group = []; having = None; order = []; nodes = ((node.Col (record { table = Some (codes "p"); name = codes "k" })) ∷ (node.Col (record { table = Some (codes "q"); name = codes "k" })) ∷ (node.Compare cmp.Eq 0 1) ∷ (node.Col (record { table = Some (codes "p"); name = codes "k" })) ∷ (node.Col (record { table = Some (codes "q"); name = codes "k" })) ∷ (node.Compare cmp.Eq 3 4) ∷ (node.Both 2 5) ∷ (node.Col (record { table = Some (codes "p"); name = codes "k" })) ∷ (node.Col (record { table = Some (codes "q"); name = codes "k" })) ∷ (node.Compare cmp.Eq 7 8) ∷ (node.Both 6 9) ∷ (node.Col (record { table = Some (codes "p"); name = codes "k" })) ∷ (node.Col (record { table = Some (codes "q"); name = codes "k" })) ∷ (node.Compare cmp.Eq 11 12) ∷ (node.Both 10 13) ∷ (node.Col (record { table = Some (codes "p"); name = codes "k" })) ∷ (node.Col (record { table = Some (codes "q"); name = codes "k" })) ∷ (node.Compare cmp.Eq 15 16) ∷ (node.Both 14 17) ∷ (node.Col (record { table = Some (codes "p"); name = codes "k" })) ∷ (node.Col (record { table = Some (codes "q"); name = codes "k" })) ∷ (node.Compare cmp.Eq 19 20) ∷ (node.Both 18 21) ∷ (node.Col (record { table = Some (codes "p"); name = codes "k" })) ∷ (node.Col (record { table = Some (codes "q"); name = codes "k" })) ∷ (node.Compare cmp.Eq 23 24) ∷ (node.Both 22 25) ∷ (node.Col (record { table = Some (codes "p"); name = codes "k" })) ∷ (node.Col (record { table = Some (codes "q"); name = codes "k" })) ∷ (node.Compare cmp.Eq 27 28) ∷ (node.Both 26 29) ∷ (node.Col (record { table = Some (codes "p"); name = codes "k" })) ∷ (node.Col (record { table = Some (codes "q"); name = codes "k" })) ∷ (node.Compare cmp.Eq 31 32) ∷ (node.Both 30 33) ∷ []) }) 1) ≡ 2 ∷ 5 ∷ 9 ∷ 13 ∷ 17 ∷ 21 ∷ 25 ∷ 29 ∷ []
-  -- SELECT * FROM p, q WHERE p.k = q.k AND p.k = q.k AND p.k = q.k AND p.k = q.k AND p.k = q.k AND p.k = q.k AND p.k = q.k AND p.k = q.k AND p.k = q.k
-  pub ninth_is_a_test : tests_of (record { distinct = false; star = true; outputs = []; tables = (record { table = codes "p"; alias = codes "p"; on = None } ∷ record { table = codes "q"; alias = codes "q"; on = None } ∷ []); filter = (Some 34); group = []; having = None; order = []; nodes = ((node.Col (record { table = Some (codes "p"); name = codes "k" })) ∷ (node.Col (record { table = Some (codes "q"); name = codes "k" })) ∷ (node.Compare cmp.Eq 0 1) ∷ (node.Col (record { table = Some (codes "p"); name = codes "k" })) ∷ (node.Col (record { table = Some (codes "q"); name = codes "k" })) ∷ (node.Compare cmp.Eq 3 4) ∷ (node.Both 2 5) ∷ (node.Col (record { table = Some (codes "p"); name = codes "k" })) ∷ (node.Col (record { table = Some (codes "q"); name = codes "k" })) ∷ (node.Compare cmp.Eq 7 8) ∷ (node.Both 6 9) ∷ (node.Col (record { table = Some (codes "p"); name = codes "k" })) ∷ (node.Col (record { table = Some (codes "q"); name = codes "k" })) ∷ (node.Compare cmp.Eq 11 12) ∷ (node.Both 10 13) ∷ (node.Col (record { table = Some (codes "p"); name = codes "k" })) ∷ (node.Col (record { table = Some (codes "q"); name = codes "k" })) ∷ (node.Compare cmp.Eq 15 16) ∷ (node.Both 14 17) ∷ (node.Col (record { table = Some (codes "p"); name = codes "k" })) ∷ (node.Col (record { table = Some (codes "q"); name = codes "k" })) ∷ (node.Compare cmp.Eq 19 20) ∷ (node.Both 18 21) ∷ (node.Col (record { table = Some (codes "p"); name = codes "k" })) ∷ (node.Col (record { table = Some (codes "q"); name = codes "k" })) ∷ (node.Compare cmp.Eq 23 24) ∷ (node.Both 22 25) ∷ (node.Col (record { table = Some (codes "p"); name = codes "k" })) ∷ (node.Col (record { table = Some (codes "q"); name = codes "k" })) ∷ (node.Compare cmp.Eq 27 28) ∷ (node.Both 26 29) ∷ (node.Col (record { table = Some (codes "p"); name = codes "k" })) ∷ (node.Col (record { table = Some (codes "q"); name = codes "k" })) ∷ (node.Compare cmp.Eq 31 32) ∷ (node.Both 30 33) ∷ []) }) 1 ≡ 33 ∷ []
+  -- SELECT * FROM p, q WHERE p.k = q.k AND p.k = q.k and so on, nine times
+  pub eight_keys : map (λ (key : JoinKey). key.condition) (keys_of nine_equalities 1) ≡ 2 ∷ 5 ∷ 9 ∷ 13 ∷ 17 ∷ 21 ∷ 25 ∷ 29 ∷ []
+  -- SELECT * FROM p, q WHERE p.k = q.k AND p.k = q.k and so on, nine times
+  pub ninth_is_a_test : tests_of nine_equalities 1 ≡ 33 ∷ []
   -- SELECT * FROM p, q WHERE p.k < q.k
   pub no_join_no_order : floor_of (tables_pqr [] [] []) (record { distinct = false; star = true; outputs = []; tables = (record { table = codes "p"; alias = codes "p"; on = None } ∷ record { table = codes "q"; alias = codes "q"; on = None } ∷ []); filter = (Some 2); group = []; having = None; order = []; nodes = ((node.Col (record { table = Some (codes "p"); name = codes "k" })) ∷ (node.Col (record { table = Some (codes "q"); name = codes "k" })) ∷ (node.Compare cmp.Lt 0 1) ∷ []) }) ≡ 0
   -- SELECT * FROM p, q WHERE p.k < q.k ORDER BY 1
