@@ -1,0 +1,6 @@
+pub mod Cutting
+pub mod Words
+pub mod Pieces
+pub mod Shown
+pub mod Bytes
+pub mod Packing
