@@ -1,7 +1,7 @@
 -- How a line is cut into tokens from its front on. Our own rule, after SQL-92, section 5.2: blanks stand
 -- between tokens, a comment runs from `--` to the end of the line, the longest sign is read, and a number
 -- is not directly followed by a letter or `_`.
-use Rattle.std.specs.Prelude.{◌≡◌, ℕ, zero, suc, ◌+◌, ◌<◌, Bool, List, [], ◌∷◌, take, drop, length, Option, None, Some, ◌==◌, ◌&&◌, ◌||◌, ◌↔◌, if◌then◌else◌}
+use Rattle.std.specs.Prelude.{◌≡◌, ℕ, zero, suc, ◌<◌, Bool, List, [], ◌∷◌, take, drop, length, Option, None, Some, ◌==◌, ◌&&◌, ◌||◌, ◌↔◌, if◌then◌else◌}
 use Rattle.std.specs.List.{prefix_len, take_while}
 use Rattle.std.specs.Option.{option_map}
 use Rattle.hg_model.specs.Name.{begins_word, is_in_word, is_digit}
@@ -38,8 +38,8 @@ abbrev pub closing : List ℕ → Option ℕ
 closing [] = None
 closing (b ∷ []) = if b == 39 then Some 0 else None
 closing (b ∷ c ∷ bs) =
-    if b == 39 then (if c == 39 then option_map (λ n. n + 2) (closing bs) else Some 0)
-    else (if is_printable b then option_map (λ n. n + 1) (closing (c ∷ bs)) else None)
+    if b == 39 then (if c == 39 then option_map (λ n. suc (suc n)) (closing bs) else Some 0)
+    else (if is_printable b then option_map (λ n. suc n) (closing (c ∷ bs)) else None)
 
 -- a text whose quotes are doubled, as it is meant
 abbrev pub undoubled : List ℕ → List ℕ
@@ -49,7 +49,7 @@ undoubled (b ∷ c ∷ bs) = if b == 39 then 39 ∷ undoubled bs else b ∷ undo
 
 abbrev pub text_up_to : Option ℕ → List ℕ → Front
 text_up_to None bs = Wrong
-text_up_to (Some n) bs = Next (Letters (undoubled (take n bs))) (drop (n + 1) bs)
+text_up_to (Some n) bs = Next (Letters (undoubled (take n bs))) (drop (suc n) bs)
 
 -- what stands behind the quote that begins a text
 abbrev pub text_front : List ℕ → Front

@@ -4,3 +4,5 @@ pub mod Pieces
 pub mod Shown
 pub mod Bytes
 pub mod Packing
+pub mod FrontLaws
+pub mod TokenLaws

@@ -91,7 +91,7 @@ pub fn byte_kind(b: u8) -> ByteKind
 pub fn is_in_word(b: u8) -> bool
     ensures { result ≡ is_in_word b }
 {
-    matches!(KINDS[b as usize], ByteKind::Letter | ByteKind::Digit)
+    matches!(byte_kind(b), ByteKind::Letter | ByteKind::Digit)
 }
 
 #[inline(always)]

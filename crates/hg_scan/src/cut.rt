@@ -1,5 +1,5 @@
 //! Cuts a piece off the front of a line.
-ghost use Rattle.std.specs.Prelude.{◌≡◌, ◌==◌, ◌<◌, ◌≤◌, false, None, IsTrue, length, MatchOption};
+ghost use Rattle.std.specs.Prelude.{◌≡◌, ◌==◌, ◌<◌, ◌≤◌, false, None, IsTrue, drop, length, take, MatchOption};
 ghost use Rattle.std.specs.List.{prefix_len};
 ghost use Rattle.hg_model.specs.Name.{begins_word, is_in_word, is_digit};
 ghost use Rattle.hg_model.specs.Tokens.{begins};
@@ -34,6 +34,14 @@ fn begins_with(bytes: &[u8], byte: u8) -> bool
         [] => false,
         [first, ..] => *first == byte,
     }
+}
+
+/// Whether a byte stands at a place; none stands behind the end.
+#[inline(always)]
+fn is_at(bytes: &[u8], at: usize, byte: u8) -> bool
+    ensures { result ≡ begins (λ b. b == byte) (drop at bytes.now) }
+{
+    at < bytes.len() && bytes[at] == byte
 }
 
 #[inline(always)]
@@ -80,7 +88,7 @@ fn text_end(bytes: &[u8]) -> Option<Closing>
     while at < bytes.len() {
         let b = bytes[at];
         if b == b'\'' {
-            if !begins_with(&bytes[at + 1..], b'\'') {
+            if !is_at(bytes, at + 1, b'\'') {
                 return Some(Closing { at, doubled });
             }
             doubled = true;

@@ -1,0 +1,2 @@
+mod FrontKinds
+mod Texts
