@@ -1,14 +1,17 @@
 -- What the kind of a byte says of the front of a line.
-use Rattle.std.proofs.Common.{◌≡◌, ℕ, zero, suc, ◌+◌, ◌<◌, ◌≤◌, Bool, true, false, List, [], ◌∷◌, length, drop, get_or, ◌==◌, sym, ◌∙◌, ap, subst, refl, arith, inl, inr, cond}
+use Rattle.std.proofs.Common.{◌≡◌, ℕ, zero, suc, ◌+◌, ◌<◌, ◌≤◌, Bool, true, false, List, [], ◌∷◌, length, drop, take, ◌-◌, get_or, ◌==◌, sym, ◌∙◌, ap, subst, refl, arith, inl, inr, cond}
+use Rattle.std.proofs.lemmas.List.{take_all, length-drop}
 use Rattle.std.proofs.lemmas.Bool.{cases_Bool, eqb-true, agree_below, agree_below_at}
 use Rattle.hg_model.specs.Name.{begins_word, is_in_word, is_digit}
 use Rattle.hg_model.specs.Value.{is_printable}
-use Rattle.hg_model.specs.Tokens.{Sign}
+use Rattle.hg_model.specs.Tokens.{Sign, begins}
 use Rattle.hg_scan.specs.Bytes.{kind_of, sign_kind}
 use Rattle.hg_scan.specs.Cutting.{Front, AtEnd, Wrong, Next, is_blank, word_front, number_front, text_front, sign_front, front_of}
-use Rattle.hg_scan.specs.FrontLaws.{word_is_no_minus, digit_is_no_minus}
+use Rattle.hg_scan.specs.FrontLaws.{word_is_no_minus, digit_is_no_minus, front-nil}
 use Rattle.hg_scan.specs.Pieces.{minus_front}
+use Rattle.hg_scan.specs.Shown.{Cuts}
 use Rattle.hg_scan.specs.Words.{bytes_of}
+use Rattle.hg_scan.specs.declared.piece.Piece.{Piece}
 use Rattle.hg_scan.specs.declared.bytes.ByteKind.{ByteKind}
 use Rattle.hg_scan.specs.declared.bytes.ByteKind.TheVariants as of
 
@@ -157,3 +160,47 @@ others of.Bang l d = refl
 others (of.Single s) l d = refl
 others of.Printable l d = refl
 others of.Outside l d = refl
+
+abbrev pub is_letter_kind : ByteKind → Bool
+is_letter_kind of.Letter = true
+is_letter_kind _ = false
+
+abbrev pub is_digit_kind : ByteKind → Bool
+is_digit_kind of.Digit = true
+is_digit_kind _ = false
+
+pub letter_at : (b : ℕ) (k : ByteKind) → b < 256 → k ≡ kind_of b → k ≡ of.Letter → begins_word b ≡ true
+unfolding kind_of
+letter_at b k h e l = agree_below_at begins_word (λ n. is_letter_kind (kind_of n)) 256 b refl h ∙ ap is_letter_kind (sym e ∙ l)
+
+pub digit_at : (b : ℕ) (k : ByteKind) → b < 256 → k ≡ kind_of b → k ≡ of.Digit → is_digit b ≡ true
+unfolding kind_of
+digit_at b k h e l = agree_below_at is_digit (λ n. is_digit_kind (kind_of n)) 256 b refl h ∙ ap is_digit_kind (sym e ∙ l)
+
+-- The front of a line by the kind of the first byte of a rest that has the same front.
+
+behind : (rest : List ℕ) → take (length rest - 1) (drop 1 rest) ≡ drop 1 rest
+behind rest = take_all (length rest - 1) (drop 1 rest) (omega (arith, length-drop 1 rest))
+
+pub by_kind : (line rest : List ℕ) (k : ByteKind) → front_of line ≡ front_of rest → 1 ≤ length rest → k ≡ kind_of (get_or rest 0 0)
+    → front_of line ≡ front_by k (get_or rest 0 0) (take (length rest - 1) (drop 1 rest))
+by_kind line rest k l h e = l ∙ (front_of_kind rest k (omega arith) e ∙ ap (λ xs. front_by k (get_or rest 0 0) xs) (sym (behind rest)))
+
+pub by_letter : (line rest : List ℕ) → front_of line ≡ front_of rest → 1 ≤ length rest → of.Letter ≡ kind_of (get_or rest 0 0) → front_of line ≡ word_front rest
+by_letter line [] l h e = absurd (omega arith)
+by_letter line (b ∷ bs) l h e = l ∙ (agrees b bs ∙ ap (λ x. front_by x b bs) (sym e))
+
+pub by_digit : (line rest : List ℕ) → front_of line ≡ front_of rest → 1 ≤ length rest → of.Digit ≡ kind_of (get_or rest 0 0) → front_of line ≡ number_front rest
+by_digit line [] l h e = absurd (omega arith)
+by_digit line (b ∷ bs) l h e = l ∙ (agrees b bs ∙ ap (λ x. front_by x b bs) (sym e))
+
+pub by_end : (line rest : List ℕ) → front_of line ≡ front_of rest → length rest < 1 → front_of line ≡ AtEnd
+by_end line [] l h = l ∙ front-nil
+by_end line (b ∷ bs) l h = absurd (omega arith)
+
+pub begins_by : (test : ℕ → Bool) (rest : List ℕ) → 1 ≤ length rest → test (get_or rest 0 0) ≡ true → begins test rest ≡ true
+begins_by test [] h t = absurd (omega arith)
+begins_by test (b ∷ bs) h t = t
+
+pub cuts_by : (f g : Front) (p : Piece) (line new : List ℕ) → f ≡ g → Cuts g p line new → Cuts f p line new
+cuts_by f g p line new e c = subst (λ x. Cuts x p line new) (sym e) c

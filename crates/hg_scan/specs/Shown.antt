@@ -5,8 +5,8 @@ use Rattle.hg_scan.specs.Cutting.{Front, AtEnd, Wrong, Next}
 use Rattle.hg_scan.specs.Pieces.{token_by}
 use Rattle.hg_scan.specs.declared.piece.Kind.TheVariants as kind
 use Rattle.hg_scan.specs.declared.piece.Piece.{Piece}
-use Rattle.hg_scan.specs.declared.piece.Number.{Number}
-use Rattle.hg_scan.specs.declared.piece.Number.TheVariants.{Magnitude, TooLong}
+use Rattle.hg_scan.specs.declared.number.Number.{Number}
+use Rattle.hg_scan.specs.declared.number.Number.TheVariants.{Magnitude, TooLong}
 
 -- the token that a piece stands for; none at the end of a line and where no token can begin
 abbrev pub token_of : Piece → Option Token

@@ -119,7 +119,7 @@ drop_shorter n bs = omega (arith, length-drop n bs)
 run_shorter : (test : ℕ → Bool) (b : ℕ) (bs : List ℕ) → test b ≡ true → length (drop_while test (b ∷ bs)) < length (b ∷ bs)
 run_shorter test b bs h = rw (h, one-add (prefix_len test bs)) (omega (arith, length-drop (prefix_len test bs) bs))
 
-in_word_first : (b : ℕ) → begins_word b ≡ true → is_in_word b ≡ true
+pub in_word_first : (b : ℕ) → begins_word b ≡ true → is_in_word b ≡ true
 in_word_first b h = rw h refl
 
 shorter_number : (b : ℕ) (bs rest : List ℕ) (t : Token) → is_digit b ≡ true → number_front (b ∷ bs) ≡ Next t rest → length rest < length (b ∷ bs)
@@ -271,7 +271,7 @@ word_spells b bs ts w s =
     moved _ _ ts _ (b ∷ bs) refl (take-append-drop (prefix_len is_in_word (b ∷ bs)) (b ∷ bs))
     (by_word ts (take_while is_in_word (b ∷ bs)) (drop_while is_in_word (b ∷ bs)) h (not_from_false _ (run-stops is_in_word (b ∷ bs))) s)
 
-digits_are_number : (d : ℕ) (ds : List ℕ) → is_digit d ≡ true → list_all is_digit ds ≡ true → is_number (d ∷ ds) ≡ true
+pub digits_are_number : (d : ℕ) (ds : List ℕ) → is_digit d ≡ true → list_all is_digit ds ≡ true → is_number (d ∷ ds) ≡ true
 digits_are_number d ds h a = and_from (nat_lt 0 (length (d ∷ ds))) (list_all is_digit (d ∷ ds)) (lt-ltb 0 (length (d ∷ ds)) (omega arith)) (and_from (is_digit d) (list_all is_digit ds) h a)
 
 number_spells : (b : ℕ) (bs : List ℕ) (ts : List Token) → is_digit b ≡ true → begins is_in_word (drop_while is_digit (b ∷ bs)) ≡ false

@@ -1,6 +1,6 @@
 //! The kinds of bytes.
-ghost use Rattle.std.specs.Prelude.{◌≡◌};
-ghost use Rattle.hg_model.specs.Name.{is_in_word, is_digit};
+ghost use Rattle.std.specs.Prelude.{◌≡◌, true};
+ghost use Rattle.hg_model.specs.Name.{begins_word, is_in_word, is_digit};
 ghost use Rattle.hg_model.specs.Tokens.{lower_byte};
 ghost use Rattle.hg_model.specs.Value.{is_printable};
 ghost use Rattle.hg_scan.specs.Bytes.{kind_of};
@@ -82,7 +82,9 @@ static KINDS: [ByteKind; 256] = [
 
 #[inline(always)]
 pub fn byte_kind(b: u8) -> ByteKind
-    ensures { result ≡ kind_of b }
+    ensures kind { result ≡ kind_of b }
+    ensures letter { result ≡ ByteKind.Letter → begins_word b ≡ true }
+    ensures digit { result ≡ ByteKind.Digit → is_digit b ≡ true }
 {
     KINDS[b as usize]
 }

@@ -182,14 +182,15 @@ fn text<'a>(line: &'a [u8], behind: &'a [u8]) -> Cut<'a>
     let Some(end) = text_end(behind) else {
         return nothing(Kind::Wrong, line);
     };
-    let (bytes, rest) = behind.split_at(end.at);
+    let (bytes, quote) = behind.split_at(end.at);
+    let (_, rest) = quote.split_at(1);
     Cut {
         piece: Piece {
             kind: Kind::Text,
             doubled: end.doubled,
             bytes,
         },
-        rest: &rest[1..],
+        rest,
     }
 }
 

@@ -20,10 +20,13 @@ mod bytes;
 mod cut;
 mod keywords;
 pub mod laws;
+mod number;
 mod piece;
 mod scanner;
+mod text;
 mod words;
 
-pub use piece::{Kind, Number, Piece};
+pub use number::Number;
+pub use piece::{Kind, Piece};
 pub use scanner::Scanner;
 pub use words::{Keyword, Sign};

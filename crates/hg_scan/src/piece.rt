@@ -3,6 +3,8 @@ ghost use Rattle.std.specs.Prelude.{IsTrue};
 ghost use Rattle.hg_scan.specs.Pieces.{is_piece};
 
 use crate::bytes::to_lower;
+use crate::number::Number;
+use crate::text::{push_plain, push_undoubled, undoubled_len};
 use crate::words::{Keyword, Sign};
 use arrayvec::ArrayString;
 use hg_model::Name;
@@ -33,13 +35,6 @@ pub struct Piece<'a> {
     pub doubled: bool,
     pub bytes: &'a [u8],
     ghost spelled: { IsTrue (is_piece kind doubled bytes.now) },
-}
-
-/// The number that digits name: its magnitude where it has at most 38 digits behind leading zeros.
-#[derive(Clone, Copy)]
-pub enum Number {
-    Magnitude(i128),
-    TooLong,
 }
 
 impl<'a> Piece<'a> {
@@ -80,8 +75,8 @@ impl<'a> Piece<'a> {
         ensures whole { length (lower self.now.bytes.now) ≤ 30 → result ≡ lower self.now.bytes.now }
     {
         let mut name = Name::of_letter(to_lower(self.bytes[0]));
-        for b in &self.bytes[1..] {
-            if !name.append(to_lower(*b)) {
+        for i in 1..self.bytes.len() {
+            if !name.append(to_lower(self.bytes[i])) {
                 return name;
             }
         }
@@ -112,7 +107,11 @@ impl<'a> Piece<'a> {
         requires { self.now.kind ≡ Kind.Text }
         ensures { result ≡ length (undoubled self.now.bytes.now) }
     {
-        self.bytes.len()
+        if self.doubled {
+            undoubled_len(self.bytes)
+        } else {
+            self.bytes.len()
+        }
     }
 
     /// Puts a text behind `out`, each of its quotes once.
@@ -120,18 +119,11 @@ impl<'a> Piece<'a> {
         requires kind { self.now.kind ≡ Kind.Text }
         requires room { array_string_len out.old + length (undoubled self.now.bytes.now) ≤ 4096 }
         ensures { out.new.bytes ≡ out.old.bytes ++ undoubled self.now.bytes.now }
-    {}
-}
-
-impl Number {
-    ghost use Rattle.std.specs.Prelude.{IsTrue};
-    ghost use Rattle.hg_model.specs.Tokens.{is_number, number_of};
-    ghost use Rattle.hg_scan.specs.Shown.{IsNumber};
-
-    fn of_digits(digits: &[u8]) -> Number
-        requires { IsTrue (is_number digits.now) }
-        ensures { IsNumber result (number_of digits.now) }
     {
-        Number::TooLong
+        if self.doubled {
+            push_undoubled(self.bytes, out);
+        } else {
+            push_plain(self.bytes, out);
+        }
     }
 }
