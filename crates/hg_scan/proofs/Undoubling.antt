@@ -4,7 +4,7 @@ use Rattle.std.proofs.lemmas.Bool.{cases_Bool, and_parts, leb-true, not-true, eq
 use Rattle.std.proofs.lemmas.List.{take_all, length-drop}
 use Rattle.std.specs.List.{list_all}
 use Rattle.hg_model.specs.Value.{is_printable}
-use Rattle.hg_scan.specs.Cutting.{undoubled}
+use Rattle.hg_scan.specs.Cutting.{undoubled, behind_byte}
 use Rattle.hg_scan.specs.FrontLaws.{undoubled-more}
 use Rattle.hg_scan.specs.Pieces.{is_piece}
 use Rattle.hg_scan.specs.declared.piece.Kind.{Kind}
@@ -41,22 +41,15 @@ undoubled-quote : (x : ℕ) (xs : List ℕ) → x ≡ 39 → undoubled (x ∷ xs
 undoubled-quote x [] e = ap (λ b. b ∷ []) e
 undoubled-quote x (y ∷ ys) e = rw (eq-eqb x 39 e) refl
 
-pub after_quote : (rest : List ℕ) → 1 ≤ length rest → get_or rest 0 0 ≡ 39 → undoubled rest ≡ 39 ∷ undoubled (drop 1 (take (length rest - 1) (drop 1 rest)))
-after_quote [] h e = absurd (omega arith)
-after_quote (b ∷ bs) h e = undoubled-quote b bs e ∙ ap (λ l. 39 ∷ undoubled (drop 1 l)) (sym (behind (b ∷ bs)))
-
-pub after_byte : (rest : List ℕ) → 1 ≤ length rest → (get_or rest 0 0 ≡ 39 → ⊥) → undoubled rest ≡ get_or rest 0 0 ∷ undoubled (take (length rest - 1) (drop 1 rest))
-after_byte [] h e = absurd (omega arith)
-after_byte (b ∷ bs) h e = undoubled-more b bs (ne_eqb b 39 e) ∙ ap (λ l. b ∷ undoubled l) (sym (behind (b ∷ bs)))
-
-true_is_false : true ≡ false → ⊥
-true_is_false h = cc
+pub step : (rest : List ℕ) → 1 ≤ length rest → undoubled rest ≡ get_or rest 0 0 ∷ undoubled (behind_byte (get_or rest 0 0) (take (length rest - 1) (drop 1 rest)))
+step [] h = absurd (omega arith)
+step (b ∷ bs) h = elim (cases_Bool (b == 39)) [
+  | inl q ↦ rw (behind (b ∷ bs), q) (undoubled-quote b bs (eqb-true b 39 q) ∙ ap (λ x. x ∷ undoubled (drop 1 bs)) (sym (eqb-true b 39 q)))
+  | inr q ↦ rw (behind (b ∷ bs), q) (undoubled-more b bs q)
+]
 
 pub some_left : (rest : List ℕ) → 1 ≤ length rest → 1 ≤ length (undoubled rest)
-some_left rest h = elim (cases_Bool (get_or rest 0 0 == 39)) [
-  | inl q ↦ (let e = ap length (after_quote rest h (eqb-true _ 39 q)) in omega arith)
-  | inr q ↦ (let e = ap length (after_byte rest h (λ x. true_is_false (sym (eq-eqb _ 39 x) ∙ q))) in omega arith)
-]
+some_left rest h = let e = ap length (step rest h) in omega arith
 
 pub no_longer : (bs : List ℕ) → length (undoubled bs) ≤ length bs
 no_longer [] = omega arith
@@ -66,13 +59,17 @@ no_longer (b ∷ c ∷ bs) = elim (cases_Bool (b == 39)) [
   | inr q ↦ (let h : length (undoubled (c ∷ bs)) ≤ length (c ∷ bs) = no_longer (c ∷ bs) in rw q (omega arith))
 ]
 
-pub printable_behind : (rest : List ℕ) → list_all is_printable rest ≡ true → list_all is_printable (take (length rest - 1) (drop 1 rest)) ≡ true
-printable_behind [] h = refl
-printable_behind (b ∷ bs) h = subst (λ l. list_all is_printable l ≡ true) (sym (behind (b ∷ bs))) (and_parts (is_printable b) (list_all is_printable bs) h).1
+printable_rest : (bs : List ℕ) → list_all is_printable bs ≡ true → list_all is_printable (drop 1 bs) ≡ true
+printable_rest [] h = refl
+printable_rest (b ∷ bs) h = (and_parts (is_printable b) (list_all is_printable bs) h).1
 
-pub printable_two : (rest : List ℕ) → list_all is_printable rest ≡ true → list_all is_printable (drop 1 rest) ≡ true
-printable_two [] h = refl
-printable_two (b ∷ bs) h = (and_parts (is_printable b) (list_all is_printable bs) h).1
+pub printable_behind : (rest : List ℕ) (b : ℕ) → list_all is_printable rest ≡ true → list_all is_printable (behind_byte b (take (length rest - 1) (drop 1 rest))) ≡ true
+printable_behind rest b h =
+    let p : list_all is_printable (take (length rest - 1) (drop 1 rest)) ≡ true = subst (λ l. list_all is_printable l ≡ true) (sym (behind rest)) (printable_rest rest h) in
+    elim (cases_Bool (b == 39)) [
+      | inl q ↦ rw q (printable_rest (take (length rest - 1) (drop 1 rest)) p)
+      | inr q ↦ rw q p
+    ]
 
 -- one byte more is pushed
 pub pushed_on : (old new all r more : List ℕ) (b : ℕ) → new ≡ old ++ b ∷ [] → r ≡ b ∷ more → old ++ r ≡ all → new ++ more ≡ all

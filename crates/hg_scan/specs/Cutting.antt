@@ -1,7 +1,7 @@
 -- How a line is cut into tokens from its front on. Our own rule, after SQL-92, section 5.2: blanks stand
 -- between tokens, a comment runs from `--` to the end of the line, the longest sign is read, and a number
 -- is not directly followed by a letter or `_`.
-use Rattle.std.specs.Prelude.{◌≡◌, ℕ, zero, suc, ◌<◌, Bool, List, [], ◌∷◌, take, drop, length, Option, None, Some, ◌==◌, ◌&&◌, ◌||◌, ◌↔◌, if◌then◌else◌}
+use Rattle.std.specs.Prelude.{◌≡◌, ℕ, zero, suc, ◌+◌, ◌<◌, Bool, List, [], ◌∷◌, take, drop, length, Option, None, Some, ◌==◌, ◌&&◌, ◌||◌, ◌↔◌, if◌then◌else◌}
 use Rattle.std.specs.List.{prefix_len, take_while}
 use Rattle.std.specs.Option.{option_map}
 use Rattle.hg_model.specs.Name.{begins_word, is_in_word, is_digit}
@@ -46,6 +46,10 @@ abbrev pub undoubled : List ℕ → List ℕ
 undoubled [] = []
 undoubled (b ∷ []) = b ∷ []
 undoubled (b ∷ c ∷ bs) = if b == 39 then 39 ∷ undoubled bs else b ∷ undoubled (c ∷ bs)
+
+-- what is left behind a byte of such a text: a quote takes the one behind it along
+abbrev pub behind_byte : ℕ → List ℕ → List ℕ
+behind_byte b bs = if b == 39 then drop 1 bs else bs
 
 abbrev pub text_up_to : Option ℕ → List ℕ → Front
 text_up_to None bs = Wrong
@@ -109,3 +113,7 @@ GoesOn = (line rest : List ℕ) (t : Token) → front_of line ≡ Next t rest �
 
 abbrev pub GetsShorter : Type 0
 GetsShorter = (line rest : List ℕ) (t : Token) → front_of line ≡ Next t rest → length rest < length line
+
+-- a text and what is left behind it are shorter than the line, so the texts of a line fit into its length
+abbrev pub TextsFit : Type 0
+TextsFit = (line rest t : List ℕ) → front_of line ≡ Next (Letters t) rest → length t + length rest < length line

@@ -6,3 +6,4 @@ pub mod Bytes
 pub mod Packing
 pub mod FrontLaws
 pub mod TokenLaws
+pub mod PieceLaws

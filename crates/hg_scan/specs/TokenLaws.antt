@@ -16,19 +16,19 @@ use Rattle.hg_scan.specs.FrontLaws.{Case, blank, comment, word, number, text, si
 
 -- A front is one of three.
 
-no_end : (t : Token) (rest : List ℕ) → AtEnd ≡ Next t rest → ⊥
+pub no_end : (t : Token) (rest : List ℕ) → AtEnd ≡ Next t rest → ⊥
 no_end t rest h = cc
 
-no_wrong : (t : Token) (rest : List ℕ) → Wrong ≡ Next t rest → ⊥
+pub no_wrong : (t : Token) (rest : List ℕ) → Wrong ≡ Next t rest → ⊥
 no_wrong t rest h = cc
 
 end_is_not_wrong : Wrong ≡ AtEnd → ⊥
 end_is_not_wrong h = cc
 
-same_rest : (t u : Token) (rest more : List ℕ) → Next t rest ≡ Next u more → rest ≡ more
+pub same_rest : (t u : Token) (rest more : List ℕ) → Next t rest ≡ Next u more → rest ≡ more
 same_rest t u rest more h = cc
 
-same_token : (t u : Token) (rest more : List ℕ) → Next t rest ≡ Next u more → t ≡ u
+pub same_token : (t u : Token) (rest more : List ℕ) → Next t rest ≡ Next u more → t ≡ u
 same_token t u rest more h = cc
 
 none_some : (n : ℕ) → None ≡ Some n → ⊥

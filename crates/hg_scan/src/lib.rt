@@ -2,9 +2,11 @@
 //!
 //! ```text
 //!     insert into t values (1, 'it''s') -- a comment
-//!     ^^^^^^^^^^^                        rest of the line: what the scanner has left
-//!     ^^^^^^ the next piece: Keyword(Insert), its bytes a part of the line
-//!           ^^^^ ..  rest behind it
+//!     '----' '-----------------------------------------
+//!     piece   rest, which the next piece is cut off
+//!
+//!     kind    Keyword(Insert)   Name   Number   Text     Sign(Open)   End
+//!     bytes   insert            t      1        it''s
 //! ```
 //!
 //! A [`Scanner`] is the rest of a line. [`Scanner::next_token`] cuts one piece off its front: a kind and
@@ -23,6 +25,8 @@ pub mod laws;
 mod number;
 mod piece;
 mod scanner;
+#[cfg(test)]
+mod tests;
 mod text;
 mod words;
 

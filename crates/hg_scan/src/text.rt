@@ -1,9 +1,9 @@
 //! Texts as they are meant: each quote of the line that is doubled stands once.
-ghost use Rattle.std.specs.Prelude.{◌≡◌, ◌≤◌, ◌+◌, ◌++◌, IsTrue, drop, length};
+ghost use Rattle.std.specs.Prelude.{◌≡◌, ◌≤◌, ◌+◌, ◌++◌, IsTrue, length};
 ghost use Rattle.std.specs.List.{list_all};
 ghost use Rattle.arrayvec.specs.ArrayString.{array_string_len};
 ghost use Rattle.hg_model.specs.Value.{is_printable};
-ghost use Rattle.hg_scan.specs.Cutting.{undoubled};
+ghost use Rattle.hg_scan.specs.Cutting.{undoubled, behind_byte};
 
 use arrayvec::ArrayString;
 
@@ -15,14 +15,14 @@ fn as_text(bytes: &[u8]) -> &str
     unsafe { str::from_utf8_unchecked(bytes) }
 }
 
-/// What stands behind the first byte, if there is one.
+/// What is left behind a byte of a text: a quote takes the one behind it along.
 #[inline(always)]
-fn behind_first(bytes: &[u8]) -> &[u8]
-    ensures { result.now ≡ drop 1 bytes.now }
+fn behind_byte(byte: u8, behind: &[u8]) -> &[u8]
+    ensures { result.now ≡ behind_byte byte behind.now }
 {
-    match bytes {
-        [] => bytes,
-        [_, behind @ ..] => behind,
+    match behind {
+        [_, rest @ ..] if byte == b'\'' => rest,
+        _ => behind,
     }
 }
 
@@ -44,11 +44,7 @@ pub fn push_undoubled(bytes: &[u8], out: &mut ArrayString<4096>)
     let mut rest = bytes;
     while let [first, behind @ ..] = rest {
         out.push(*first as char);
-        rest = if *first == b'\'' {
-            behind_first(behind)
-        } else {
-            behind
-        };
+        rest = behind_byte(*first, behind);
     }
 }
 
@@ -60,11 +56,7 @@ pub fn undoubled_len(bytes: &[u8]) -> usize
     let mut rest = bytes;
     while let [first, behind @ ..] = rest {
         len += 1;
-        rest = if *first == b'\'' {
-            behind_first(behind)
-        } else {
-            behind
-        };
+        rest = behind_byte(*first, behind);
     }
     len
 }

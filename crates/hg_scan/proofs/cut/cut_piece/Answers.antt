@@ -1,4 +1,4 @@
-use Rattle.std.proofs.Common.{sym, ◌∙◌, ap, inl, inr}
+use Rattle.std.proofs.Common.{sym, ◌∙◌, ap, arith, inl, inr}
 use Rattle.hg_model.specs.Name.{begins_word, is_digit}
 use Rattle.hg_scan.specs.Pieces.{token_by}
 use Rattle.hg_scan.specs.declared.bytes.ByteKind.TheVariants as of

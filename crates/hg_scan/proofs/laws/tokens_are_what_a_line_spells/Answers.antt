@@ -1,3 +1,4 @@
+use Rattle.hg_scan.specs.PieceLaws as pieces
 use Rattle.hg_scan.specs.TokenLaws as proved
 use Rattle.hg_scan.proofs.laws.tokens_are_what_a_line_spells.Goals as goal
 
@@ -15,3 +16,6 @@ returns-clause-next c = proved.next
 
 pub returns-clause-shorter : goal.returns-clause-shorter
 returns-clause-shorter c = proved.shorter
+
+pub returns-clause-texts_fit : goal.returns-clause-texts_fit
+returns-clause-texts_fit c = pieces.text_fits

@@ -1,4 +1,5 @@
-use Rattle.std.proofs.Common.{◌≡◌, ◌≤◌, ◌<◌, ◌++◌, ◌∷◌, [], length, ap, sym, ◌∙◌, arith, subst}
+use Rattle.std.proofs.Common.{◌≡◌, ◌≤◌, ◌<◌, ◌++◌, ◌∷◌, [], length, ap, sym, ◌∙◌, arith, take}
+use Rattle.hg_model.specs.Tokens.{lower}
 use Rattle.std.proofs.lemmas.Bool.{MatchBool-at_true}
 use Rattle.hg_scan.proofs.Spellings.{name-more, name_length, whole_name}
 use Rattle.hg_scan.proofs.piece.Piece.name.Goals as goal
@@ -10,7 +11,7 @@ loop-i-preserved c =
     let short = m.0 in
     record {
       name = m.1 ∙ (ap (λ l. l ++ c.to_lower-in-loop-i.result ∷ []) c.loop-i.invariant.name
-          ∙ (ap (λ b. _ ++ b ∷ []) c.to_lower-in-loop-i.ensures ∙ sym (name-more c.args.self.now.bytes.now c.loop-i.i (omega arith))));
+          ∙ (ap (λ b. take c.loop-i.i (lower c.args.self.now.bytes.now) ++ b ∷ []) c.to_lower-in-loop-i.ensures ∙ sym (name-more c.args.self.now.bytes.now c.loop-i.i (omega arith))));
       short = omega arith;
     }
 
