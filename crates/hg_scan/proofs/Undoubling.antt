@@ -1,5 +1,5 @@
 -- Texts without their doubled quotes.
-use Rattle.std.proofs.Common.{◌≡◌, ℕ, zero, suc, ◌+◌, ◌-◌, ◌<◌, ◌≤◌, Bool, true, false, not, ◌&&◌, ◌||◌, List, [], ◌∷◌, ◌++◌, length, take, drop, get_or, ◌==◌, sym, ◌∙◌, ap, subst, refl, arith, append_assoc, inl, inr}
+use Rattle.std.proofs.Common.{◌≡◌, ℕ, zero, suc, ◌+◌, ◌-◌, ◌<◌, ◌≤◌, Bool, true, false, not, ◌&&◌, ◌||◌, List, [], ◌∷◌, ◌++◌, length, take, drop, get_or, ◌==◌, sym, ◌∙◌, ap, subst, refl, arith, append_assoc, inl, inr, nat_le}
 use Rattle.std.proofs.lemmas.Bool.{cases_Bool, and_parts, leb-true, not-true, eq-eqb, ne_eqb, eqb-true}
 use Rattle.std.proofs.lemmas.List.{take_all, length-drop}
 use Rattle.std.specs.List.{list_all}
@@ -11,7 +11,7 @@ use Rattle.hg_scan.specs.declared.piece.Kind.{Kind}
 use Rattle.hg_scan.specs.declared.piece.Kind.TheVariants as kind
 
 pub printable_small : (b : ℕ) → is_printable b ≡ true → b < 128
-printable_small b h = let x = leb-true b 126 (and_parts _ _ h).1 in omega arith
+printable_small b h = let x : b ≤ 126 = leb-true b 126 (and_parts (nat_le 32 b) (nat_le b 126) h).1 in omega arith
 
 pub ascii_of : (bs : List ℕ) → list_all is_printable bs ≡ true → (i : ℕ) → get_or bs i 0 < 128
 ascii_of [] h zero = omega arith

@@ -278,10 +278,8 @@ fn long_lines(rt: HostRuntime) {
     assert_eq!(rt; leading(&[b'+'; 4096], Kind::Sign(Sign::Plus)), 4096);
     assert!(rt; is_cut(&[b'-'; 4096], &[Kind::End]));
     let mut pairs = [b'a'; 4096];
-    let mut at = 1;
-    while at < 4096 {
-        pairs[at] = b'.';
-        at += 2;
+    for i in 0..2048 {
+        pairs[2 * i + 1] = b'.';
     }
     let mut scanner = Scanner::new(&pairs);
     for _ in 0..2048 {
