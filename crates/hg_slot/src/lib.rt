@@ -8,6 +8,7 @@ mod change;
 mod close;
 mod entry;
 mod find;
+mod room;
 pub mod slot;
 #[cfg(test)]
 mod tests;
