@@ -54,7 +54,7 @@ pub stored_parts : (front bytes : List ℕ) (row : List Value) (born : ℕ) → 
 stored_parts front bytes row born e small b storable =
     subst (λ f. IsStored (length row) (f ++ bytes) (record { born = born; died = None; row = row })) (sym e)
     (subst (λ c. IsStored (length row) ((to_le_bytes w32 born ++ to_le_bytes w32 0) ++ c) (record { born = born; died = None; row = row })) (sym b)
-    (record { stamp = small; end = tt; born = refl; died = refl; row = record { storable = storable; count = refl; bytes = refl } }))
+    (record { stamp = small; end = tt; born = refl; died = refl; row = record { storable = storable; count = refl; spelled = refl } }))
 
 pub front-long : (front : List ℕ) (born : ℕ) → front ≡ to_le_bytes w32 born ++ to_le_bytes w32 0 → length front ≡ 8
 front-long front born e = ap length e

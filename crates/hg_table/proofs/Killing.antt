@@ -1,8 +1,8 @@
 -- The death of a version of a table.
-use Rattle.std.specs.Prelude.{◌≡◌, ◌≢◌, ℕ, ◌+◌, ◌^◌, ◌<◌, ◌≤◌, true, false, List, [], ◌∷◌, length, take, drop, Option, Some, None, MatchOption, ⊤, Result, Ok, Err, OnOk, OnErr}
+use Rattle.std.specs.Prelude.{◌≡◌, ◌≢◌, ℕ, ◌^◌, ◌<◌, ◌≤◌, true, List, [], ◌∷◌, length, Option, Some, Result, Ok, Err, OnOk, OnErr}
 use Rattle.std.specs.Int.{w32, to_le_bytes}
 use Rattle.std.specs.List.{AllByRecursion}
-use Rattle.std.proofs.Common.{sym, ◌∙◌, ap, subst, refl, arith, length-take, length-drop}
+use Rattle.std.proofs.Common.{sym, ◌∙◌, ap, subst, refl, arith}
 use Rattle.std.proofs.lemmas.Slice.{drop-put_mid}
 use borrow.Rule.Slice.PartMut.{put_mid}
 use Rattle.hg_base.specs.Parts.{below, within}
@@ -13,10 +13,9 @@ use Rattle.hg_base.specs.declared.Place.{Place}
 use Rattle.hg_base.specs.declared.Table.{Table}
 use Rattle.hg_base.specs.declared.pages.PageFault.{PageFault}
 use Rattle.hg_slot.specs.Slotted.{record_at, IsSlotted}
-use Rattle.hg_slot.specs.Changing.{HasPart, Overwrites}
 use Rattle.hg_value.specs.Coding.{IsRowOf}
 use Rattle.hg_table.specs.Chains.{IsChain}
-use Rattle.hg_table.specs.Versions.{Placed, RowVersion, HoldsVersions, IsStored, IsTable, Shows, death}
+use Rattle.hg_table.specs.Versions.{Placed, RowVersion, HoldsVersions, IsStored, IsTable, Shows}
 use Rattle.hg_table.specs.Places.{killed}
 use Rattle.hg_table.specs.Calls.{HasVersion, none_mine}
 use Rattle.hg_table.specs.Steps.{ChangesPage, Changes, Kills, Looks}
@@ -55,26 +54,6 @@ kills_slot columns j d v old new n shows s k = let w = k.written s in record {
       (stored_dead columns d k.record_bytes v n k.small k.long (subst (λ o. Shows columns o (Some v)) k.was shows));
   others = w.others;
 }
-
--- a record that has the bytes of two stamps, or none that is a version
-pub kills_made : (old new : List ℕ) (j d : ℕ) → d < 2 ^ 32 → HasPart old j 4 4 true → (IsSlotted old → Overwrites old new j 4 (to_le_bytes w32 d)) → Kills old new j d
-kills_made old new j d small part w = go (record_at old j) refl part
-  where
-    go : (o : Option (List ℕ)) → record_at old j ≡ o → MatchOption o ⊥ (λ r. 4 + 4 ≤ length r) → Kills old new j d
-    go None e h = absurd h
-    go (Some r) e h = record { small = small; record_bytes = r; was = e; long = h; written = w }
-
-stored_long : (columns : ℕ) (r : List ℕ) (v : RowVersion) → IsStored columns r v → 4 + 4 ≤ length r
-stored_long columns r v h =
-    let e : length (take 4 (drop 4 r)) ≡ 4 = ap length h.died ∙ length-stamp (death v.died) in
-    omega (arith, length-take 4 (drop 4 r), length-drop 4 r)
-
-pub no_version : (page : List ℕ) (j : ℕ) → HasPart page j 4 4 false → (columns : ℕ) (v : RowVersion) → Shows columns (record_at page j) (Some v) → ⊥
-no_version page j part columns v shows = go (record_at page j) part shows
-  where
-    go : (o : Option (List ℕ)) → MatchOption o ⊤ (λ r. 4 + 4 ≤ length r → ⊥) → Shows columns o (Some v) → ⊥
-    go None h s = s
-    go (Some r) h s = h (stored_long columns r v s)
 
 -- the page that was changed held this version
 pub record KillsVersion (columns j d : ℕ) (v : RowVersion) (old new : List ℕ) : Type 0 where

@@ -1,12 +1,12 @@
 -- What is known of pages that were looked at.
-use Rattle.std.specs.Prelude.{◌≡◌, ℕ, ◌+◌, ◌<◌, ◌≤◌, ◌==◌, ◌&&◌, not, List, slice_index, Option, Some, None, Err, if◌then◌else◌}
-use Rattle.std.proofs.Common.{sym, ◌∙◌, ap, refl, arith, inl, inr}
+use Rattle.std.specs.Prelude.{◌≡◌, ℕ, ◌+◌, ◌<◌, ◌≤◌, ◌==◌, ◌&&◌, not, List, slice_index, Option, Some, None, MatchOption, Err, if◌then◌else◌}
+use Rattle.std.proofs.Common.{sym, ◌∙◌, ap, subst, refl, arith, inl, inr}
 use Rattle.std.proofs.lemmas.Bool.{cases_eq, cases_lt, le-ltb}
 use Rattle.hg_base.specs.Space.{Space, NoPins, IsSame}
 use Rattle.hg_base.specs.Causes.{Later}
 use Rattle.hg_base.specs.SteadyLaws.{Steady_refused, Steady_then}
-use Rattle.hg_slot.specs.Slotted.{slots, offset, body, record_at, IsSlotted, IsClean}
-use Rattle.hg_slot.specs.Changing.{IsInserted, IsWrong, InsertChecked, HeadChecked, fault_at}
+use Rattle.hg_slot.specs.Slotted.{slots, offset, body, record_at, Fits, IsSlotted, IsClean}
+use Rattle.hg_slot.specs.Changing.{IsInserted, IsFullFor, IsPut, IsWrong, InsertChecked, HeadChecked, fault_at}
 use Rattle.hg_base.specs.declared.Check.{Check}
 use Rattle.hg_base.specs.declared.Check.TheVariants as check
 use Rattle.hg_table.specs.Versions.{RowVersion, Shows, most_slots}
@@ -60,6 +60,13 @@ refused a b out e l = record { steady = Steady_refused none_mine a b out e l; ta
 -- a call that looked and was then refused
 pub refused_behind : (a b c : Space) → Looks a b → Refused b c → Refused a c
 refused_behind a b c l r = record { steady = Steady_then none_mine a b c l.steady r.steady; taken = r.taken ∙ l.takes_none.taken }
+
+-- what was put into an empty page
+pub put_first : (a b r : List ℕ) (o : Option ℕ) (n slot : ℕ) → o ≡ Some slot → MatchOption o (IsFullFor a b n) (λ s. IsPut a b s r) → IsSlotted a → slots a ≡ 0 → IsClean a → HoldsRecord b slot r
+put_first a b r o n slot e put s none clean = let p = subst (λ z. MatchOption z (IsFullFor a b n) (λ i. IsPut a b i r)) e put in one_record a b r slot none clean (p.inserted s)
+
+pub never_full : (a b r : List ℕ) (o : Option ℕ) (n : ℕ) → o ≡ None → MatchOption o (IsFullFor a b n) (λ s. IsPut a b s r) → Fits a n → ⊥
+never_full a b r o n e put f = let p = subst (λ z. MatchOption z (IsFullFor a b n) (λ i. IsPut a b i r)) e put in p.full f
 
 -- what was found wrong
 pub insert_wrong : (T : Type 0) (page : List ℕ) (n : ℕ) (e : Check) → InsertChecked {T = T} page n (Err e) → IsWrong page e

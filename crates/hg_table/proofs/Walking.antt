@@ -94,7 +94,7 @@ way_passed a b pages x l w =
     subst (IsOnWay a pages) (sym (looks_page a b x l h.plain).next) h.behind
 
 -- the next page of a line
-has_next : (done : List ℕ) (x : ℕ) (rest : List ℕ) → has_page (done ++ x ∷ rest) x ≡ true
+pub has_next : (done : List ℕ) (x : ℕ) (rest : List ℕ) → has_page (done ++ x ∷ rest) x ≡ true
 has_next [] x rest = ap (λ t. t || has_page rest x) (eq-eqb x x refl)
 has_next (y ∷ done) x rest = or_yes (y == x) (has_page (done ++ x ∷ rest) x) (has_next done x rest)
   where
@@ -112,7 +112,7 @@ pub record IsNextPage (a : Space) (start : Option ℕ) (h : HoldsLine a start) (
   pub among : has_page h.pages x ≡ true
   pub holds : HoldsVersions a h.columns x (h.held x)
 
-some_same : (x y : ℕ) → ◌≡◌ {A = Option ℕ} (Some x) (Some y) → x ≡ y
+pub some_same : (x y : ℕ) → ◌≡◌ {A = Option ℕ} (Some x) (Some y) → x ≡ y
 some_same x y e = cc
 
 pub next_page : (a : Space) (start : Option ℕ) (h : HoldsLine a start) (x turn : ℕ) → Passed a start h (Some x) turn → IsNextPage a start h x turn
@@ -169,7 +169,7 @@ pub none_held : (s : Space) (columns x from n : ℕ) (held : ℕ → Option RowV
 none_held s columns x from n held h none =
     slots_none x held from n (λ i l. shown_none columns (record_at h.page i) (held i) (none i l) (h.each i))
 
-pages-both : (held : ℕ → ℕ → Option RowVersion) (xs ys : List ℕ) → in_pages held (xs ++ ys) ≡ in_pages held xs ++ in_pages held ys
+pub pages-both : (held : ℕ → ℕ → Option RowVersion) (xs ys : List ℕ) → in_pages held (xs ++ ys) ≡ in_pages held xs ++ in_pages held ys
 pages-both held [] ys = refl
 pages-both held (x ∷ xs) ys = ap (λ r. in_slots x (held x) 0 most_slots ++ r) (pages-both held xs ys)
     ∙ sym (append_assoc (in_slots x (held x) 0 most_slots) (in_pages held xs) (in_pages held ys))

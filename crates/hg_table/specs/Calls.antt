@@ -67,18 +67,18 @@ pub record HasStart (s : Space) (t : Table) (start : Option Place) : Type 0 wher
   pub table : IsTable s t columns pages versions
   pub page : MatchOption start ⊤ (λ place. IsTrue (has_page pages place.page))
 
+-- the place, if there is one, is on one of these pages
+abbrev pub StandsOn : List ℕ → Option Place → Type 0
+StandsOn pages None = ⊤
+StandsOn pages (Some place) = IsTrue (has_page pages place.page)
+
 -- Where a search begins: these are the pages of the table, which is known over every space, the place is
 -- on one of them, and where the space tells, they hold rows of so many values.
 pub record HasWay (s : Space) (t : Table) (columns : ℕ) (start : Option Place) : Type 0 where
   pub pages : List ℕ
   pub chain : IsChain s t pages
-  pub on : MatchOption start ⊤ (λ place. IsTrue (has_page pages place.page))
+  pub on : StandsOn pages start
   pub rows : s.told ≡ true → (versions : List Placed) × IsTable s t columns pages versions
-
--- the place, if there is one, is on one of these pages
-abbrev pub StandsOn : List ℕ → Option Place → Type 0
-StandsOn pages None = ⊤
-StandsOn pages (Some place) = IsTrue (has_page pages place.page)
 
 -- One version more was put among the others.
 pub record PutsIn (old new : List Placed) (v : Placed) : Type 0 where

@@ -1,5 +1,5 @@
 //! The way along the versions that a snapshot sees.
-ghost use Rattle.std.specs.Prelude.{◌≡◌, ℕ, ◌≤◌, ◌<◌, true, List, Option, Some, None, length, IfOk, IfErr, IsSome};
+ghost use Rattle.std.specs.Prelude.{◌≡◌, ℕ, ◌≤◌, ◌<◌, true, List, Option, Some, None, Ok, length, IfOk, IfErr, IsSome};
 ghost use Rattle.std.specs.List.{AllByRecursion};
 ghost use Rattle.hg_base.specs.Space.{NoPins, key_in};
 ghost use Rattle.hg_base.specs.Lines.{IsLine};
@@ -35,6 +35,7 @@ fn next_seen(
     ensures seen { IfOk result (λ slot. (held : ℕ → Option RowVersion)
         → ((k : ℕ) → Shows columns (record_at page.now k) (held k))
         → IsNextSeen (committed stamps.now) snapshot.0 held from slot out.old out.new) }
+    ensures unseen { result ≡ Ok None → out.new ≡ out.old }
     ensures width { IfOk result (λ slot. IsSome slot → length out.new ≡ columns) }
     ensures wrong { IfErr result (IsWrongPage page.now columns) }
 {
@@ -69,6 +70,7 @@ fn seen_on<S: Pages>(
     ensures seen { IfOk result (λ slot. (held : ℕ → Option RowVersion)
         → HoldsVersions (S.state space.old) columns no held
         → IsNextSeen (committed stamps.now) snapshot.0 held from slot out.old out.new) }
+    ensures unseen { result ≡ Ok None → out.new ≡ out.old }
     ensures width { IfOk result (λ slot. IsSome slot → length out.new ≡ columns) }
     ensures looks { Looks (S.state space.old) (S.state space.new) }
     ensures cause { HasCause (S.state space.old) (S.state space.new) (fault_of result) }
@@ -102,6 +104,7 @@ fn seen_along<S: Pages>(
         out.old out.new) }
     ensures on_line { IfOk result (λ next. (pages : List ℕ)
         → IsLine File.Main (S.state space.old) start pages → StandsOn pages next) }
+    ensures unseen { result ≡ Ok None → out.new ≡ out.old }
     ensures width { IfOk result (λ next. IsSome next → length out.new ≡ columns) }
     ensures looks { Looks (S.state space.old) (S.state space.new) }
     ensures cause { HasCause (S.state space.old) (S.state space.new) (fault_of result) }
@@ -140,6 +143,7 @@ pub fn next_visible<S: Pages>(
         out.old out.new) }
     ensures on_pages { IfOk result (λ next. (pages : List ℕ)
         → IsChain (S.state space.old) table.now pages → StandsOn pages next) }
+    ensures unseen { result ≡ Ok None → out.new ≡ out.old }
     ensures width { IfOk result (λ next. IsSome next → length out.new ≡ columns) }
     ensures looks { Looks (S.state space.old) (S.state space.new) }
     ensures cause { HasCause (S.state space.old) (S.state space.new) (fault_of result) }

@@ -1,5 +1,5 @@
 //! Versions in bytes.
-ghost use Rattle.std.specs.Prelude.{◌≡◌, ℕ, ◌++◌, ◌≤◌, List, Option, length, IfSome, IsNone, option_map};
+ghost use Rattle.std.specs.Prelude.{◌≡◌, ℕ, ◌++◌, ◌^◌, ◌<◌, ◌≤◌, List, Option, length, IfSome, IsNone, option_map};
 ghost use Rattle.std.specs.Bool.{OnTrue, OnFalse};
 ghost use Rattle.hg_base.specs.declared.Stamp.{Stamp as StampOf};
 ghost use Rattle.hg_model.specs.Visible.{is_visible};
@@ -24,7 +24,8 @@ pub struct Life {
 /// The bytes with which the record of a version begins that was born under a stamp and did not die; the
 /// bytes of its row follow them.
 pub fn front_of(born: Stamp) -> [u8; STAMPS]
-    ensures { result ≡ to_le_bytes w32 born.0 ++ to_le_bytes w32 0 }
+    ensures bytes { result ≡ to_le_bytes w32 born.0 ++ to_le_bytes w32 0 }
+    ensures small { born.0 < 2 ^ 32 }
 {
     let mut front = [0; STAMPS];
     put_u32(&mut front, 0, born.0);
