@@ -53,6 +53,7 @@ marked_more page n from k a b e f m w = record {
           elim d [ inl g ↦ absurd (omega arith) | inr g ↦ absurd (omega arith) ]
       | inr i ↦ m.marked j x (omega arith) o
     ]
+
     before : (x : ℕ) → (j : ℕ) × (j < n) × IsOf page j x → (j : ℕ) × (j < n + 1) × IsOf page j x
     before x (j, h, o) = (j, omega arith, o)
 

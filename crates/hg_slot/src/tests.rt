@@ -149,15 +149,18 @@ fn damaged_pages_are_written_over(rt: HostRuntime) -> Result<(), Fail> {
     assert_eq!(rt; written(&[0x53, 0, 128, 0, 0x10, 2], 128), Ok(false));
     // records of 5 and of 4 bytes at 4088, and one of 9 bytes there
     let three = [
-        0x53, 0, 3, 0, 0xF8, 0x0F, 0, 0, 0, 0, 0, 0, 0, 0, 0, 0, 0xF8, 0x0F, 5, 0, 0xF8, 0x0F, 4, 0,
-        0xF8, 0x0F, 9, 0,
+        0x53, 0, 3, 0, 0xF8, 0x0F, 0, 0, 0, 0, 0, 0, 0, 0, 0, 0, 0xF8, 0x0F, 5, 0, 0xF8, 0x0F, 4,
+        0, 0xF8, 0x0F, 9, 0,
     ];
     assert_eq!(rt; written(&three, 0), Ok(true));
     assert_eq!(rt; written(&three, 1), Ok(false));
     assert_eq!(rt; written(&three, 2), Err(Check::Size));
     // the number of slots alone, and what is wrong with the head
     assert_eq!(rt; slot::check_head(&page_of(&three)), Ok(3));
-    assert_eq!(rt; slot::check_head(&page_of(&[0x53, 0, 1, 0, 19, 0])), Err(Check::Size));
+    assert_eq!(rt;
+        slot::check_head(&page_of(&[0x53, 0, 1, 0, 19, 0])),
+        Err(Check::Size)
+    );
     assert_eq!(rt; slot::check_head(&page_of(&[0x52])), Err(Check::Kind));
     Ok(())
 }

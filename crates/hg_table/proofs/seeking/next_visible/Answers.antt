@@ -35,9 +35,11 @@ seen_on-requires-clause-plain g c =
 pub seen_on-requires-clause-sound : goal.seen_on-requires-clause-sound
 seen_on-requires-clause-sound g c = λ told.
     let way = c.requires.way in
-    let rows = way.rows told in
-    (rows.1.held c.in-Some.place.page, place_rows (g.S.Pages.state c.args.space.now) c.args.table.now c.args.columns way.pages rows.0 c.in-Some.place.page rows.1
-    (subst (StandsOn way.pages) c.in-Some.is way.on))
+    let rows = way.rows told in (
+      rows.1.held c.in-Some.place.page,
+      place_rows (g.S.Pages.state c.args.space.now) c.args.table.now c.args.columns way.pages rows.0 c.in-Some.place.page rows.1
+          (subst (StandsOn way.pages) c.in-Some.is way.on),
+    )
 
 pub returns-in_err-slot-clause-page : goal.returns-in_err-slot-clause-page
 returns-in_err-slot-clause-page g c = λ pages chain.
@@ -82,10 +84,11 @@ pub seen_along-requires-in-None-clause-line : goal.seen_along-requires-in-None-c
 seen_along-requires-in-None-clause-line g c =
     let a : Space = g.S.Pages.state c.args.space.now in
     let b : Space = g.S.Pages.state c.seen_on.new.space in
-    let way = c.requires.way in
-    (pages_behind way.pages c.in-Some.place.page,
+    let way = c.requires.way in (
+      pages_behind way.pages c.in-Some.place.page,
       line_rest a b c.args.table.now way.pages c.in-Some.place.page c.next-next.result c.in_ok-slot.ensures.looks way.chain (subst (StandsOn way.pages) c.in-Some.is way.on)
-      (c.next-next.ensures ∙ ap (λ p. b.next (key p)) c.main_page.ensures))
+          (c.next-next.ensures ∙ ap (λ p. b.next (key p)) c.main_page.ensures),
+    )
 
 pub seen_along-requires-in-None-clause-rows : goal.seen_along-requires-in-None-clause-rows
 seen_along-requires-in-None-clause-rows g c = λ told.

@@ -42,10 +42,12 @@ pub seen_on-requires-clause-sound : goal.seen_on-requires-clause-sound
 seen_on-requires-clause-sound g c = λ told.
     let a : Space = g.S.Pages.state c.args.space.now in
     let p : ℕ → Bool = committed c.args.stamps.now in
-    let r : HoldsRowsOf a c.args.start c.args.columns = c.requires.rows (sym c.loop-turn.invariant.looks.steady.told ∙ told) in
-    (r.held c.in-Some.no, sought_holds a (g.S.Pages.state c.loop-turn.space) c.args.start c.args.columns r p c.args.snapshot.0 c.in-Some.no c.loop-turn._turn c.loop-turn.invariant.looks
-    (sought_page a c.args.start c.args.columns r p c.args.snapshot.0 c.in-Some.no c.loop-turn._turn
-    (subst (λ o. Sought a c.args.start c.args.columns r p c.args.snapshot.0 o c.loop-turn._turn) c.in-Some.is (c.loop-turn.invariant.sought r))))
+    let r : HoldsRowsOf a c.args.start c.args.columns = c.requires.rows (sym c.loop-turn.invariant.looks.steady.told ∙ told) in (
+      r.held c.in-Some.no,
+      sought_holds a (g.S.Pages.state c.loop-turn.space) c.args.start c.args.columns r p c.args.snapshot.0 c.in-Some.no c.loop-turn._turn c.loop-turn.invariant.looks
+          (sought_page a c.args.start c.args.columns r p c.args.snapshot.0 c.in-Some.no c.loop-turn._turn
+          (subst (λ o. Sought a c.args.start c.args.columns r p c.args.snapshot.0 o c.loop-turn._turn) c.in-Some.is (c.loop-turn.invariant.sought r))),
+    )
 
 pub returns-in_err-slot-clause-page : goal.returns-in_err-slot-clause-page
 returns-in_err-slot-clause-page g c = λ pages line.
