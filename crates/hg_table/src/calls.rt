@@ -12,7 +12,9 @@ use hg_value::Row;
 /// it answers as [`PageFault::Damaged`], with the page and what was wrong: `Kind` and `Size` of a
 /// page that is no slotted page, `RowBytes` of a place whose page cannot be pinned or that holds no
 /// version, `Level` of a page of the chain, the first or a successor, that cannot be pinned, `Order`
-/// of a walk that passes more pages than are taken.
+/// of a walk that passes more pages than are taken. Successors are kept beside the pages, over every
+/// space: where the pages of the table are known and the walk begins on one of them, neither of the last
+/// two comes. Kind comes only where byte 0 is another one.
 pub trait TableCalls {
     ghost use Rattle.std.specs.Prelude.{◌≡◌, ◌≢◌, ℕ, ◌+◌, ◌≤◌, ◌⊎◌, true, false, List, length, Some, None, Ok, Err, IfOk, IfErr, OnOk, OnErr, IfSome, IsSome, option_map};
     ghost use Rattle.hg_base.specs.Space.{NoPins};
@@ -25,7 +27,7 @@ pub trait TableCalls {
     ghost use Rattle.hg_table.specs.Chains.{IsChain};
     ghost use Rattle.hg_table.specs.Versions.{Placed, IsTable};
     ghost use Rattle.hg_table.specs.Places.{version_at, behind, first_place, first_seen, Finds, sees, killed};
-    ghost use Rattle.hg_table.specs.Calls.{none_mine, page_mine, insert_mine, HasTable, HasPage, HasVersion, HasStart, HasWay, Inserts, KeepsPages, AddsPage, InsertFault, LookFault, IsVersionCheck, IsWalkCheck, NamesPage, NamesGiven, NamesMain, NamesOneOf, IsBarred, HasNoRoom, StandsOn, TakesNone, newborn};
+    ghost use Rattle.hg_table.specs.Calls.{none_mine, page_mine, insert_mine, HasTable, HasPage, HasVersion, HasStart, HasWay, Inserts, KeepsPages, AddsPage, InsertFault, LookFault, IsPageCheck, IsVersionCheck, IsWalkCheck, NamesPage, NamesGiven, NamesMain, NamesOneOf, IsBarred, HasNoRoom, StandsOn, TakesNone, newborn};
 
     // where the table's pages stand
     ghost ends: { Self → TableOf };
@@ -135,7 +137,9 @@ pub trait TableCalls {
         ensures cause { HasCause (S.state space.old) (S.state space.new) (fault_of result) }
         ensures fault { IfErr result (LookFault IsWalkCheck) }
         ensures page { IfErr result NamesMain }
-        ensures level { IfErr result (IsBarred (S.state space.old) at) };
+        ensures level { IfErr result (IsBarred (S.state space.old) at) }
+        ensures known { (pages : List ℕ) → IsChain (S.state space.old) (ends self.now) pages
+            → StandsOn pages at → IfErr result (LookFault IsPageCheck) };
 
     /// The first version behind `at`, in order of pages and slots, that the snapshot sees; the first of
     /// all that it sees where `at` is None. Its row is put into `out`, under the pin under which it was

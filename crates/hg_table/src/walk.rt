@@ -10,7 +10,7 @@ ghost use Rattle.hg_slot.specs.Changing.{IsWrong};
 ghost use Rattle.hg_table.specs.Chains.{IsChain};
 ghost use Rattle.hg_table.specs.Versions.{Placed, RowVersion, IsTable, in_pages};
 ghost use Rattle.hg_table.specs.Places.{behind, first_place};
-ghost use Rattle.hg_table.specs.Calls.{HasStart, LookFault, IsWalkCheck, NamesPage, NamesMain, IsBarred, StandsOn, main_page};
+ghost use Rattle.hg_table.specs.Calls.{HasStart, LookFault, IsPageCheck, IsWalkCheck, NamesPage, NamesMain, IsBarred, StandsOn, main_page};
 ghost use Rattle.hg_table.specs.Steps.{Looks, IsSound, IsNextSlot, HoldsLine};
 
 use crate::open::{damaged, main_page, open};
@@ -56,6 +56,8 @@ fn look<S: Pages>(
     ensures cause { HasCause (S.state space.old) (S.state space.new) (fault_of result) }
     ensures fault { IfErr result (LookFault IsWalkCheck) }
     ensures page { IfErr result (NamesPage no) }
+    ensures known { IsFree (S.state space.old) (main_page no)
+        → IfErr result (LookFault IsPageCheck) }
     ensures level { entering ≡ true → IfErr result (IsBarred (S.state space.old) None) }
     ensures row { entering ≡ false → (slot : ℕ)
         → IfErr result (IsBarred (S.state space.old) (Some (record { page = no; slot = slot }))) }
@@ -86,6 +88,8 @@ fn first_along<S: Pages>(space: &mut S, start: Option<u32>) -> Result<Option<Pla
     ensures cause { HasCause (S.state space.old) (S.state space.new) (fault_of result) }
     ensures fault { IfErr result (LookFault IsWalkCheck) }
     ensures page { IfErr result NamesMain }
+    ensures known { (pages : List ℕ) → IsLine File.Main (S.state space.old) start pages
+        → IfErr result (LookFault IsPageCheck) }
     ensures level { IfErr result (IsBarred (S.state space.old) None) }
 {
     let mut next = start;
@@ -121,6 +125,8 @@ pub fn after<S: Pages>(
     ensures cause { HasCause (S.state space.old) (S.state space.new) (fault_of result) }
     ensures fault { IfErr result (LookFault IsWalkCheck) }
     ensures page { IfErr result NamesMain }
+    ensures known { (pages : List ℕ) → IsChain (S.state space.old) table.now pages
+        → StandsOn pages at → IfErr result (LookFault IsPageCheck) }
     ensures level { IfErr result (IsBarred (S.state space.old) at) }
 {
     match at {
