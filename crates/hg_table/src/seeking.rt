@@ -23,7 +23,7 @@ use hg_value::Row;
 /// The first version from a slot on that a snapshot sees, on a page whose bytes may be any. Its row is
 /// put into `out`.
 #[tactic(auto, using(crate::proofs::Seeing::page_wrong))]
-fn next_seen(
+pub fn next_seen(
     page: &[u8],
     from: u32,
     columns: u8,
