@@ -8,7 +8,7 @@ use Rattle.hg_slot.specs.Writing.{Written}
 use Rattle.hg_slot.proofs.Slots.{Changes}
 
 -- a byte is the first of the part that begins with it
-byte-of : (l : List ℕ) (x : ℕ) → slice_index (take 1 (drop x l)) 0 ≡ slice_index l x
+pub byte-of : (l : List ℕ) (x : ℕ) → slice_index (take 1 (drop x l)) 0 ≡ slice_index l x
 byte-of [] zero = refl
 byte-of [] (suc x) = refl
 byte-of (y ∷ l) zero = refl

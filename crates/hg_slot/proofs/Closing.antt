@@ -3,7 +3,7 @@ use Rattle.std.specs.Prelude.{◌≡◌, ℕ, ◌+◌, ◌-◌, ◌*◌, ◌<◌
 use Rattle.std.proofs.Common.{sym, ◌∙◌, ap, refl, arith, inl, inr}
 use Rattle.std.proofs.lemmas.Bool.{cases_lt, cases_eq}
 use Rattle.hg_slot.specs.Slotted.{slots, lowest, size, record_at, length_of, lengths, used, Fits, IsSlotted}
-use Rattle.hg_slot.specs.Changing.{Starts, Fills, AddsSlot, Rebuilds, ClosesUp, MakesRoom, HasSlot, IsFirstEmpty, IsInserted}
+use Rattle.hg_slot.specs.Changing.{Starts, AddsSlot, Rebuilds, ClosesUp, MakesRoom, IsFirstEmpty}
 use Rattle.hg_slot.proofs.Slots.{shown-out}
 use Rattle.hg_slot.proofs.Finding.{lengths-next, lengths-none, lengths-up, length-shown}
 
@@ -16,23 +16,6 @@ up_to page k h =
 
 pub room_to_add : (a b : List ℕ) (k : ℕ) → k < slots a → used a ≤ 4096 → Rebuilds a b k → 20 + 4 * slots b ≤ lowest b
 room_to_add a b k h u r = omega (arith, up_to a k h, r.count, r.low)
-
-pub room_to_fill : (a b c : List ℕ) (k n : ℕ) → IsSlotted a → k < slots a → used a ≤ 4096 → Rebuilds a b k → AddsSlot b c → n ≡ size a k
-    → 16 + 4 * slots c + n ≤ lowest c
-room_to_fill a b c k n s h u r d e = omega (arith, up_to a k h, length-shown a k s h, r.count, r.low, d.count, d.low)
-
-pub copied_full : (a b c d x : List ℕ) (k : ℕ) → Rebuilds a b k → AddsSlot b c → Fills c d k x → record_at a k ≡ Some x → Rebuilds a d (k + 1)
-copied_full a b c d x k r t f e = record {
-  clean = f.clean (t.clean r.clean);
-  slotted = f.slotted;
-  count = f.count ∙ t.count ∙ ap (λ n. n + 1) r.count;
-  same = λ j h. elim (cases_eq j k) [
-    | inl i ↦ ap (record_at d) i ∙ f.here ∙ sym e ∙ ap (record_at a) (sym i)
-    | inr n ↦ f.others j n ∙ t.all j ∙ r.same j (omega arith)
-  ];
-  low = let n : length_of (record_at a k) ≡ length x = ap length_of e in
-      omega (arith, lengths-next a k, f.low, t.low, r.low);
-}
 
 pub copied_none : (a b c : List ℕ) (k : ℕ) → Rebuilds a b k → AddsSlot b c → record_at a k ≡ None → Rebuilds a c (k + 1)
 copied_none a b c k r t e = record {
@@ -70,28 +53,10 @@ rebuilt a b n e r = record {
 
 -- room that is there, and room that closing up makes
 pub room_there : (a : List ℕ) (need : ℕ) → IsSlotted a → need ≤ lowest a → MakesRoom a a need
-room_there a need s h = record { clean = λ z. z; slotted = s; all = λ k. refl; count = refl; room = h }
+room_there a need s h = record { clean = λ z. z; slotted = s; all = λ k. refl; count = refl; room = h; same = λ l. refl }
 
-pub room_made : (a b : List ℕ) (need : ℕ) → need + lengths a (slots a) ≤ 4096 → ClosesUp a b → MakesRoom a b need
-room_made a b need h c = record { clean = λ z. c.clean; slotted = c.slotted; all = c.all; count = c.count; room = omega (arith, c.low) }
-
--- a slot that is there, and one that was added
-pub slot_there : (a : List ℕ) (slot : ℕ) → IsSlotted a → slot < slots a → HasSlot a a slot
-slot_there a slot s h = record { clean = λ z. z; slotted = s; all = λ k. refl; count = omega arith; low = refl }
-
-pub slot_added : (a b : List ℕ) (slot : ℕ) → slot ≡ slots a → AddsSlot a b → HasSlot a b slot
-slot_added a b slot e t = record { clean = t.clean; slotted = t.slotted; all = t.all; count = omega (arith, t.count); low = t.low }
-
--- what was put into the page that has the room and the slot was inserted
-pub inserted : (a b c d x : List ℕ) (slot need : ℕ) → IsFirstEmpty a slot → MakesRoom a b need → HasSlot b c slot → Fills c d slot x → IsInserted a d slot x
-inserted a b c d x slot need e m h f = record {
-  clean = λ z. f.clean (h.clean (m.clean z));
-  was_empty = e.empty;
-  first = e.first;
-  here = f.here;
-  others = λ k n. f.others k n ∙ h.all k ∙ m.all k;
-  count = f.count ∙ h.count ∙ ap (λ n. max n (slot + 1)) m.count;
-}
+pub room_made : (a b : List ℕ) (need : ℕ) → need + lengths a (slots a) ≤ 4096 → lowest a < need → ClosesUp a b → MakesRoom a b need
+room_made a b need h low c = record { same = λ l. absurd (omega arith); clean = λ z. c.clean; slotted = c.slotted; all = c.all; count = c.count; room = omega (arith, c.low) }
 
 -- the byte count that decides
 pub fits_there : (a : List ℕ) (slot n : ℕ) → IsSlotted a → IsFirstEmpty a slot → max (slots a) (slot + 1) ≤ 128
@@ -111,12 +76,9 @@ fits_then a slot n s e (inl (p, room)) =
     ]
 fits_then a slot n s e (inr (few, room)) = (omega (arith, e.is_near), omega (arith, e.is_near))
 
-pub new_empty : (a b c : List ℕ) (k : ℕ) → Rebuilds a b k → AddsSlot b c → record_at c k ≡ None
-new_empty a b c k r t = t.all k ∙ shown-out b k (omega (arith, r.count))
+pub ruleset rebuilding = (room_to_add, copied_none, rebuild_begins)
 
-pub ruleset rebuilding = (new_empty, room_to_add, room_to_fill, copied_none, rebuild_begins)
-
-pub ruleset making_room = (room_there, room_made, slot_there, slot_added)
+pub ruleset making_room = (room_there, room_made)
 
 pub ruleset fitting = (fits_there, fits_then)
 
@@ -125,11 +87,6 @@ fits_few a slot n s e f = (fits_then a slot n s e f).0
 
 pub fits_room : (a : List ℕ) (slot n : ℕ) → IsSlotted a → IsFirstEmpty a slot → Fits a n → 16 + 4 * max (slots a) (slot + 1) + n + lengths a (slots a) ≤ 4096
 fits_room a slot n s e f = omega (arith, (fits_then a slot n s e f).1)
-
-pub still_empty : (a b c : List ℕ) (slot need : ℕ) → IsFirstEmpty a slot → MakesRoom a b need → HasSlot b c slot → record_at c slot ≡ None
-still_empty a b c slot need e m h = h.all slot ∙ m.all slot ∙ e.empty
-
-pub ruleset inserting = (still_empty, fits_few, fits_room, inserted)
 
 -- on a page with no slots
 pub none_fits : (page : List ℕ) (n : ℕ) → slots page ≡ 0 → n ≤ 4076 → Fits page n

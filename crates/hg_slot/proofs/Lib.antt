@@ -4,6 +4,11 @@ pub mod Clean
 pub mod Steps
 pub mod Finding
 pub mod Closing
+pub mod Counting
+pub mod Placing
+pub mod Copying
+pub mod Lowest
+pub mod Marking
 pub mod Verifying
 pub mod Overwriting
 pub mod Peeking

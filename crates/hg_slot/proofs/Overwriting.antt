@@ -1,14 +1,15 @@
 -- What a write over a part of a record does to the page.
-use Rattle.std.specs.Prelude.{◌≡◌, ◌≢◌, ℕ, ◌+◌, ◌-◌, ◌*◌, ◌<◌, ◌≤◌, ◌⊎◌, max, List, length, take, drop, slice_index, Some, ◌++◌, MatchOption}
-use Rattle.std.proofs.Common.{sym, ◌∙◌, ap, arith, inl, inr, length-take}
+use Rattle.std.specs.Prelude.{◌≡◌, ◌≢◌, ℕ, ◌+◌, ◌-◌, ◌*◌, ◌<◌, ◌≤◌, ◌⊎◌, max, List, length, take, drop, slice_index, Option, Some, None, ◌++◌, MatchOption}
+use Rattle.std.proofs.Common.{sym, ◌∙◌, ap, subst, arith, inl, inr, length-take}
 use Rattle.std.proofs.Math.Nat.{eq-zero-or-pos}
 use Rattle.std.proofs.lemmas.List.{take-take, drop-take, drop-drop}
 use Rattle.std.proofs.lemmas.Bool.{cases_lt}
 use borrow.Rule.Slice.PartMut.{put_mid}
 use Rattle.hg_base.specs.Parts.{parts}
-use Rattle.hg_slot.specs.Slotted.{number, slots, lowest, offset, size, body, record_at, IsOf, IsSlotted, IsRecord}
+use Rattle.hg_slot.specs.Slotted.{number, slots, lowest, offset, size, body, record_at, HasExactLowest, IsOf, IsSlotted, IsRecord}
 use Rattle.hg_slot.specs.Writing.{WritesBytes, WritesSlot, WritesZeros}
-use Rattle.hg_slot.specs.Changing.{Overwrites, Empties}
+use Rattle.hg_slot.specs.Changing.{Overwrites, Erases, WritesPart}
+use Rattle.hg_slot.specs.declared.entry.Entry.{Entry}
 use Rattle.hg_slot.proofs.Numbers.{number-before, first-kept}
 use Rattle.hg_slot.proofs.Clean.{same-byte, byte-in, slot_beside, clean_after}
 use Rattle.hg_slot.proofs.Slots.{shows, shown-here, shown-empty, Changes, others-kept, slotted-after, placed-lower}
@@ -66,6 +67,24 @@ part-beside b i x n at m l e f none =
       ]
     ]
 
+-- bytes 4..6 stay exact where no record moves
+pub exact-same : (a b : List ℕ) → slots b ≡ slots a → lowest b ≡ lowest a → ((k : ℕ) → k < slots a → offset b k ≡ offset a k) → HasExactLowest a → HasExactLowest b
+exact-same a b c l o (inl e) = inl (l ∙ e)
+exact-same a b c l o (inr s) =
+    let same : offset b s.slot ≡ offset a s.slot = o s.slot s.is_slot in
+    let is_slot = s.is_slot in let full = s.full in
+    inr (record { slot = s.slot; is_slot = omega arith; full = omega arith; here = same ∙ s.here ∙ sym l })
+
+-- what was written, whatever the page is
+pub part_written : (a b x : List ℕ) (i from at : ℕ) → from ≡ offset a i → WritesBytes a b (from + at) x → WritesPart a b i at x
+part_written a b x i from at e w =
+    let v : WritesBytes a b (offset a i + at) x = rw e at w in
+    record {
+      same_length = v.only.same_length;
+      here = v.here;
+      beside = λ m n d. elim d [ inl h ↦ v.only.before m n h | inr h ↦ v.only.behind m n h ];
+    }
+
 pub overwritten : (a b x : List ℕ) (i from n at : ℕ) → IsSlotted a → IsRecord a i from n → at + length x ≤ n
     → WritesBytes a b (from + at) x → Overwrites a b i at x
 overwritten a b x i from n at s r h w =
@@ -115,6 +134,7 @@ overwritten a b x i from n at s r h w =
           ∙ ap Some (ap (λ m. take m (drop (offset b i) b)) (siz i hi ∙ sym g) ∙ ap (λ m. take n (drop m b)) (off i hi ∙ sym f) ∙ now);
       others = others-kept a b i c;
       count = count;
+      lowest = λ e. exact-same a b count lowest_same off e;
     }
 
 -- a byte that is beside the slot is zero, or as it was and none of the record
@@ -137,7 +157,7 @@ erased a b c i from n x f g h z v d =
     ]
 
 -- a record's bytes made zero, and its slot emptied
-pub removed : (a b c : List ℕ) (i from n : ℕ) → IsSlotted a → IsRecord a i from n → WritesZeros a b from n → WritesSlot b c i 0 0 → Empties a c i
+pub removed : (a b c : List ℕ) (i from n : ℕ) → IsSlotted a → IsRecord a i from n → WritesZeros a b from n → WritesSlot b c i 0 0 → Erases a c i
 removed a b c i from n s r z v =
     let hi = r.is_slot in
     let f = r.from_is in
@@ -185,3 +205,8 @@ pub within_record : (page : List ℕ) (k from n m : ℕ) → IsRecord page k fro
 within_record page k from n m r h =
     let g : m ≤ length (take n (drop from page)) = rw r.shown at h in
     omega (arith, length-take n (drop from page))
+
+-- the record that a look found
+pub record_there : (page : List ℕ) (k : ℕ) (o : Option Entry) (e : Entry) → o ≡ Some e → MatchOption o (record_at page k ≡ None) (λ e. IsRecord page k e.offset e.size)
+    → IsRecord page k e.offset e.size
+record_there page k o e is h = subst (λ z. MatchOption z (record_at page k ≡ None) (λ e. IsRecord page k e.offset e.size)) is h

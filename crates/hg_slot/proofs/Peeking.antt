@@ -1,10 +1,11 @@
 -- What a reader of one record finds on a page that may be damaged.
-use Rattle.std.specs.Prelude.{◌≡◌, ◌≢◌, ℕ, ◌+◌, ◌-◌, ◌<◌, ◌≤◌, ◌==◌, ◌&&◌, ◌||◌, nat_lt, not, Bool, true, false, List, take, drop, slice_index, None, Some, if◌then◌else◌}
+use Rattle.std.specs.Prelude.{◌≡◌, ◌≢◌, ℕ, ◌+◌, ◌-◌, ◌<◌, ◌≤◌, ◌==◌, ◌&&◌, ◌||◌, nat_lt, not, Bool, true, false, List, take, drop, slice_index, None, Some, Err, if◌then◌else◌}
 use Rattle.std.proofs.Common.{◌∙◌, ap, refl, arith, lt-ltb, eq-eqb, ne_eqb}
 use Rattle.std.proofs.lemmas.Bool.{le-ltb}
-use Rattle.hg_base.specs.declared.Check.TheVariants.{Kind, Size}
-use Rattle.hg_slot.specs.Slotted.{slots, offset, size, record_at, IsSlotted}
-use Rattle.hg_slot.specs.Changing.{reaches_past, fault_at}
+use Rattle.hg_base.specs.declared.Check.{Check}
+use Rattle.hg_base.specs.declared.Check.TheVariants.{Kind, Size, Frame, Link, Level, Order, RowBytes}
+use Rattle.hg_slot.specs.Slotted.{slots, offset, size, record_at, HasGap, IsSlotted}
+use Rattle.hg_slot.specs.Changing.{HeadChecked, InsertChecked, IsWrong, reaches_past, fault_at}
 use Rattle.hg_slot.proofs.Slots.{shown-empty, shown-here, shown-out}
 use Rattle.hg_slot.proofs.Finding.{inside}
 
@@ -83,3 +84,42 @@ fault-inside page k from n h m e f p =
     (le-ltb 4096 (offset page k + size page k) (omega arith)))
 
 pub ruleset peeking = (many, too_long, peeked, shown-out, shown-empty, fault-kind, fault-many, fault-past, fault-no_slot, fault-empty, fault-inside)
+
+-- ---- what a look at the head, or at all, says of an insertion
+
+pub head_refused : (T : Type 0) (page : List ℕ) (n : ℕ) (e : Check) → HeadChecked page (Err e) → InsertChecked {T = T} page n (Err e)
+head_refused T page n Kind h = h
+head_refused T page n Size h = (h.0, (λ u g. h.1 u.head), λ s. h.1 (record { few = s.few; behind = s.behind; ends = s.ends }))
+head_refused T page n Frame h = h
+head_refused T page n Link h = h
+head_refused T page n Level h = h
+head_refused T page n Order h = h
+head_refused T page n RowBytes h = h
+
+pub whole_refused : (T : Type 0) (page : List ℕ) (n : ℕ) (e : Check) → (HasGap page n → ⊥) → IsWrong page e → InsertChecked {T = T} page n (Err e)
+whole_refused T page n Kind none h = h
+whole_refused T page n Size none h = (h.0, (λ u g. none g), h.1)
+whole_refused T page n Frame none h = h
+whole_refused T page n Link none h = h
+whole_refused T page n Level none h = h
+whole_refused T page n Order none h = h
+whole_refused T page n RowBytes none h = h
+
+-- a slotted page is never refused, and a refused one is none
+pub never_refused : (T : Type 0) (page : List ℕ) (n : ℕ) (e : Check) → IsSlotted page → InsertChecked {T = T} page n (Err e) → ⊥
+never_refused T page n Kind s h = h s.kind
+never_refused T page n Size s h = h.2 s
+never_refused T page n Frame s h = h
+never_refused T page n Link s h = h
+never_refused T page n Level s h = h
+never_refused T page n Order s h = h
+never_refused T page n RowBytes s h = h
+
+pub wrong_of : (T : Type 0) (page : List ℕ) (n : ℕ) (e : Check) → InsertChecked {T = T} page n (Err e) → IsWrong page e
+wrong_of T page n Kind h = h
+wrong_of T page n Size h = (h.0, h.2)
+wrong_of T page n Frame h = h
+wrong_of T page n Link h = h
+wrong_of T page n Level h = h
+wrong_of T page n Order h = h
+wrong_of T page n RowBytes h = h

@@ -38,4 +38,5 @@ replaced a w i from n s r e =
       here = o.here (take n (drop from a)) r.shown ∙ ap Some (all-put (take n (drop from a)) w l);
       others = o.others;
       count = o.count;
+      lowest = o.lowest;
     }

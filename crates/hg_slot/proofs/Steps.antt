@@ -1,14 +1,14 @@
--- The steps of a change: a record put into an empty slot, a slot emptied, a slot added.
-use Rattle.std.specs.Prelude.{◌≡◌, ◌≢◌, ℕ, ◌+◌, ◌*◌, ◌<◌, ◌≤◌, ◌⊎◌, List, length, take, drop, slice_index, slice_set, Some}
+-- The steps of a change: an empty page, a slot added.
+use Rattle.std.specs.Prelude.{◌≡◌, ◌≢◌, ℕ, ◌+◌, ◌*◌, ◌<◌, ◌≤◌, ◌⊎◌, List, length, take, drop, slice_index, slice_set}
 use Rattle.std.proofs.Common.{sym, ◌∙◌, ap, arith, inl, inr, get_or-set_same, get_or-set_other}
 use Rattle.std.proofs.Math.ListN.{length-set}
 use Rattle.std.proofs.lemmas.Bool.{cases_order, cases_eq}
 use Rattle.hg_slot.specs.Slotted.{slots, lowest, offset, size, body, IsOf, IsSlotted}
-use Rattle.hg_slot.specs.Writing.{WritesNumber, WritesSlot, WritesBytes}
-use Rattle.hg_slot.specs.Changing.{Starts, Fills, AddsSlot}
+use Rattle.hg_slot.specs.Writing.{WritesNumber, WritesSlot}
+use Rattle.hg_slot.specs.Changing.{Starts, AddsSlot}
 use Rattle.hg_slot.proofs.Numbers.{number-before, number-behind, first-kept}
-use Rattle.hg_slot.proofs.Clean.{same-byte, head_two, head_four, slot_beside, outside, clean_after, empty-size}
-use Rattle.hg_slot.proofs.Slots.{shown-empty, shown-here, shown-out, Changes, others-kept, slotted-after}
+use Rattle.hg_slot.proofs.Clean.{same-byte, head_two, head_four, slot_beside, clean_after}
+use Rattle.hg_slot.proofs.Slots.{shown-empty, shown-out, Changes, others-kept, slotted-after}
 
 -- the entries beside a slot that was written
 pub offset-beside : (a b : List ℕ) (i k from n : ℕ) → WritesSlot a b i from n → k ≢ i → offset b k ≡ offset a k
@@ -90,56 +90,6 @@ added_behind a b c i e s few room w v =
     let w' : WritesSlot a b (slots a) 0 0 = rw e at w in
     let v' : WritesNumber b c 2 (slots a + 1) = rw e at v in
     added a b c s few room w' v'
-
--- a record put into an empty slot, right below the records
-pub filled : (a b c d x : List ℕ) (i at : ℕ) → IsSlotted a → i < slots a → offset a i ≡ 0 → at + length x ≡ lowest a → 16 + 4 * slots a ≤ at
-    → WritesBytes a b at x → WritesSlot b c i at (length x) → WritesNumber c d 4 at → Fills a d i x
-filled a b c d x i at s h zero e room w v u =
-    let whole = s.whole in let ends = s.ends in
-    let len_b = w.only.same_length in
-    let len_c = v.only.same_length in
-    let count : slots d ≡ slots a =
-    number-before c d 4 2 2 u.only (omega arith) ∙ number-before b c (16 + 4 * i) 4 2 v.only (omega arith)
-    ∙ number-before a b at (length x) 2 w.only (omega arith) in
-    let low : lowest d ≡ at = u.here in
-    let off : (k : ℕ) → k < slots a → k ≢ i → offset d k ≡ offset a k = λ k l n.
-    number-behind c d 4 2 (16 + 4 * k) u.only (omega arith) ∙ offset-beside b c i k at (length x) v n
-    ∙ number-before a b at (length x) (16 + 4 * k) w.only (omega arith) in
-    let siz : (k : ℕ) → k < slots a → k ≢ i → size d k ≡ size a k = λ k l n.
-    number-behind c d 4 2 (18 + 4 * k) u.only (omega arith) ∙ size-beside b c i k at (length x) v n
-    ∙ number-before a b at (length x) (18 + 4 * k) w.only (omega arith) in
-    let off_here : offset d i ≡ at = number-behind c d 4 2 (16 + 4 * i) u.only (omega arith) ∙ v.offset in
-    let siz_here : size d i ≡ length x = number-behind c d 4 2 (18 + 4 * i) u.only (omega arith) ∙ v.size in
-    let t : Changes a d i = record {
-      same_length = u.only.same_length ∙ len_c ∙ len_b;
-      kind = first-kept c d 4 2 u.only (omega arith) (omega arith)
-          ∙ first-kept b c (16 + 4 * i) 4 v.only (omega arith) (omega arith)
-          ∙ first-kept a b at (length x) w.only (omega arith) (omega arith);
-      grown = omega arith;
-      one_more = λ k l n. omega arith;
-      lower = omega arith;
-      same_offset = off;
-      same_size = siz;
-      same_body = λ k l n p. body-same a d k (lowest a) (off k l n) (siz k l n)
-          (λ m r g. u.only.behind m r (omega arith) ∙ v.only.behind m r (omega arith) ∙ w.only.behind m r (omega arith))
-          (stands a k s l p);
-    } in
-    record {
-      clean = clean_after a d i s t (λ y q. inr (
-        same-byte c d 4 2 y u.only (head_four y q.no_head)
-            ∙ same-byte b c (16 + 4 * i) 4 y v.only (slot_beside a d i y (omega arith) q.no_slot)
-            ∙ same-byte a b at (length x) y w.only (outside d i y (omega arith) at (length x) off_here siz_here q.no_record),
-        λ l o. absurd (omega (arith, o.from, o.to, empty-size a i s h zero)),
-      ));
-      slotted = slotted-after a d i s t (omega (arith, s.few)) (omega arith) (inr (omega arith, omega arith))
-          (λ k y l n o q. absurd (omega (arith, stands-of a k y s l o, q.to)));
-      here = shown-here d i (omega arith) (omega arith)
-          ∙ ap Some (ap (λ n. take n (drop (offset d i) d)) siz_here ∙ ap (λ m. take (length x) (drop m d)) off_here
-          ∙ u.only.behind at (length x) (omega arith) ∙ v.only.behind at (length x) (omega arith) ∙ w.here);
-      others = others-kept a d i t;
-      count = count;
-      low = omega arith;
-    }
 
 first_beside : (x : ℕ) → (x ≡ 1) ⊎ (6 ≤ x) → x ≢ 0
 first_beside x (inl e) z = absurd (omega arith)

@@ -1,37 +1,8 @@
 -- What a reader of a page finds, and what it says of the page.
-use Rattle.std.specs.Prelude.{◌≡◌, ℕ, ◌+◌, ◌<◌, ◌≤◌, max, List, length, slice_index}
-use Rattle.std.proofs.Common.{arith, inl, inr}
+use Rattle.std.specs.Prelude.{◌≡◌, ℕ, ◌+◌, ◌<◌, ◌≤◌, List, length, slice_index}
+use Rattle.std.proofs.Common.{sym, ◌∙◌, arith, inl, inr}
 use Rattle.std.proofs.lemmas.Bool.{cases_order, cases_eq}
-use Rattle.hg_slot.specs.Slotted.{slots, offset, size, IsOf, IsPlaced, IsApart, AreRight, AreFrom, SharesByte, HasRightHead, IsSlotted}
-
-pub shared : (from n at m : ℕ) → 0 < n → 0 < m → from < at + m → at < from + n → SharesByte from n at m
-shared from n at m a b c d = record { byte = max from at; in_first = (omega arith, omega arith); in_second = (omega arith, omega arith) }
-
-pub not_shared : (from n at m : ℕ) → (0 < n → 0 < m → from < at + m → at < from + n → ⊥) → SharesByte from n at m → ⊥
-not_shared from n at m h s =
-    let p = s.in_first.0 in let q = s.in_first.1 in let r = s.in_second.0 in let t = s.in_second.1 in
-    h (omega arith) (omega arith) (omega arith) (omega arith)
-
-pub ruleset shares = (shared, not_shared)
-
-pub apart_none : (page : List ℕ) (k : ℕ) → IsApart page k 0
-apart_none page k = record { no_byte = λ j x h p q. absurd (omega arith) }
-
-pub apart_next : (page : List ℕ) (k j : ℕ) → IsApart page k j → (SharesByte (offset page j) (size page j) (offset page k) (size page k) → ⊥) → IsApart page k (j + 1)
-apart_next page k j a n = record {
-  no_byte = λ i x h p q. elim (cases_eq i j) [
-    | inl e ↦ let o : IsOf page j x = rw e at p in n (record { byte = x; in_first = (o.from, o.to); in_second = (q.from, q.to) })
-    | inr d ↦ a.no_byte i x (omega arith) p q
-  ];
-}
-
-pub apart_step : (page : List ℕ) (k j from n at m : ℕ) → IsApart page k j → from ≡ offset page j → n ≡ size page j → at ≡ offset page k → m ≡ size page k
-    → (SharesByte from n at m → ⊥) → IsApart page k (j + 1)
-apart_step page k j from n at m a e f g h d = apart_next page k j a (λ s. d (rw (e, f, g, h) s))
-
-pub apart_not : (page : List ℕ) (k j : ℕ) → j < k → SharesByte (offset page j) (size page j) (offset page k) (size page k) → IsApart page k k → ⊥
-apart_not page k j h s a =
-    a.no_byte j s.byte h (record { from = s.in_first.0; to = s.in_first.1 }) (record { from = s.in_second.0; to = s.in_second.1 })
+use Rattle.hg_slot.specs.Slotted.{slots, offset, size, IsOf, IsPlaced, IsApart, AreRight, AreFrom, HasRightHead, IsSlotted}
 
 pub apart_below : (page : List ℕ) (k below : ℕ) → AreFrom page k below → offset page k + size page k ≤ below → IsApart page k k
 apart_below page k below f h = record { no_byte = λ j x l p q. absurd (omega (arith, f.from j x l p, q.to)) }
@@ -53,12 +24,6 @@ from_lower page k below low f l h = from_next page k below low f l (λ x o. omeg
 pub from_none : (page : List ℕ) (below : ℕ) → AreFrom page 0 below
 from_none page below = record { from = λ k x h p. absurd (omega arith) }
 
-pub ruleset apart = (apart_none, apart_next, apart_not)
-
-pub ruleset apart_from = (apart_below)
-
-pub ruleset lowering = (from_empty, from_lower)
-
 pub next_right : (page : List ℕ) (n : ℕ) → AreRight page n → IsPlaced page n → IsApart page n n → AreRight page (n + 1)
 next_right page n r p a = record {
   placed = λ k h. elim (cases_eq k n) [ inl e ↦ rw e p | inr d ↦ r.placed k (omega arith) ];
@@ -68,10 +33,16 @@ next_right page n r p a = record {
 pub none_right : (page : List ℕ) → AreRight page 0
 none_right page = record { placed = λ k h. absurd (omega arith); apart = λ k h. absurd (omega arith) }
 
-pub not_right : (page : List ℕ) (n k : ℕ) → k < n → (IsPlaced page k × IsApart page k k → ⊥) → AreRight page n → ⊥
-not_right page n k h d r = d (r.placed k h, r.apart k h)
+-- a slot right below those before it
+pub falls : (page : List ℕ) (n from k below : ℕ) → from ≡ offset page n → k ≡ size page n → AreRight page n → AreFrom page n below → IsPlaced page n → from + k ≤ below
+    → AreRight page (n + 1)
+falls page n from k below e f r b p h = next_right page n r p (apart_below page n below b (omega arith))
 
-pub ruleset righting = (next_right, none_right, not_right, from_none)
+pub falls_full : (page : List ℕ) (n from k below : ℕ) → from ≡ offset page n → AreFrom page n below → from + k ≤ below → AreFrom page (n + 1) from
+falls_full page n from k below e b h = from_lower page n below from b (omega arith) (omega arith)
+
+pub falls_empty : (page : List ℕ) (n k below : ℕ) → k ≡ size page n → k ≡ 0 → AreFrom page n below → AreFrom page (n + 1) below
+falls_empty page n k below f z b = from_empty page n below b (sym f ∙ z)
 
 pub slotted : (page : List ℕ) → length page ≡ 4096 → slice_index page 0 ≡ 83 → HasRightHead page → AreRight page (slots page) → IsSlotted page
 slotted page w k h r = record {

@@ -1,14 +1,14 @@
 -- A slotted page: its 4,096 bytes, and the list of slots that they stand for. Our own rule.
 --   byte 0       83, the letter S
 --   bytes 2..4   the number of slots, 0 to 128
---   bytes 4..6   a place behind the slots below which no record begins; 4,096 on a new page; after a
---                record was taken away it may be lower than the lowest record
+--   bytes 4..6   the lowest byte of the records, 4,096 where there is none
 --   from 16 on   the slots, each the offset of its record and the record's length, two bytes each;
 --                both are 0 where the slot is empty
--- Each record lies in the page, from that place on; no byte is of two records. A record may have no
--- bytes at all. All other bytes are zero; a page where one of them is not is read all the same, and
--- each call leaves at zero what was.
-use Rattle.std.specs.Prelude.{◌≡◌, ◌≢◌, ℕ, ◌+◌, ◌-◌, ◌*◌, ◌<◌, ◌≤◌, ◌==◌, ◌&&◌, ◌⊎◌, nat_lt, not, zero, suc, List, length, take, drop, slice_index, Option, None, Some, if◌then◌else◌}
+-- Each record lies in the page, from that byte on; no byte is of two records. A record may have no
+-- bytes at all. All other bytes are zero. A page where one of them is not, or where bytes 4..6 name a
+-- lower place, is read all the same: each call leaves at zero what was, and each insertion and removal
+-- makes bytes 4..6 exact.
+use Rattle.std.specs.Prelude.{◌≡◌, ◌≢◌, ℕ, ◌+◌, ◌-◌, ◌*◌, ◌<◌, ◌≤◌, ◌==◌, ◌&&◌, ◌⊎◌, nat_lt, not, zero, suc, Bool, true, false, List, length, take, drop, slice_index, slice_index_or, Option, None, Some, if◌then◌else◌}
 use Rattle.std.specs.Int.{w16, from_le_bytes}
 
 -- the number that the two bytes from the place `at` on spell, the least byte first
@@ -19,7 +19,7 @@ number page at = from_le_bytes w16 (take 2 (drop at page))
 abbrev pub slots : List ℕ → ℕ
 slots page = number page 2
 
--- a place behind the slots below which no record begins
+-- the place behind the slots below which no record begins
 abbrev pub lowest : List ℕ → ℕ
 lowest page = number page 4
 
@@ -82,6 +82,18 @@ lengths page (suc n) = lengths page n + length_of (record_at page n)
 abbrev pub used : List ℕ → ℕ
 used page = 16 + 4 * slots page + lengths page (slots page)
 
+-- A record begins at the place x.
+pub record BeginsAt (page : List ℕ) (x : ℕ) : Type 0 where
+  pub slot : ℕ
+  pub is_slot : slot < slots page
+  pub full : 0 < offset page slot
+  pub here : offset page slot ≡ x
+
+-- The head names the lowest byte of the records: a record begins there, or it is the end of the page.
+-- That no record begins below it is part of what a slotted page is.
+abbrev pub HasExactLowest : List ℕ → Type 0
+HasExactLowest page = (lowest page ≡ 4096) ⊎ BeginsAt page (lowest page)
+
 pub record HasEmptySlot (page : List ℕ) : Type 0 where
   pub slot : ℕ
   pub is_slot : slot < slots page
@@ -90,6 +102,11 @@ pub record HasEmptySlot (page : List ℕ) : Type 0 where
 -- A record of n bytes fits: into a slot that is empty, or with four bytes more into a new one.
 abbrev pub Fits : List ℕ → ℕ → Type 0
 Fits page n = (HasEmptySlot page × (used page + n ≤ 4096)) ⊎ ((slots page < 128) × (used page + 4 + n ≤ 4096))
+
+-- A record of n bytes fits with a new slot between the slots and the records.
+pub record HasGap (page : List ℕ) (n : ℕ) : Type 0 where
+  pub few : slots page < 128
+  pub room : 20 + 4 * slots page + n ≤ lowest page
 
 -- where the record of a slot begins, and how many bytes it has
 pub record IsRecord (page : List ℕ) (k from n : ℕ) : Type 0 where
@@ -104,12 +121,6 @@ pub record IsPlace (page : List ℕ) (k from to : ℕ) : Type 0 where
   pub none : from ≡ 0 → record_at page k ≡ None
   pub order : from ≤ to
   pub some : 0 < from → IsRecord page k from (to - from)
-
--- two runs of bytes have a byte in common: n bytes from the place `from` on, and m from `at` on
-pub record SharesByte (from n at m : ℕ) : Type 0 where
-  pub byte : ℕ
-  pub in_first : (from ≤ byte) × (byte < from + n)
-  pub in_second : (at ≤ byte) × (byte < at + m)
 
 -- the record of the slot k has no byte in common with those of the first n slots
 pub record IsApart (page : List ℕ) (k n : ℕ) : Type 0 where
@@ -129,3 +140,21 @@ pub record HasRightHead (page : List ℕ) : Type 0 where
   pub few : slots page ≤ 128
   pub behind : 16 + 4 * slots page ≤ lowest page
   pub ends : lowest page ≤ 4096
+
+-- Bytes that begin as a slotted page does: their kind and their head are right. What the slots say may
+-- be anything. It is known in constant time.
+pub record IsUsable (page : List ℕ) : Type 0 where
+  pub whole : length page ≡ 4096
+  pub kind : slice_index page 0 ≡ 83
+  pub head : HasRightHead page
+
+-- a place that is at or below each record, and the lowest one or the end of the page
+pub record IsLowestRecord (page : List ℕ) (n x : ℕ) : Type 0 where
+  pub below : (k : ℕ) → k < n → 0 < offset page k → x ≤ offset page k
+  pub begins : (x ≡ 4096) ⊎ BeginsAt page x
+
+-- the byte x is marked exactly where it is of a record of the first n slots
+pub record AreMarked (page : List ℕ) (n : ℕ) (marks : List Bool) : Type 0 where
+  pub long : length marks ≡ 4096
+  pub marked : (k x : ℕ) → k < n → IsOf page k x → slice_index_or marks x false ≡ true
+  pub unmarked : (x : ℕ) → slice_index_or marks x false ≡ true → (k : ℕ) × (k < n) × IsOf page k x

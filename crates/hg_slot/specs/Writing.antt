@@ -1,5 +1,5 @@
 -- What a write into the bytes of a page leaves as it was, and what stands there after it.
-use Rattle.std.specs.Prelude.{◌≡◌, ℕ, ◌+◌, ◌*◌, ◌≤◌, List, length, take, drop, slice_index}
+use Rattle.std.specs.Prelude.{◌≡◌, ℕ, ◌+◌, ◌*◌, ◌<◌, ◌≤◌, ◌⊎◌, Bool, true, false, List, length, take, drop, slice_index, slice_index_or}
 use Rattle.hg_slot.specs.Slotted.{number}
 
 -- only the n bytes from the place `at` on may differ
@@ -31,3 +31,22 @@ pub record WritesZeros (a b : List ℕ) (at n : ℕ) : Type 0 where
   pub long : length zeros ≡ n
   pub all : (k : ℕ) → slice_index zeros k ≡ 0
   pub write : WritesBytes a b at zeros
+
+-- one of n bytes from the place `from` on is marked
+pub record MarksOne (marks : List Bool) (from n : ℕ) : Type 0 where
+  pub byte : ℕ
+  pub behind : from ≤ byte
+  pub before : byte < from + n
+  pub marked : slice_index_or marks byte false ≡ true
+
+-- n bytes from the place `from` on, none of which was marked, are marked, and no other
+pub record MarksAll (a b : List Bool) (from n : ℕ) : Type 0 where
+  pub long : length b ≡ length a
+  pub were_not : (x : ℕ) → from ≤ x → x < from + n → slice_index_or a x false ≡ false
+  pub here : (x : ℕ) → from ≤ x → x < from + n → slice_index_or b x false ≡ true
+  pub beside : (x : ℕ) → (x < from) ⊎ (from + n ≤ x) → slice_index_or b x false ≡ slice_index_or a x false
+
+-- the bytes were marked, or one of them was marked before
+abbrev pub MarksBytes : List Bool → List Bool → ℕ → ℕ → Bool → Type 0
+MarksBytes a b from n true = MarksAll a b from n
+MarksBytes a b from n false = MarksOne a from n

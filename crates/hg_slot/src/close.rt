@@ -1,14 +1,14 @@
 //! Room on a page: the page is closed up where its free bytes lie between its records.
 ghost use Rattle.std.specs.Prelude.{◌≡◌, ℕ, ◌+◌, ◌*◌, ◌≤◌, ◌<◌, ◌↔◌, max, length, IsTrue};
 ghost use Rattle.hg_slot.specs.Slotted.{slots, lowest, lengths, used, Fits, IsSlotted};
-ghost use Rattle.hg_slot.specs.Changing.{Rebuilds, ClosesUp, MakesRoom, HasSlot, IsFirstEmpty};
+ghost use Rattle.hg_slot.specs.Changing.{Rebuilds, ClosesUp, MakesRoom, IsFirstEmpty, slots_end};
 
-use crate::change::{add_slot, fill, start};
+use crate::change::{add_slot, place, start};
 use crate::entry::{COUNT, HEAD, LOWEST, MAX_SLOTS, PAGE, number_at};
 use crate::find::{find, total_length};
 
 /// Adds a slot to a page that is built, with what the slot of this number shows on the other page.
-#[tactic(auto, using(crate::proofs::Closing::rebuilding))]
+#[tactic(auto, using(crate::proofs::Closing::rebuilding, crate::proofs::Copying::copying))]
 fn copy_slot(from: &[u8], built: &mut [u8], slot: usize)
     requires slotted { IsSlotted from.now }
     requires is_slot { slot < slots from.now }
@@ -16,9 +16,12 @@ fn copy_slot(from: &[u8], built: &mut [u8], slot: usize)
     requires room { used from.now ≤ 4096 }
     ensures { Rebuilds from.now built.new (slot + 1) }
 {
-    add_slot(built);
-    if let Some(entry) = find(from, slot) {
-        fill(built, slot, &from[entry.offset..entry.offset + entry.size]);
+    match find(from, slot) {
+        Some(entry) => {
+            let record = &from[entry.offset..entry.offset + entry.size];
+            place(built, slot, record, &[]);
+        }
+        None => add_slot(built),
     }
 }
 
@@ -52,30 +55,17 @@ pub fn make_room(page: &mut [u8], need: usize)
     }
 }
 
-/// Sees to it that the page has a slot of this number.
-#[tactic(auto, using(crate::proofs::Closing::making_room))]
-pub fn have_slot(page: &mut [u8], slot: usize)
-    requires slotted { IsSlotted page.old }
-    requires near { slot ≤ slots page.old }
-    requires few { slot < 128 }
-    requires room { 20 + 4 * slot ≤ lowest page.old }
-    ensures { HasSlot page.old page.new slot }
-{
-    if slot == number_at(page, COUNT) {
-        add_slot(page);
-    }
-}
-
 /// How many bytes the head and the slots take once there is a slot of this number.
 pub fn head_with(page: &[u8], slot: usize) -> usize
     requires slotted { IsSlotted page.now }
     requires small { slot ≤ 128 }
-    ensures { result ≡ 16 + 4 * max (slots page.now) (slot + 1) }
+    ensures { result ≡ slots_end page.now slot }
 {
     HEAD + 4 * number_at(page, COUNT).max(slot + 1)
 }
 
 /// Whether a record of so many bytes fits; the slot is the first that is empty.
+#[tactic(auto, using(crate::proofs::Closing::fitting))]
 pub fn fits(page: &[u8], slot: usize, bytes: usize) -> bool
     requires slotted { IsSlotted page.now }
     requires first { IsFirstEmpty page.now slot }

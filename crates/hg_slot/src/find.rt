@@ -1,9 +1,9 @@
 //! What the slots of a page show.
 ghost use Rattle.std.specs.Prelude.{◌≡◌, ℕ, ◌+◌, ◌*◌, ◌≤◌, ◌<◌, None, MatchOption, length};
-ghost use Rattle.hg_slot.specs.Slotted.{slots, record_at, lengths, IsSlotted, IsRecord, IsPlace};
+ghost use Rattle.hg_slot.specs.Slotted.{slots, record_at, lengths, IsSlotted, IsRecord, IsPlace, IsLowestRecord};
 ghost use Rattle.hg_slot.specs.Changing.{IsFirstEmpty};
 
-use crate::entry::{COUNT, Entry, entry_at, number_at};
+use crate::entry::{COUNT, Entry, PAGE, entry_at, number_at};
 
 /// The entry of the record that the page shows at a slot.
 #[tactic(auto, using(crate::proofs::Finding::found))]
@@ -68,4 +68,22 @@ pub fn total_length(page: &[u8]) -> usize
         total += entry.size;
     }
     total
+}
+
+/// The lowest byte of the records, or the end of the page where there is none.
+#[tactic(auto, using(crate::proofs::Lowest::lowering))]
+pub fn lowest_record(page: &[u8]) -> usize
+    requires { IsSlotted page.now }
+    ensures lowest { IsLowestRecord page.now (slots page.now) result }
+    ensures inside { result ≤ 4096 }
+{
+    let mut lowest = PAGE;
+    let count = number_at(page, COUNT);
+    for slot in 0..count {
+        let entry = entry_at(page, slot);
+        if entry.offset != 0 {
+            lowest = lowest.min(entry.offset);
+        }
+    }
+    lowest
 }

@@ -101,6 +101,70 @@ fn damaged_slots(rt: HostRuntime) -> Result<(), Fail> {
     Ok(())
 }
 
+/// What an insertion of so many zeros, the first two apart from the rest, answers for a page that may be
+/// damaged.
+fn put_into(front: &[u8], bytes: usize) -> Result<Option<u16>, Check> {
+    let mut page = page_of(front);
+    let zeros = [0; 4096];
+    slot::insert_parts(&mut page, &[0, 0], &zeros[..bytes.max(2).min(4096) - 2])
+}
+
+#[test]
+fn insertions_into_damaged_pages(rt: HostRuntime) -> Result<(), Fail> {
+    // another kind of page, and a page of zeros
+    assert_eq!(rt; put_into(&[0x4C, 0, 0, 0, 0, 0x10], 10), Err(Check::Kind));
+    assert_eq!(rt; put_into(&[], 4000), Err(Check::Kind));
+    // 129 slots; the lowest byte of the records among 128 slots; and behind the page
+    assert_eq!(rt; put_into(&[0x53, 0, 129, 0, 0x14, 2], 10), Err(Check::Size));
+    assert_eq!(rt; put_into(&[0x53, 0, 128, 0, 0x0F, 2], 10), Err(Check::Size));
+    assert_eq!(rt; put_into(&[0x53, 0, 0, 0, 1, 0x10], 10), Err(Check::Size));
+    // no slots: 4,076 bytes beside 16 of head and 4 of a slot, and no more
+    assert_eq!(rt; put_into(&[0x53, 0, 0, 0, 0, 0x10], 4076), Ok(Some(0)));
+    assert_eq!(rt; put_into(&[0x53, 0, 0, 0, 0, 0x10], 4077), Ok(None));
+    // a record of 8 bytes at 4088: 4,088 less 16 of head and 8 of two slots are 4,064
+    let one = [
+        0x53, 0, 1, 0, 0xF8, 0x0F, 0, 0, 0, 0, 0, 0, 0, 0, 0, 0, 0xF8, 0x0F, 8, 0,
+    ];
+    assert_eq!(rt; put_into(&one, 4064), Ok(Some(1)));
+    assert_eq!(rt; put_into(&one, 4065), Ok(None));
+    // the same with 9 bytes, which end behind the page: it is not looked at where there is a gap
+    let long = [
+        0x53, 0, 1, 0, 0xF8, 0x0F, 0, 0, 0, 0, 0, 0, 0, 0, 0, 0, 0xF8, 0x0F, 9, 0,
+    ];
+    assert_eq!(rt; put_into(&long, 4064), Ok(Some(1)));
+    assert_eq!(rt; put_into(&long, 4065), Err(Check::Size));
+    Ok(())
+}
+
+/// Whether four bytes are written from the record's byte 1 on, of a slot of a page that may be damaged.
+fn written(front: &[u8], slot: u16) -> Result<bool, Check> {
+    let mut page = page_of(front);
+    slot::overwrite(&mut page, slot, 1, &[1, 2, 3, 4])
+}
+
+#[test]
+fn damaged_pages_are_written_over(rt: HostRuntime) -> Result<(), Fail> {
+    assert_eq!(rt; written(&[], 0), Err(Check::Kind));
+    assert_eq!(rt; written(&[0x53, 0, 129, 0, 0x14, 2], 0), Err(Check::Size));
+    assert_eq!(rt; written(&[0x53, 0, 128, 0, 0x10, 2], 128), Ok(false));
+    // records of 5 and of 4 bytes at 4088, and one of 9 bytes there
+    let three = [
+        0x53, 0, 3, 0, 0xF8, 0x0F, 0, 0, 0, 0, 0, 0, 0, 0, 0, 0, 0xF8, 0x0F, 5, 0, 0xF8, 0x0F, 4,
+        0, 0xF8, 0x0F, 9, 0,
+    ];
+    assert_eq!(rt; written(&three, 0), Ok(true));
+    assert_eq!(rt; written(&three, 1), Ok(false));
+    assert_eq!(rt; written(&three, 2), Err(Check::Size));
+    // the number of slots alone, and what is wrong with the head
+    assert_eq!(rt; slot::check_head(&page_of(&three)), Ok(3));
+    assert_eq!(rt;
+        slot::check_head(&page_of(&[0x53, 0, 1, 0, 19, 0])),
+        Err(Check::Size)
+    );
+    assert_eq!(rt; slot::check_head(&page_of(&[0x52])), Err(Check::Kind));
+    Ok(())
+}
+
 /// An empty page.
 fn new_page() -> [u8; 4096]
     ensures slotted { IsSlotted result }
@@ -160,6 +224,31 @@ fn a_page_is_filled(rt: HostRuntime) -> Result<(), Fail> {
     assert_eq!(rt; slot::insert(&mut page, &[]), Ok(2));
     assert!(rt; holds(&page, 2, 0, 0));
     assert_eq!(rt; slot::verify(&page), Ok(()));
+    Ok(())
+}
+
+/// The number that the head's bytes 4..6 spell.
+fn lowest(page: &[u8; 4096]) -> usize {
+    page[4] as usize + 256 * page[5] as usize
+}
+
+#[test]
+fn a_removal_names_the_lowest_byte(rt: HostRuntime) -> Result<(), Fail> {
+    let mut page = new_page();
+    // records of 3, 4 and 5 bytes from the end, 4,096: at 4093, 4089 and 4084
+    assert_eq!(rt; slot::insert(&mut page, &[1; 3]), Ok(0));
+    assert_eq!(rt; slot::insert(&mut page, &[2; 4]), Ok(1));
+    assert_eq!(rt; slot::insert(&mut page, &[3; 5]), Ok(2));
+    assert_eq!(rt; lowest(&page), 4084);
+    take(&mut page, 1);
+    assert_eq!(rt; lowest(&page), 4084);
+    take(&mut page, 2);
+    assert_eq!(rt; lowest(&page), 4093);
+    take(&mut page, 0);
+    assert_eq!(rt; lowest(&page), 4096);
+    // there is room for a new slot, though three are empty
+    assert_eq!(rt; slot::insert(&mut page, &[4; 2]), Ok(3));
+    assert_eq!(rt; lowest(&page), 4094);
     Ok(())
 }
 

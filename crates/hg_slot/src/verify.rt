@@ -1,8 +1,10 @@
 //! Reading a page that may be damaged.
-ghost use Rattle.std.specs.Prelude.{◌≡◌, ◌+◌, ◌*◌, ◌^◌, ◌≤◌, ◌<◌, ◌↔◌, IsTrue, length};
-ghost use Rattle.hg_slot.specs.Slotted.{slots, IsPlaced, IsApart, AreFrom, AreRight, SharesByte, HasRightHead};
+ghost use Rattle.std.specs.Prelude.{◌≡◌, ◌+◌, ◌*◌, ◌≤◌, ◌<◌, ◌↔◌, IsTrue, length};
+ghost use Rattle.std.specs.Bool.{OnTrue};
+ghost use Rattle.hg_slot.specs.Slotted.{slots, IsPlaced, AreRight, HasRightHead};
+ghost use Rattle.hg_slot.specs.Writing.{MarksBytes};
 
-use crate::entry::{COUNT, Entry, HEAD, LOWEST, MAX_SLOTS, PAGE, entry_at, number_at};
+use crate::entry::{COUNT, HEAD, LOWEST, MAX_SLOTS, PAGE, entry_at, number_at};
 
 /// Whether the number of slots, and the place below which no record begins, are in their ranges.
 pub fn has_right_head(page: &[u8]) -> bool
@@ -26,80 +28,66 @@ fn is_placed(page: &[u8], slot: usize) -> bool
     is_empty || (lowest <= entry.offset && entry.offset + entry.size <= PAGE)
 }
 
-/// Whether the bytes that two entries name have one in common.
-#[tactic(auto, using(crate::proofs::Verifying::shares))]
-fn shares_byte(a: Entry, b: Entry) -> bool
-    requires small { (a.offset < 2 ^ 16) × (a.size < 2 ^ 16) × (b.offset < 2 ^ 16) × (b.size < 2 ^ 16) }
-    ensures { IsTrue result ↔ SharesByte a.offset a.size b.offset b.size }
+/// Whether all records lie among the records and stand in the order of their slots from the end of the
+/// page down, so that no two share a byte.
+fn are_falling(page: &[u8]) -> bool
+    requires whole { length page.now ≡ 4096 }
+    requires few { slots page.now ≤ 128 }
+    ensures { OnTrue result (AreRight page.now (slots page.now)) }
 {
-    let both = a.size > 0 && b.size > 0;
-    both && a.offset < b.offset + b.size && b.offset < a.offset + a.size
+    let count = number_at(page, COUNT);
+    let mut below = PAGE;
+    for slot in 0..count {
+        let entry = entry_at(page, slot);
+        if !is_placed(page, slot) || entry.offset + entry.size > below {
+            return false;
+        }
+        if entry.size > 0 {
+            below = entry.offset;
+        }
+    }
+    true
 }
 
-/// Whether the record of a slot has no byte in common with those of the slots before it.
-#[tactic(auto, using(crate::proofs::Verifying::apart))]
-fn is_apart(page: &[u8], slot: usize) -> bool
-    requires whole { length page.now ≡ 4096 }
-    requires is_slot { slot < 128 }
-    ensures { IsTrue result ↔ IsApart page.now slot slot }
+/// Marks bytes, one mark for each. False where one of them was marked before.
+fn mark(marks: &mut [bool], from: usize, size: usize) -> bool
+    requires inside { from + size ≤ length marks.old }
+    ensures { MarksBytes marks.old marks.new from size result }
 {
-    let entry = entry_at(page, slot);
-    for before in 0..slot {
-        if shares_byte(entry_at(page, before), entry) {
+    for at in from..from + size {
+        if marks[at] {
+            return false;
+        }
+        marks[at] = true;
+    }
+    true
+}
+
+/// Whether all slots are right, by one mark for each byte of the page.
+fn are_apart(page: &[u8]) -> bool
+    requires whole { length page.now ≡ 4096 }
+    requires few { slots page.now ≤ 128 }
+    ensures { IsTrue result ↔ AreRight page.now (slots page.now) }
+{
+    let mut marks = [false; PAGE];
+    let count = number_at(page, COUNT);
+    for slot in 0..count {
+        if !is_placed(page, slot) {
+            return false;
+        }
+        let entry = entry_at(page, slot);
+        if !mark(&mut marks, entry.offset, entry.size) {
             return false;
         }
     }
     true
 }
 
-/// Whether a slot is right beside those before it, whose records have no byte below `below`. Where
-/// its record ends there, it is not compared with each of them.
-#[tactic(auto, using(crate::proofs::Verifying::apart_from))]
-fn is_right(page: &[u8], slot: usize, below: usize) -> bool
-    requires whole { length page.now ≡ 4096 }
-    requires is_slot { slot < 128 }
-    requires below { AreFrom page.now slot below }
-    ensures { IsTrue result ↔ (IsPlaced page.now slot × IsApart page.now slot slot) }
-{
-    if !is_placed(page, slot) {
-        return false;
-    }
-    let entry = entry_at(page, slot);
-    if entry.offset + entry.size <= below {
-        return true;
-    }
-    is_apart(page, slot)
-}
-
-/// A place that is below the bytes of one more record.
-#[tactic(auto, using(crate::proofs::Verifying::lowering))]
-fn lower(page: &[u8], slot: usize, below: usize) -> usize
-    requires whole { length page.now ≡ 4096 }
-    requires is_slot { slot < 128 }
-    requires below { AreFrom page.now slot below }
-    ensures { AreFrom page.now (slot + 1) result }
-{
-    let entry = entry_at(page, slot);
-    if entry.size == 0 {
-        return below;
-    }
-    below.min(entry.offset)
-}
-
 /// Whether all slots are right.
-#[tactic(auto, using(crate::proofs::Verifying::righting))]
 pub fn are_right(page: &[u8]) -> bool
     requires whole { length page.now ≡ 4096 }
     requires few { slots page.now ≤ 128 }
     ensures { IsTrue result ↔ AreRight page.now (slots page.now) }
 {
-    let count = number_at(page, COUNT);
-    let mut below = PAGE;
-    for slot in 0..count {
-        if !is_right(page, slot, below) {
-            return false;
-        }
-        below = lower(page, slot, below);
-    }
-    true
+    are_falling(page) || are_apart(page)
 }

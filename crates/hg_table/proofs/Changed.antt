@@ -50,11 +50,11 @@ shows_as : (columns : ℕ) (r : Option (List ℕ)) (v w : Option RowVersion) →
 shows_as columns r v w e h = subst (Shows columns r) (sym e) h
 
 pub changed_here : (a b : Space) (columns x j : ℕ) (o : Option RowVersion) (held : ℕ → ℕ → Option RowVersion) (P : List ℕ → List ℕ → Type 0)
-    → ChangesPage a b x P → ((old new : List ℕ) → P old new → ChangesSlot columns j o old new)
+    → ChangesPage a b x P → ((old new : List ℕ) → IsSlotted old → P old new → ChangesSlot columns j o old new)
     → HoldsVersions a columns x (held x) → HoldsVersions b columns x (with_slot held x j o x)
 changed_here a b columns x j o held P c f h =
     let d : Changes b x (P h.page) = c.bytes h.page h.told in
-    let s : ChangesSlot columns j o h.page d.page = f h.page d.page d.holds in
+    let s : ChangesSlot columns j o h.page d.page = f h.page d.page h.slotted d.holds in
     record {
       page = d.page;
       told = d.told;
@@ -69,7 +69,7 @@ changed_here a b columns x j o held P c f h =
     }
 
 pub changed_holds : (a b : Space) (columns x y j : ℕ) (o : Option RowVersion) (held : ℕ → ℕ → Option RowVersion) (P : List ℕ → List ℕ → Type 0)
-    → ChangesPage a b x P → ((old new : List ℕ) → P old new → ChangesSlot columns j o old new)
+    → ChangesPage a b x P → ((old new : List ℕ) → IsSlotted old → P old new → ChangesSlot columns j o old new)
     → IsPlain a (key_in Main y) → HoldsVersions a columns y (held y) → HoldsVersions b columns y (with_slot held x j o y)
 changed_holds a b columns x y j o held P c f plain h = elim (cases_eq y x) [
   | inl e ↦ subst (λ z. HoldsVersions b columns z (with_slot held x j o z)) (sym e)
@@ -82,7 +82,7 @@ changed_holds a b columns x y j o held P c f plain h = elim (cases_eq y x) [
 
 -- the table with one slot changed
 pub changed_table : (a b : Space) (t : Table) (columns x j : ℕ) (o : Option RowVersion) (pages : List ℕ) (versions new : List Placed) (P : List ℕ → List ℕ → Type 0)
-    → ChangesPage a b x P → ((old now : List ℕ) → P old now → ChangesSlot columns j o old now)
+    → ChangesPage a b x P → ((old now : List ℕ) → IsSlotted old → P old now → ChangesSlot columns j o old now)
     → (table : IsTable a t columns pages versions) → new ≡ in_pages (with_slot table.held x j o) pages → IsTable b t columns pages new
 changed_table a b t columns x j o pages versions new P c f table e = record {
   told = c.steady.told ∙ table.told;

@@ -92,7 +92,7 @@ pub first_of_table : (a : Space) (t : Table) (columns : ℕ) (pages : List ℕ) 
     → next ≡ first_place (in_pages table.held pages) → next ≡ first_place (behind pages None versions)
 first_of_table a t columns pages versions next table e = e ∙ ap first_place (sym table.listed)
 
-behind_is : (a : Space) (t : Table) (columns : ℕ) (pages : List ℕ) (versions : List Placed) (p : Place) → (table : IsTable a t columns pages versions) → has_page pages p.page ≡ true
+pub behind_is : (a : Space) (t : Table) (columns : ℕ) (pages : List ℕ) (versions : List Placed) (p : Place) → (table : IsTable a t columns pages versions) → has_page pages p.page ≡ true
     → behind pages (Some p) versions ≡ slots_after table.held p ++ in_pages table.held (pages_behind pages p.page)
 behind_is a t columns pages versions p table on =
     ap (filter (comes_behind (pages_behind pages p.page) p)) table.listed

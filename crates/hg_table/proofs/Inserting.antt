@@ -1,5 +1,5 @@
 -- A version that was put into a table: on its last page, or on a new page behind it.
-use Rattle.std.specs.Prelude.{◌≡◌, ◌≢◌, ℕ, ◌<◌, ◌==◌, ◌||◌, Bool, true, false, List, [], ◌∷◌, length, Option, Some, None, is_some, if◌then◌else◌}
+use Rattle.std.specs.Prelude.{◌≡◌, ◌≢◌, ℕ, ◌^◌, ◌<◌, ◌==◌, ◌||◌, Bool, true, false, List, [], ◌∷◌, ◌++◌, length, Option, Some, None, is_some, if◌then◌else◌}
 use Rattle.std.specs.List.{AllByRecursion}
 use Rattle.std.proofs.Common.{sym, ◌∙◌, ap, subst, refl, arith, inl, inr}
 use Rattle.std.proofs.lemmas.Bool.{false≢true, eq-eqb}
@@ -12,7 +12,9 @@ use Rattle.hg_base.specs.SteadyLaws.{Steady_then, Steady_wider, Later_same}
 use Rattle.hg_base.specs.declared.File.TheVariants.{Main}
 use Rattle.hg_base.specs.declared.Place.{Place}
 use Rattle.hg_base.specs.declared.Table.{Table}
+use Rattle.std.specs.Int.{w32, to_le_bytes}
 use Rattle.hg_model.specs.declared.values.Value.{Value}
+use Rattle.hg_value.specs.Coding.{coded, IsStorable, IsRowOf}
 use Rattle.hg_slot.specs.Slotted.{IsSlotted, record_at}
 use Rattle.hg_table.specs.Chains.{IsChain}
 use Rattle.hg_table.specs.Versions.{Placed, RowVersion, HoldsVersions, IsStored, IsTable, Shows, in_pages, most_slots}
@@ -35,13 +37,27 @@ last_has (y ∷ z ∷ xs) x e = or_yes (y == x) (has_page (z ∷ xs) x) (last_ha
     or_yes true q e = refl
     or_yes false q e = e
 
-puts_slot : (columns j : ℕ) (r : List ℕ) (v : RowVersion) (old new : List ℕ) → IsStored columns r v → Puts old new r j → ChangesSlot columns j (Some v) old new
-puts_slot columns j r v old new s p = record {
-  slotted = p.slotted;
-  clean = p.inserted.clean;
-  here = subst (λ o. Shows columns o (Some v)) (sym p.inserted.here) s;
-  others = p.inserted.others;
+puts_slot : (columns j : ℕ) (r : List ℕ) (v : RowVersion) (old new : List ℕ) → IsStored columns r v → IsSlotted old → Puts old new r j → ChangesSlot columns j (Some v) old new
+puts_slot columns j r v old new s was p = let i = p.inserted was in record {
+  slotted = i.slotted;
+  clean = i.clean;
+  here = subst (λ o. Shows columns o (Some v)) (sym i.here) s;
+  others = i.others;
 }
+
+length-stamp : (n : ℕ) → length (to_le_bytes w32 n) ≡ 4
+length-stamp n = refl
+
+-- a stored version is its two stamps and its row
+pub stored_parts : (front bytes : List ℕ) (row : List Value) (born : ℕ) → front ≡ to_le_bytes w32 born ++ to_le_bytes w32 0 → born < 2 ^ 32 → bytes ≡ coded row → IsStorable row
+    → IsStored (length row) (front ++ bytes) (record { born = born; died = None; row = row })
+stored_parts front bytes row born e small b storable =
+    subst (λ f. IsStored (length row) (f ++ bytes) (record { born = born; died = None; row = row })) (sym e)
+    (subst (λ c. IsStored (length row) ((to_le_bytes w32 born ++ to_le_bytes w32 0) ++ c) (record { born = born; died = None; row = row })) (sym b)
+    (record { stamp = small; end = tt; born = refl; died = refl; row = record { storable = storable; count = refl; spelled = refl } }))
+
+pub front-long : (front : List ℕ) (born : ℕ) → front ≡ to_le_bytes w32 born ++ to_le_bytes w32 0 → length front ≡ 8
+front-long front born e = ap length e
 
 -- a version on a page that is there
 pub put_table : (a b : Space) (t : Table) (columns : ℕ) (pages : List ℕ) (versions : List Placed) (x j : ℕ) (r : List ℕ) (v : RowVersion)
@@ -50,14 +66,15 @@ pub put_table : (a b : Space) (t : Table) (columns : ℕ) (pages : List ℕ) (ve
 put_table a b t columns pages versions x j r v on c s table =
     let h : HoldsVersions a columns x (table.held x) = all_has (λ y. HoldsVersions a columns y (table.held y)) pages x table.holds on in
     let k : Changes b x (λ new. Puts h.page new r j) = c.bytes h.page h.told in
-    let none : table.held x j ≡ None = shown_none columns (record_at h.page j) (table.held x j) k.holds.inserted.was_empty (h.each j) in
-    let small : j < most_slots = slot_small k.page r j k.holds.slotted k.holds.inserted.here in
+    let none : table.held x j ≡ None = shown_none columns (record_at h.page j) (table.held x j) (k.holds.inserted h.slotted).was_empty (h.each j) in
+    let i = k.holds.inserted h.slotted in
+    let small : j < most_slots = slot_small k.page r j i.slotted i.here in
     record {
       versions = in_pages (with_slot table.held x j (Some v)) pages;
       puts = subst (λ vs. PutsIn vs (in_pages (with_slot table.held x j (Some v)) pages) (put x j v)) (sym table.listed)
           (pages_put table.held pages x j v (distinct-apart Main a.taken (a.limit Main) pages table.chain.line.taken) on small none);
       table = changed_table a b t columns x j (Some v) pages versions (in_pages (with_slot table.held x j (Some v)) pages) (λ old new. Puts old new r j)
-          c (λ old new p. puts_slot columns j r v old new s p) table refl;
+          c (λ old new was p. puts_slot columns j r v old new s was p) table refl;
     }
 
 pub inserts_last : (a b : Space) (t : Table) (x j : ℕ) (r : List ℕ) (row : List Value) (born : ℕ) → t.last ≡ Some x

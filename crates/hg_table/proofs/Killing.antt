@@ -12,7 +12,7 @@ use Rattle.hg_base.specs.Space.{Space}
 use Rattle.hg_base.specs.declared.Place.{Place}
 use Rattle.hg_base.specs.declared.Table.{Table}
 use Rattle.hg_base.specs.declared.pages.PageFault.{PageFault}
-use Rattle.hg_slot.specs.Slotted.{record_at}
+use Rattle.hg_slot.specs.Slotted.{record_at, IsSlotted}
 use Rattle.hg_value.specs.Coding.{IsRowOf}
 use Rattle.hg_table.specs.Chains.{IsChain}
 use Rattle.hg_table.specs.Versions.{Placed, RowVersion, HoldsVersions, IsStored, IsTable, Shows}
@@ -45,14 +45,14 @@ same_bytes : (r s : List ℕ) → ◌≡◌ {A = Option (List ℕ)} (Some r) (So
 same_bytes r s e = cc
 
 -- what a page holds after a death
-kills_slot : (columns j d : ℕ) (v : RowVersion) (old new : List ℕ) → d ≢ 0 → Shows columns (record_at old j) (Some v) → Kills old new j d
+kills_slot : (columns j d : ℕ) (v : RowVersion) (old new : List ℕ) → d ≢ 0 → Shows columns (record_at old j) (Some v) → IsSlotted old → Kills old new j d
     → ChangesSlot columns j (Some (dead v d)) old new
-kills_slot columns j d v old new n shows k = record {
-  slotted = k.written.slotted;
-  clean = k.written.clean;
-  here = subst (λ o. Shows columns o (Some (dead v d))) (sym (k.written.here k.record_bytes k.was))
+kills_slot columns j d v old new n shows s k = let w = k.written s in record {
+  slotted = w.slotted;
+  clean = w.clean;
+  here = subst (λ o. Shows columns o (Some (dead v d))) (sym (w.here k.record_bytes k.was))
       (stored_dead columns d k.record_bytes v n k.small k.long (subst (λ o. Shows columns o (Some v)) k.was shows));
-  others = k.written.others;
+  others = w.others;
 }
 
 -- the page that was changed held this version
@@ -82,7 +82,7 @@ killed_table a b t columns pages versions p d n asked c table =
           let e : Changes b p.page (λ new. Kills page new p.slot d) = c.bytes page told in
           record { page = e.page; told = e.told; holds = record { kills = e.holds; shows = subst (λ z. Shows columns (record_at z p.slot) (Some there.0)) same shows } };
     })
-    (λ old new kv. kills_slot columns p.slot d there.0 old new n kv.shows kv.kills) table
+    (λ old new s kv. kills_slot columns p.slot d there.0 old new n kv.shows s kv.kills) table
     (ap (killed p d) table.listed ∙ pages_killed table.held pages p d there.0 there.1)
 
 -- the pages of a table stay its pages, whatever the answer

@@ -1,6 +1,7 @@
 pub mod Seeing
 pub mod Places
 pub mod Lifting
+pub mod Searching
 pub mod Walking
 pub mod Changed
 pub mod Killing

@@ -13,8 +13,13 @@ use Rattle.hg_base.specs.declared.File.TheVariants.{Main}
 use Rattle.hg_slot.specs.Slotted.{record_at}
 use Rattle.hg_table.specs.Versions.{Placed, RowVersion, HoldsVersions, Shows, in_slots, in_pages, most_slots}
 use Rattle.hg_table.specs.Places.{first_place}
-use Rattle.hg_table.specs.Calls.{none_mine, main_page}
-use Rattle.hg_table.specs.Steps.{Looks, HoldsLine, IsSound, IsFirstFull}
+use Rattle.hg_base.specs.declared.Check.{Check}
+use Rattle.hg_base.specs.declared.Check.TheVariants as check
+use Rattle.hg_base.specs.declared.pages.PageFault.{PageFault}
+use Rattle.hg_base.specs.declared.pages.PageFault.TheVariants as fault
+use Rattle.hg_slot.specs.Changing.{IsWrong}
+use Rattle.hg_table.specs.Calls.{none_mine, main_page, LookFault, NamesPage, IsPageCheck}
+use Rattle.hg_table.specs.Steps.{Looks, HoldsLine, IsSound, IsFirstFull, IsThis, IsNotFree}
 use Rattle.hg_table.specs.Listing.{first_slot, slots_none, has_own}
 use Rattle.hg_table.proofs.Seeing.{slot_small}
 
@@ -94,7 +99,7 @@ way_passed a b pages x l w =
     subst (IsOnWay a pages) (sym (looks_page a b x l h.plain).next) h.behind
 
 -- the next page of a line
-has_next : (done : List ℕ) (x : ℕ) (rest : List ℕ) → has_page (done ++ x ∷ rest) x ≡ true
+pub has_next : (done : List ℕ) (x : ℕ) (rest : List ℕ) → has_page (done ++ x ∷ rest) x ≡ true
 has_next [] x rest = ap (λ t. t || has_page rest x) (eq-eqb x x refl)
 has_next (y ∷ done) x rest = or_yes (y == x) (has_page (done ++ x ∷ rest) x) (has_next done x rest)
   where
@@ -112,7 +117,7 @@ pub record IsNextPage (a : Space) (start : Option ℕ) (h : HoldsLine a start) (
   pub among : has_page h.pages x ≡ true
   pub holds : HoldsVersions a h.columns x (h.held x)
 
-some_same : (x y : ℕ) → ◌≡◌ {A = Option ℕ} (Some x) (Some y) → x ≡ y
+pub some_same : (x y : ℕ) → ◌≡◌ {A = Option ℕ} (Some x) (Some y) → x ≡ y
 some_same x y e = cc
 
 pub next_page : (a : Space) (start : Option ℕ) (h : HoldsLine a start) (x turn : ℕ) → Passed a start h (Some x) turn → IsNextPage a start h x turn
@@ -169,7 +174,7 @@ pub none_held : (s : Space) (columns x from n : ℕ) (held : ℕ → Option RowV
 none_held s columns x from n held h none =
     slots_none x held from n (λ i l. shown_none columns (record_at h.page i) (held i) (none i l) (h.each i))
 
-pages-both : (held : ℕ → ℕ → Option RowVersion) (xs ys : List ℕ) → in_pages held (xs ++ ys) ≡ in_pages held xs ++ in_pages held ys
+pub pages-both : (held : ℕ → ℕ → Option RowVersion) (xs ys : List ℕ) → in_pages held (xs ++ ys) ≡ in_pages held xs ++ in_pages held ys
 pages-both held [] ys = refl
 pages-both held (x ∷ xs) ys = ap (λ r. in_slots x (held x) 0 most_slots ++ r) (pages-both held xs ys)
     ∙ sym (append_assoc (in_slots x (held x) 0 most_slots) (in_pages held xs) (in_pages held ys))
@@ -229,3 +234,48 @@ line_short a start h x turn e p =
 pub not_told : (b : Bool) → (b ≡ true → ⊥) → b ≡ false
 not_told true h = absurd (h refl)
 not_told false h = refl
+
+-- ---- where the pages are known, also over a space that does not tell
+
+-- as many turns are left as there are pages on the way
+pub record HasTurns (a : Space) (next : Option ℕ) (turn : ℕ) : Type 0 where
+  pub rest : List ℕ
+  pub path : IsPath Main a.next next rest
+  pub few : turn + length rest ≤ taken_in a Main
+
+pub turns_start : (a : Space) (start : Option ℕ) (pages : List ℕ) → IsLine Main a start pages → HasTurns a start 0
+turns_start a start pages l = record { rest = pages; path = l.path; few = let few = AreDistinctPages-few a.taken Main (a.limit Main) pages l.taken in omega arith }
+
+pub turns_passed : (a b : Space) (x turn : ℕ) → Looks a b → IsPlain a (key_in Main x) → HasTurns a (Some x) turn → HasTurns a (b.next (key_in Main x)) (turn + 1)
+turns_passed a b x turn l plain h = subst (λ o. HasTurns a o (turn + 1)) (sym (looks_page a b x l plain).next) (go h.rest h.path h.few)
+  where
+    go : (rest : List ℕ) → IsPath Main a.next (Some x) rest → turn + length rest ≤ taken_in a Main → HasTurns a (a.next (key_in Main x)) (turn + 1)
+    go [] p f = absurd (let z : ◌≡◌ {A = Option ℕ} (Some x) None = p in cc)
+    go (y ∷ rest) p f = record { rest = rest; path = subst (λ z. IsPath Main a.next (a.next (key_in Main z)) rest) (some_same y x (sym p.0)) p.1; few = omega arith }
+
+pub turns_over : (a : Space) (x turn : ℕ) → taken_in a Main ≤ turn → HasTurns a (Some x) turn → ⊥
+turns_over a x turn l h = go h.rest h.path h.few
+  where
+    go : (rest : List ℕ) → IsPath Main a.next (Some x) rest → turn + length rest ≤ taken_in a Main → ⊥
+    go [] p f = let z : ◌≡◌ {A = Option ℕ} (Some x) None = p in absurd (cc)
+    go (y ∷ rest) p f = absurd (omega arith)
+
+pub way_free : (a b : Space) (start : Option ℕ) (pages : List ℕ) (x : ℕ) → Looks a b → IsLine Main a start pages → IsOnWay a pages (Some x) → IsFree b (main_page x)
+way_free a b start pages x l line w = free_now a b x l (line_free Main a start pages x l.steady.pins_before line (way_page a pages x w).among)
+
+-- of a page that can be pinned
+pub known_open : (s : Space) (x : ℕ) (c : Check) (f : PageFault) → LookFault (IsThis c) f → NamesPage x f → IsNotFree s f → IsFree s (main_page x) → LookFault IsPageCheck f
+known_open s x c fault.MainFault h n b free = tt
+known_open s x c fault.TempFault h n b free = tt
+known_open s x c fault.MainFull h n b free = h
+known_open s x c fault.TempFull h n b free = h
+known_open s x c (fault.Damaged page check) h n b free = absurd (b (subst (IsFree s) (sym n) free))
+
+pub page_check : (page : List ℕ) (e : Check) → IsWrong page e → IsPageCheck e
+page_check page check.Kind h = tt
+page_check page check.Size h = tt
+page_check page check.Frame h = h
+page_check page check.Link h = h
+page_check page check.Level h = h
+page_check page check.Order h = h
+page_check page check.RowBytes h = h

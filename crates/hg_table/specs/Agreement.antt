@@ -52,12 +52,15 @@ fits_length columns v h = same columns v.version.row h
 pub over_inserted : (a b : Space) (old new : Table) (columns : List Column) (pages : List ℕ) (versions : List Placed) (v : Placed) → FitsColumns columns v
     → (i : Inserts a b old new pages v) → IsTableOver a old columns pages versions → (now : List Placed) × PutsIn versions now v × IsTableOver b new columns i.now now
 over_inserted a b old new columns pages versions v fits i h =
-    let w : IsTableWith b new (length columns) i.now versions v = i.table (length columns) versions (fits_length columns v fits) h.table in
-    (w.versions, w.puts, record {
-      table = w.table;
-      fit = subst (AllByRecursion (FitsColumns columns)) (sym w.puts.now)
-          (all_put (FitsColumns columns) w.puts.before w.puts.after v fits (subst (AllByRecursion (FitsColumns columns)) w.puts.was h.fit));
-    })
+    let w : IsTableWith b new (length columns) i.now versions v = i.table (length columns) versions (fits_length columns v fits) h.table in (
+      w.versions,
+      w.puts,
+      record {
+        table = w.table;
+        fit = subst (AllByRecursion (FitsColumns columns)) (sym w.puts.now)
+            (all_put (FitsColumns columns) w.puts.before w.puts.after v fits (subst (AllByRecursion (FitsColumns columns)) w.puts.was h.fit));
+      },
+    )
 
 killed_fits : (columns : List Column) (p : Place) (d : ℕ) (v : Placed) → FitsColumns columns v → FitsColumns columns (killed_at p d v)
 killed_fits columns p d v h = elim (is_at p v) as (λ b. FitsColumns columns (if b then record v { version = record v.version { died = Some d } } else v)) [ true ↦ h | false ↦ h ]

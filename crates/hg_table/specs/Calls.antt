@@ -72,6 +72,14 @@ abbrev pub StandsOn : List ℕ → Option Place → Type 0
 StandsOn pages None = ⊤
 StandsOn pages (Some place) = IsTrue (has_page pages place.page)
 
+-- Where a search begins: these are the pages of the table, which is known over every space, the place is
+-- on one of them, and where the space tells, they hold rows of so many values.
+pub record HasWay (s : Space) (t : Table) (columns : ℕ) (start : Option Place) : Type 0 where
+  pub pages : List ℕ
+  pub chain : IsChain s t pages
+  pub on : StandsOn pages start
+  pub rows : s.told ≡ true → (versions : List Placed) × IsTable s t columns pages versions
+
 -- One version more was put among the others.
 pub record PutsIn (old new : List Placed) (v : Placed) : Type 0 where
   pub before : List Placed
@@ -177,6 +185,14 @@ NamesGiven x fault.TempFault = ⊤
 NamesGiven x fault.MainFull = ⊤
 NamesGiven x fault.TempFull = ⊤
 NamesGiven x (fault.Damaged page check) = MatchOption x ⊥ (λ no. page ≡ main_page no)
+
+-- one of these
+abbrev pub NamesOneOf : List ℕ → PageFault → Type 0
+NamesOneOf pages fault.MainFault = ⊤
+NamesOneOf pages fault.TempFault = ⊤
+NamesOneOf pages fault.MainFull = ⊤
+NamesOneOf pages fault.TempFull = ⊤
+NamesOneOf pages (fault.Damaged page check) = (page ≡ main_page page.no) × IsTrue (has_page pages page.no)
 
 -- a page of the main file
 abbrev pub NamesMain : PageFault → Type 0

@@ -11,7 +11,7 @@ use Rattle.hg_base.specs.declared.Table.{Table}
 use Rattle.hg_table.specs.Chains.{IsChain}
 use Rattle.hg_table.specs.Versions.{Placed, IsTable}
 use Rattle.hg_table.specs.Places.{behind, comes_behind, first_place}
-use Rattle.hg_table.specs.Calls.{none_mine, HasTable, HasPage, HasStart, Inserts, IsTableWith}
+use Rattle.hg_table.specs.Calls.{none_mine, HasTable, HasPage, HasStart, HasWay, StandsOn, Inserts, IsTableWith}
 use Rattle.hg_table.specs.TableLaws.{no_pages, empty_chain, empty_table, chain_stays, table_stays, on_pages}
 
 pub record HoldsRows (s : Space) (t : Table) (columns : ℕ) (pages : List ℕ) : Type 0 where
@@ -25,10 +25,10 @@ pub record IsReady (s : Space) (t : Table) (columns : ℕ) : Type 0 where
   pub chain : IsChain s t pages
   pub rows : s.told ≡ true → HoldsRows s t columns pages
 
--- The same, and a place that is named is on one of its pages.
+-- The same, and a place that is named is on one of its pages, over every space.
 pub record IsReadyAt (s : Space) (t : Table) (columns : ℕ) (place : Option Place) : Type 0 where
   pub ready : IsReady s t columns
-  pub page : s.told ≡ true → MatchOption place ⊤ (λ p. IsTrue (has_page ready.pages p.page))
+  pub page : StandsOn ready.pages place
 
 -- a table of no page
 pub ready_empty : (s : Space) (columns : ℕ) → NoPins s → IsReady s no_pages columns
@@ -73,47 +73,36 @@ pub ready_table : (s : Space) (t : Table) (columns : ℕ) → IsReady s t column
 ready_table s t columns r told = let h : HoldsRows s t columns r.pages = r.rows told in
     record { columns = columns; pages = r.pages; versions = h.versions; table = h.table }
 
+start_page : (pages : List ℕ) (place : Option Place) → StandsOn pages place → MatchOption place ⊤ (λ p. IsTrue (has_page pages p.page))
+start_page pages None h = tt
+start_page pages (Some p) h = h
+
 pub ready_start : (s : Space) (t : Table) (columns : ℕ) (place : Option Place) → IsReadyAt s t columns place → s.told ≡ true → HasStart s t place
 ready_start s t columns place r told = let h : HoldsRows s t columns r.ready.pages = r.ready.rows told in
-    record { columns = columns; pages = r.ready.pages; versions = h.versions; table = h.table; page = r.page told }
+    record { columns = columns; pages = r.ready.pages; versions = h.versions; table = h.table; page = start_page r.ready.pages place r.page }
 
 pub ready_page : (s : Space) (t : Table) (columns : ℕ) (place : Place) → IsReadyAt s t columns (Some place) → s.told ≡ true → HasPage s t columns place
 ready_page s t columns place r told = let h : HoldsRows s t columns r.ready.pages = r.ready.rows told in
-    record { pages = r.ready.pages; versions = h.versions; table = h.table; page = r.page told }
+    record { pages = r.ready.pages; versions = h.versions; table = h.table; page = r.page }
+
+pub ready_way : (s : Space) (t : Table) (columns : ℕ) (place : Option Place) → IsReadyAt s t columns place → HasWay s t columns place
+ready_way s t columns place r = record {
+  pages = r.ready.pages;
+  chain = r.ready.chain;
+  on = r.page;
+  rows = λ told. let h : HoldsRows s t columns r.ready.pages = r.ready.rows told in (h.versions, h.table);
+}
 
 -- the next version is on a page of the table
-first_on : (pages : List ℕ) (t : Placed → Bool) (vs : List Placed) (p : Place) → AllByRecursion (λ v. IsTrue (has_page pages v.place.page)) vs
-    → first_place (filter t vs) ≡ Some p → has_page pages p.page ≡ true
-first_on pages t [] p h e = absurd (let n : ◌≡◌ {A = Option Place} None (Some p) = e in cc)
-first_on pages t (v ∷ vs) p h e = elim (cases_Bool (t v)) [
-  | inl i ↦
-      let f : ◌≡◌ {A = Option Place} (Some v.place) (Some p) = sym (ap (λ b. first_place (if b then v ∷ filter t vs else filter t vs)) i) ∙ e in
-      let same : v.place ≡ p = cc in
-      subst (λ q. has_page pages q.page ≡ true) same h.0
-  | inr i ↦ first_on pages t vs p h.1 (sym (ap (λ b. first_place (if b then v ∷ filter t vs else filter t vs)) i) ∙ e)
-]
-
-first_all : (pages : List ℕ) (vs : List Placed) (p : Place) → AllByRecursion (λ v. IsTrue (has_page pages v.place.page)) vs → first_place vs ≡ Some p → has_page pages p.page ≡ true
-first_all pages [] p h e = absurd (let n : ◌≡◌ {A = Option Place} None (Some p) = e in cc)
-first_all pages (v ∷ vs) p h e =
-    let same : v.place ≡ p = (let f : ◌≡◌ {A = Option Place} (Some v.place) (Some p) = e in cc) in subst (λ q. has_page pages q.page ≡ true) same h.0
-
-behind_on : (pages : List ℕ) (place : Option Place) (vs : List Placed) (p : Place) → AllByRecursion (λ v. IsTrue (has_page pages v.place.page)) vs
-    → first_place (behind pages place vs) ≡ Some p → has_page pages p.page ≡ true
-behind_on pages None vs p h e = first_all pages vs p h e
-behind_on pages (Some q) vs p h e = first_on pages (comes_behind (pages_behind pages q.page) q) vs p h e
-
 pub ready_next : (a b : Space) (t : Table) (columns : ℕ) (place : Option Place) (p : Place) → Steady none_mine a b → IsReadyAt a t columns place
-    → ((k : ℕ) (pages : List ℕ) (versions : List Placed) → IsTable a t k pages versions → Some p ≡ first_place (behind pages place versions)) → IsReadyAt b t columns (Some p)
+    → ((pages : List ℕ) → IsChain a t pages → StandsOn pages place → StandsOn pages (Some p)) → IsReadyAt b t columns (Some p)
 ready_next a b t columns place p steady r known = record {
   ready = ready_looked a b t columns steady r.ready;
-  page = λ told.
-      let h : HoldsRows a t columns r.ready.pages = r.ready.rows (sym steady.told ∙ told) in
-      behind_on r.ready.pages place h.versions p (on_pages a t columns r.ready.pages h.versions h.table) (sym (known columns r.ready.pages h.versions h.table));
+  page = known r.ready.pages r.ready.chain r.page;
 }
 
 pub ready_again : (a b : Space) (t : Table) (columns : ℕ) (place : Option Place) → Steady none_mine a b → IsReadyAt a t columns place → IsReadyAt b t columns place
-ready_again a b t columns place steady r = record { ready = ready_looked a b t columns steady r.ready; page = λ told. r.page (sym steady.told ∙ told) }
+ready_again a b t columns place steady r = record { ready = ready_looked a b t columns steady r.ready; page = r.page }
 
 pub ready_first : (s : Space) (t : Table) (columns : ℕ) → IsReady s t columns → IsReadyAt s t columns None
-ready_first s t columns r = record { ready = r; page = λ told. tt }
+ready_first s t columns r = record { ready = r; page = tt }

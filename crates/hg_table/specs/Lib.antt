@@ -9,4 +9,5 @@ pub mod Altering
 pub mod InOrder
 pub mod TableLaws
 pub mod Kept
+pub mod Sightings
 pub mod Agreement

@@ -1,9 +1,10 @@
 -- Versions found by place. Our own rule.
-use Rattle.std.specs.Prelude.{ℕ, ◌==◌, ◌&&◌, nat_lt, map, Bool, false, List, [], ◌∷◌, Option, Some, None, if◌then◌else◌}
+use Rattle.std.specs.Prelude.{◌≡◌, ℕ, ◌==◌, ◌&&◌, nat_lt, map, Bool, false, List, [], ◌∷◌, Option, Some, None, if◌then◌else◌}
 use Rattle.std.specs.List.{filter}
 use Rattle.hg_base.specs.declared.Place.{Place}
 use Rattle.hg_base.specs.Lines.{has_page, pages_behind}
 use Rattle.hg_model.specs.Visible.{is_visible}
+use Rattle.hg_model.specs.declared.values.Value.{Value}
 use Rattle.hg_table.specs.Versions.{Placed, RowVersion}
 
 -- a version stands at this place
@@ -40,3 +41,14 @@ killed_at p d v = if is_at p v then record v { version = record v.version { died
 
 abbrev pub killed : Place → ℕ → List Placed → List Placed
 killed p d versions = map (killed_at p d) versions
+
+-- the first of some versions that a snapshot sees
+abbrev pub first_seen : (ℕ → Bool) → ℕ → List Placed → Option Placed
+first_seen committed snapshot [] = None
+first_seen committed snapshot (v ∷ vs) = if is_visible committed snapshot v.version then Some v else first_seen committed snapshot vs
+
+-- A search answered with a version: its place, and its row in place of what was there; or with none, and
+-- the row is as it was.
+abbrev pub Finds : Option Placed → Option Place → List Value → List Value → Type 0
+Finds None found old new = (found ≡ None) × (new ≡ old)
+Finds (Some v) found old new = (found ≡ Some v.place) × (new ≡ v.version.row)

@@ -1,5 +1,5 @@
 -- What the small calls do that the calls on a table are made of. Our own rule.
-use Rattle.std.specs.Prelude.{◌≡◌, ◌≢◌, ℕ, ◌^◌, ◌<◌, ◌≤◌, Bool, true, false, List, Option, Some, None, length, is_some, ⊤, if◌then◌else◌}
+use Rattle.std.specs.Prelude.{◌≡◌, ◌≢◌, ℕ, ◌^◌, ◌<◌, ◌≤◌, Bool, true, false, List, Option, Some, None, length, slice_index, is_some, ⊤, if◌then◌else◌}
 use Rattle.hg_base.specs.Space.{Space, key_in, at, IsFree}
 use Rattle.hg_base.specs.Lines.{IsLine}
 use Rattle.hg_base.specs.Steadiness.{Steady}
@@ -11,10 +11,13 @@ use Rattle.hg_base.specs.declared.Check.TheVariants as check
 use Rattle.hg_base.specs.declared.pages.PageFault.{PageFault}
 use Rattle.hg_base.specs.declared.pages.PageFault.TheVariants as fault
 use Rattle.hg_slot.specs.Slotted.{record_at, IsSlotted, IsClean, Fits}
-use Rattle.hg_slot.specs.Changing.{IsInserted, Overwrites}
+use Rattle.hg_slot.specs.Changing.{IsInserted, Overwrites, fault_at}
 use Rattle.std.specs.Int.{w32, to_le_bytes}
 use Rattle.std.specs.List.{AllByRecursion}
 use Rattle.hg_table.specs.Versions.{RowVersion, HoldsVersions, Shows}
+use Rattle.hg_model.specs.Visible.{is_visible}
+use Rattle.hg_model.specs.declared.values.Value.{Value}
+use Rattle.hg_table.specs.Places.{sees}
 use Rattle.hg_table.specs.Calls.{main_page, none_mine, page_mine, insert_mine, TakesNone, HasNoRoom}
 
 -- the check is this one
@@ -83,10 +86,19 @@ pub record HoldsLine (s : Space) (start : Option ℕ) : Type 0 where
   pub line : IsLine Main s start pages
   pub holds : AllByRecursion (λ x. HoldsVersions s columns x (held x)) pages
 
--- What is wrong with a slot that is read: the page is no slotted page, or its record is no version.
+-- A line of pages and the rows of so many values that they hold.
+pub record HoldsRowsOf (s : Space) (start : Option ℕ) (columns : ℕ) : Type 0 where
+  pub pages : List ℕ
+  pub held : ℕ → ℕ → Option RowVersion
+  pub line : IsLine Main s start pages
+  pub holds : AllByRecursion (λ x. HoldsVersions s columns x (held x)) pages
+
+-- What is wrong with a slot that is read: its page's kind, its own entry or the number of slots, or its
+-- record is no version. Kind comes only where byte 0 is another one, Size only where a look at the slot
+-- tells it.
 abbrev pub IsWrongAt : List ℕ → ℕ → ℕ → Check → Type 0
-IsWrongAt page columns slot check.Kind = IsSlotted page → ⊥
-IsWrongAt page columns slot check.Size = IsSlotted page → ⊥
+IsWrongAt page columns slot check.Kind = slice_index page 0 ≢ 83
+IsWrongAt page columns slot check.Size = (fault_at page slot ≡ Some check.Size) × (IsSlotted page → ⊥)
 IsWrongAt page columns slot check.Frame = ⊥
 IsWrongAt page columns slot check.Link = ⊥
 IsWrongAt page columns slot check.Level = ⊥
@@ -95,18 +107,41 @@ IsWrongAt page columns slot check.RowBytes = (v : Option RowVersion) → Shows c
 
 -- The same where a version is wanted: there may be none.
 abbrev pub IsWrongVersion : List ℕ → ℕ → ℕ → Check → Type 0
-IsWrongVersion page columns slot check.Kind = IsSlotted page → ⊥
-IsWrongVersion page columns slot check.Size = IsSlotted page → ⊥
+IsWrongVersion page columns slot check.Kind = slice_index page 0 ≢ 83
+IsWrongVersion page columns slot check.Size = (fault_at page slot ≡ Some check.Size) × (IsSlotted page → ⊥)
 IsWrongVersion page columns slot check.Frame = ⊥
 IsWrongVersion page columns slot check.Link = ⊥
 IsWrongVersion page columns slot check.Level = ⊥
 IsWrongVersion page columns slot check.Order = ⊥
 IsWrongVersion page columns slot check.RowBytes = (v : RowVersion) → Shows columns (record_at page slot) (Some v) → ⊥
 
+-- What is wrong with a page whose versions are looked through.
+abbrev pub IsWrongPage : List ℕ → ℕ → Check → Type 0
+IsWrongPage page columns check.Kind = slice_index page 0 ≢ 83
+IsWrongPage page columns check.Size = (slice_index page 0 ≡ 83) × (IsSlotted page → ⊥)
+IsWrongPage page columns check.Frame = ⊥
+IsWrongPage page columns check.Link = ⊥
+IsWrongPage page columns check.Level = ⊥
+IsWrongPage page columns check.Order = ⊥
+IsWrongPage page columns check.RowBytes = (held : ℕ → Option RowVersion) → ((k : ℕ) → Shows columns (record_at page k) (held k)) → ⊥
+
+-- the version of the slot j is the first from a slot on that a snapshot sees, and its row was read
+pub record IsFirstSeen (committed : ℕ → Bool) (snapshot : ℕ) (held : ℕ → Option RowVersion) (from j : ℕ) (row : List Value) : Type 0 where
+  pub behind : from ≤ j
+  pub version : RowVersion
+  pub stands : held j ≡ Some version
+  pub seen : is_visible committed snapshot version ≡ true
+  pub row_is : row ≡ version.row
+  pub none : (k : ℕ) → from ≤ k → k < j → sees committed snapshot (held k) ≡ false
+
+-- the first version of a page from a slot on that a snapshot sees, and what was read of it
+abbrev pub IsNextSeen : (ℕ → Bool) → ℕ → (ℕ → Option RowVersion) → ℕ → Option ℕ → List Value → List Value → Type 0
+IsNextSeen committed snapshot held from None old new = ((k : ℕ) → from ≤ k → sees committed snapshot (held k) ≡ false) × (new ≡ old)
+IsNextSeen committed snapshot held from (Some j) old new = IsFirstSeen committed snapshot held from j new
+
 -- A record was put into a slot of a slotted page that was empty.
 pub record Puts (old new r : List ℕ) (slot : ℕ) : Type 0 where
-  pub slotted : IsSlotted new
-  pub inserted : IsInserted old new slot r
+  pub inserted : IsSlotted old → IsInserted old new slot r
 
 -- No record of its length fits the page.
 pub record HasNone (old new r : List ℕ) : Type 0 where
@@ -195,12 +230,12 @@ pub record Kills (old new : List ℕ) (slot died : ℕ) : Type 0 where
   pub record_bytes : List ℕ
   pub was : record_at old slot ≡ Some record_bytes
   pub long : 8 ≤ length record_bytes
-  pub written : Overwrites old new slot 4 (to_le_bytes w32 died)
+  pub written : IsSlotted old → Overwrites old new slot 4 (to_le_bytes w32 died)
 
 -- The same whatever the number of values.
 abbrev pub IsWrongRecord : List ℕ → ℕ → Check → Type 0
-IsWrongRecord page slot check.Kind = IsSlotted page → ⊥
-IsWrongRecord page slot check.Size = IsSlotted page → ⊥
+IsWrongRecord page slot check.Kind = slice_index page 0 ≢ 83
+IsWrongRecord page slot check.Size = (fault_at page slot ≡ Some check.Size) × (IsSlotted page → ⊥)
 IsWrongRecord page slot check.Frame = ⊥
 IsWrongRecord page slot check.Link = ⊥
 IsWrongRecord page slot check.Level = ⊥

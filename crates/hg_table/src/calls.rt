@@ -1,7 +1,7 @@
 //! The calls on a table.
 
 use crate::stamping::Stamps;
-use crate::{insertion, kill, reading, walk};
+use crate::{insertion, kill, reading, seeking, walk};
 use hg_base::{PageFault, Pages, Place, Stamp, Table};
 use hg_value::Row;
 
@@ -12,9 +12,11 @@ use hg_value::Row;
 /// it answers as [`PageFault::Damaged`], with the page and what was wrong: `Kind` and `Size` of a
 /// page that is no slotted page, `RowBytes` of a place whose page cannot be pinned or that holds no
 /// version, `Level` of a page of the chain, the first or a successor, that cannot be pinned, `Order`
-/// of a walk that passes more pages than are taken.
+/// of a walk that passes more pages than are taken. Successors are kept beside the pages, over every
+/// space: where the pages of the table are known and the walk begins on one of them, neither of the last
+/// two comes. Kind comes only where byte 0 is another one.
 pub trait TableCalls {
-    ghost use Rattle.std.specs.Prelude.{◌≡◌, ◌≢◌, ℕ, ◌+◌, ◌≤◌, ◌⊎◌, true, false, List, length, Some, None, Ok, Err, IfOk, IfErr, OnOk, OnErr, IfSome, option_map};
+    ghost use Rattle.std.specs.Prelude.{◌≡◌, ◌≢◌, ℕ, ◌+◌, ◌≤◌, ◌⊎◌, true, false, List, length, Some, None, Ok, Err, IfOk, IfErr, OnOk, OnErr, IfSome, IsSome, option_map};
     ghost use Rattle.hg_base.specs.Space.{NoPins};
     ghost use Rattle.hg_base.specs.Causes.{HasCause, fault_of};
     ghost use Rattle.hg_base.specs.Steadiness.{Steady};
@@ -24,8 +26,8 @@ pub trait TableCalls {
     ghost use Rattle.hg_table.specs.Marks.{committed};
     ghost use Rattle.hg_table.specs.Chains.{IsChain};
     ghost use Rattle.hg_table.specs.Versions.{Placed, IsTable};
-    ghost use Rattle.hg_table.specs.Places.{version_at, behind, first_place, sees, killed};
-    ghost use Rattle.hg_table.specs.Calls.{none_mine, page_mine, insert_mine, HasTable, HasPage, HasVersion, HasStart, Inserts, KeepsPages, AddsPage, InsertFault, LookFault, IsVersionCheck, IsWalkCheck, NamesPage, NamesGiven, NamesMain, IsBarred, HasNoRoom, StandsOn, TakesNone, newborn};
+    ghost use Rattle.hg_table.specs.Places.{version_at, behind, first_place, first_seen, Finds, sees, killed};
+    ghost use Rattle.hg_table.specs.Calls.{none_mine, page_mine, insert_mine, HasTable, HasPage, HasVersion, HasStart, HasWay, Inserts, KeepsPages, AddsPage, InsertFault, LookFault, IsPageCheck, IsVersionCheck, IsWalkCheck, NamesPage, NamesGiven, NamesMain, NamesOneOf, IsBarred, HasNoRoom, StandsOn, TakesNone, newborn};
 
     // where the table's pages stand
     ghost ends: { Self → TableOf };
@@ -135,7 +137,40 @@ pub trait TableCalls {
         ensures cause { HasCause (S.state space.old) (S.state space.new) (fault_of result) }
         ensures fault { IfErr result (LookFault IsWalkCheck) }
         ensures page { IfErr result NamesMain }
-        ensures level { IfErr result (IsBarred (S.state space.old) at) };
+        ensures level { IfErr result (IsBarred (S.state space.old) at) }
+        ensures known { (pages : List ℕ) → IsChain (S.state space.old) (ends self.now) pages
+            → StandsOn pages at → IfErr result (LookFault IsPageCheck) };
+
+    /// The first version behind `at`, in order of pages and slots, that the snapshot sees; the first of
+    /// all that it sees where `at` is None. Its row is put into `out`, under the pin under which it was
+    /// found; each page is pinned once. None where no such version is left: `out` then stays as it was. A
+    /// version need not stand at `at` any more. Since the pages of the table are known over every space,
+    /// neither Level nor Order comes: what is damaged is a page of the table, or the bytes of a record.
+    fn next_visible<S: Pages>(
+        &self,
+        space: &mut S,
+        at: Option<Place>,
+        columns: u8,
+        snapshot: Stamp,
+        stamps: &Stamps,
+        out: &mut Row,
+    ) -> Result<Option<Place>, PageFault>
+        requires no_pins { NoPins (S.state space.old) }
+        requires way { HasWay (S.state space.old) (ends self.now) columns at }
+        ensures seen { IfOk result (λ next. (pages : List ℕ) (versions : List Placed)
+            → IsTable (S.state space.old) (ends self.now) columns pages versions
+            → Finds (first_seen (committed stamps.now) snapshot.0 (behind pages at versions))
+            next out.old out.new) }
+        ensures unseen { result ≡ Ok None → out.new ≡ out.old }
+        ensures width { IfOk result (λ next. IsSome next → length out.new ≡ columns) }
+        ensures on_pages { IfOk result (λ next. (pages : List ℕ)
+            → IsChain (S.state space.old) (ends self.now) pages → StandsOn pages next) }
+        ensures steady { Steady none_mine (S.state space.old) (S.state space.new) }
+        ensures takes_none { TakesNone (S.state space.old) (S.state space.new) }
+        ensures cause { HasCause (S.state space.old) (S.state space.new) (fault_of result) }
+        ensures fault { IfErr result (LookFault IsVersionCheck) }
+        ensures page { (pages : List ℕ) → IsChain (S.state space.old) (ends self.now) pages
+            → IfErr result (NamesOneOf pages) };
 
     /// The stamps of the version at a place, seen or not. Its row is put into `out`.
     fn version<S: Pages>(
@@ -198,6 +233,18 @@ impl TableCalls for Table {
         at: Option<Place>,
     ) -> Result<Option<Place>, PageFault> {
         walk::after(self, space, at)
+    }
+
+    fn next_visible<S: Pages>(
+        &self,
+        space: &mut S,
+        at: Option<Place>,
+        columns: u8,
+        snapshot: Stamp,
+        stamps: &Stamps,
+        out: &mut Row,
+    ) -> Result<Option<Place>, PageFault> {
+        seeking::next_visible(self, space, at, columns, snapshot, stamps, out)
     }
 
     fn version<S: Pages>(

@@ -1,5 +1,5 @@
 //! Putting versions into a table.
-ghost use Rattle.std.specs.Prelude.{◌≡◌, ℕ, ◌+◌, ◌≤◌, ◌⊎◌, true, false, List, length, Some, None, Err, IfOk, IfErr, IfSome, OnOk, OnErr, MatchOption};
+ghost use Rattle.std.specs.Prelude.{◌≡◌, ℕ, ◌+◌, ◌++◌, ◌≤◌, ◌⊎◌, true, false, List, length, Some, None, Err, IfOk, IfErr, IfSome, OnOk, OnErr, MatchOption};
 ghost use Rattle.hg_base.specs.Space.{NoPins, key_in, at, IsFree, with_bytes};
 ghost use Rattle.hg_base.specs.Causes.{HasCause, fault_of};
 ghost use Rattle.hg_base.specs.Steadiness.{Steady, IsPlain};
@@ -11,46 +11,53 @@ ghost use Rattle.hg_table.specs.Calls.{none_mine, insert_mine, HasTable, Inserts
 ghost use Rattle.hg_table.specs.Steps.{Looks, Refused, Tries, HoldsRecord, PutsRecord, MakesPage, AddsRecord, IsNoDamage};
 
 use crate::open::{damaged, main_page};
-use crate::stored::record_of;
+use crate::stored::front_of;
 use hg_base::{Check, File, PageFault, Pages, Place, Stamp, Table};
 use hg_slot::slot;
 use hg_value::Row;
 
-/// Puts a record into a page whose bytes may be any. None where it does not fit.
-fn put_in(page: &mut [u8], bytes: &[u8]) -> Result<Option<u16>, Check>
+/// Puts a record of two parts into a page whose bytes may be any. None where it does not fit.
+#[tactic(auto, using(crate::proofs::Seeing::insertion_wrong))]
+fn put_in(page: &mut [u8], front: &[u8], row: &[u8]) -> Result<Option<u16>, Check>
     requires { length page.old ≡ 4096 }
-    ensures tried { IfOk result (Tries page.old page.new bytes.now) }
+    ensures tried { IfOk result (Tries page.old page.new (front.now ++ row.now)) }
     ensures wrong { IfErr result (IsWrong page.old) }
     ensures err { OnErr result (page.new ≡ page.old) }
 {
-    slot::verify(page)?;
-    let placed = slot::insert(page, bytes);
-    match placed {
-        Ok(slot) => Ok(Some(slot)),
-        Err(_) => Ok(None),
+    match slot::insert_parts(page, front, row) {
+        Ok(Some(slot)) => Ok(Some(slot)),
+        Ok(None) => Ok(None),
+        Err(check) => Err(check),
     }
 }
 
-/// Makes a page that holds one record, and gives the record's slot.
-fn start_with(page: &mut [u8], bytes: &[u8]) -> u16
+/// Makes a page that holds one record of two parts, and gives the record's slot.
+fn start_with(page: &mut [u8], front: &[u8], row: &[u8]) -> u16
     requires whole { length page.old ≡ 4096 }
-    requires short { length bytes.now ≤ 4076 }
-    ensures { HoldsRecord page.new result bytes.now }
+    requires short { length front.now + length row.now ≤ 4076 }
+    ensures { HoldsRecord page.new result (front.now ++ row.now) }
 {
     slot::init(page);
-    match slot::insert(page, bytes) {
-        Ok(slot) => slot,
+    match slot::insert_parts(page, front, row) {
+        Ok(Some(slot)) => slot,
+        Ok(None) => unreachable!(),
         Err(_) => unreachable!(),
     }
 }
 
 /// Puts a record into a page of a table. None where it does not fit.
-fn put_on<S: Pages>(space: &mut S, no: u32, bytes: &[u8]) -> Result<Option<u16>, PageFault>
+fn put_on<S: Pages>(
+    space: &mut S,
+    no: u32,
+    front: &[u8],
+    row: &[u8],
+) -> Result<Option<u16>, PageFault>
     requires out { NoPins (S.state space.old) }
     requires plain { IsPlain (S.state space.old) (key_in File.Main no) }
     requires sound { (S.state space.old).told ≡ true → (page : List ℕ)
         × ((S.state space.old).bytes (key_in File.Main no) ≡ Some page) × IsSlotted page }
-    ensures put { IfOk result (PutsRecord (S.state space.old) (S.state space.new) no bytes.now) }
+    ensures put { IfOk result (PutsRecord (S.state space.old) (S.state space.new) no
+        (front.now ++ row.now)) }
     ensures err { OnErr result (Looks (S.state space.old) (S.state space.new)) }
     ensures cause { HasCause (S.state space.old) (S.state space.new) (fault_of result) }
     ensures fault { IfErr result (InsertFault (S.state space.old)) }
@@ -58,7 +65,7 @@ fn put_on<S: Pages>(space: &mut S, no: u32, bytes: &[u8]) -> Result<Option<u16>,
     ensures not_full { result ≡ Err PageFault.MainFull → ⊥ }
 {
     let pin = space.pin(main_page(no))?;
-    let answer = put_in(space.bytes_mut(&pin), bytes);
+    let answer = put_in(space.bytes_mut(&pin), front, row);
     space.unpin(pin);
     match answer {
         Ok(slot) => Ok(slot),
@@ -68,10 +75,11 @@ fn put_on<S: Pages>(space: &mut S, no: u32, bytes: &[u8]) -> Result<Option<u16>,
 
 /// Takes a page and puts a record there.
 #[tactic(auto, using(crate::proofs::Seeing::refused))]
-fn new_page<S: Pages>(space: &mut S, bytes: &[u8]) -> Result<Place, PageFault>
+fn new_page<S: Pages>(space: &mut S, front: &[u8], row: &[u8]) -> Result<Place, PageFault>
     requires out { NoPins (S.state space.old) }
-    requires short { length bytes.now ≤ 4076 }
-    ensures made { IfOk result (MakesPage (S.state space.old) (S.state space.new) bytes.now) }
+    requires short { length front.now + length row.now ≤ 4076 }
+    ensures made { IfOk result (MakesPage (S.state space.old) (S.state space.new)
+        (front.now ++ row.now)) }
     ensures err { OnErr result (Refused (S.state space.old) (S.state space.new)) }
     ensures cause { HasCause (S.state space.old) (S.state space.new) (fault_of result) }
     ensures fault { IfErr result (InsertFault (S.state space.old)) }
@@ -79,7 +87,7 @@ fn new_page<S: Pages>(space: &mut S, bytes: &[u8]) -> Result<Place, PageFault>
 {
     let pin = space.fresh(File::Main)?;
     let page = space.page_of(&pin);
-    let slot = start_with(space.bytes_mut(&pin), bytes);
+    let slot = start_with(space.bytes_mut(&pin), front, row);
     space.unpin(pin);
     Ok(Place {
         page: page.no,
@@ -88,19 +96,24 @@ fn new_page<S: Pages>(space: &mut S, bytes: &[u8]) -> Result<Place, PageFault>
 }
 
 /// Puts a version on a new page behind the last one of the table.
-fn add_page<S: Pages>(table: &mut Table, space: &mut S, bytes: &[u8]) -> Result<Place, PageFault>
+fn add_page<S: Pages>(
+    table: &mut Table,
+    space: &mut S,
+    front: &[u8],
+    row: &[u8],
+) -> Result<Place, PageFault>
     requires out { NoPins (S.state space.old) }
     requires chain { (pages : List ℕ) × IsChain (S.state space.old) table.old pages }
-    requires short { length bytes.now ≤ 4076 }
+    requires short { length front.now + length row.now ≤ 4076 }
     ensures made { IfOk result (λ place. AddsRecord (S.state space.old)
-        (S.state space.new) table.old table.new bytes.now place) }
+        (S.state space.new) table.old table.new (front.now ++ row.now) place) }
     ensures same { OnErr result (table.new ≡ table.old) }
     ensures err { OnErr result (Refused (S.state space.old) (S.state space.new)) }
     ensures cause { HasCause (S.state space.old) (S.state space.new) (fault_of result) }
     ensures fault { IfErr result (InsertFault (S.state space.old)) }
     ensures whole { IfErr result IsNoDamage }
 {
-    let place = new_page(space, bytes)?;
+    let place = new_page(space, front, row)?;
     match table.last {
         Some(last) => space.set_next(main_page(last), Some(place.page)),
         None => table.first = Some(place.page),
@@ -138,11 +151,11 @@ pub fn insert<S: Pages>(
     ensures full { result ≡ Err PageFault.MainFull → HasNoRoom (S.state space.old)
         table.old.last (8 + length (coded row.now)) }
 {
-    let record = record_of(row, born);
+    let front = front_of(born);
     if let Some(last) = table.last {
-        if let Some(slot) = put_on(space, last, record.as_slice())? {
+        if let Some(slot) = put_on(space, last, &front, row.bytes())? {
             return Ok(Place { page: last, slot });
         }
     }
-    add_page(table, space, record.as_slice())
+    add_page(table, space, &front, row.bytes())
 }

@@ -10,34 +10,22 @@ ghost use Rattle.hg_table.specs.Versions.{RowVersion};
 ghost use Rattle.hg_table.specs.Steps.{Looks, IsSoundAt, IsWrongRecord, ChangesPage, Kills, HoldsStamps};
 
 use crate::open::{damaged, open};
-use crate::stored::STAMPS;
 use hg_base::{Check, PageFault, Pages, Place, Stamp};
 use hg_slot::slot;
 
-/// Whether a slot of a slotted page holds the stamps of a version.
-fn holds_stamps(page: &[u8], slot: u16) -> bool
-    requires { IsSlotted page.now }
-    ensures { HoldsStamps page.now slot result }
-{
-    match slot::get(page, slot) {
-        Some(record) => record.len() >= STAMPS,
-        None => false,
-    }
-}
-
 /// Sets the stamp under which the version of a slot died.
+#[tactic(auto, using(crate::proofs::Seeing::slot_wrong))]
 pub fn kill_in(page: &mut [u8], slot: u16, died: Stamp) -> Result<(), Check>
     requires { length page.old ≡ 4096 }
     ensures ok { OnOk result (Kills page.old page.new slot died.0) }
     ensures err { OnErr result (page.new ≡ page.old) }
     ensures wrong { IfErr result (IsWrongRecord page.old slot) }
 {
-    slot::verify(page)?;
-    if !holds_stamps(page, slot) {
-        return Err(Check::RowBytes);
+    match slot::overwrite(page, slot, 4, &died.0.to_le_bytes()) {
+        Ok(true) => Ok(()),
+        Ok(false) => Err(Check::RowBytes),
+        Err(check) => Err(check),
     }
-    slot::put(page, slot, 4, &died.0.to_le_bytes());
-    Ok(())
 }
 
 /// Sets the stamp under which the version at a place died.

@@ -9,6 +9,7 @@ mod insertion;
 mod kill;
 mod open;
 mod reading;
+mod seeking;
 mod stamping;
 mod stored;
 #[cfg(test)]

@@ -18,6 +18,7 @@ use hg_slot::slot;
 use hg_value::Row;
 
 /// What a snapshot sees of a slot of a page whose bytes may be any.
+#[tactic(auto, using(crate::proofs::Seeing::slot_wrong))]
 pub fn read_in(
     page: &[u8],
     slot: u16,
@@ -36,8 +37,10 @@ pub fn read_in(
     ensures unseen { result ≡ Ok false → out.new ≡ out.old }
     ensures wrong { IfErr result (IsWrongAt page.now columns slot) }
 {
-    let Some(record) = slot::peek(page, slot)? else {
-        return Ok(false);
+    let record = match slot::peek(page, slot) {
+        Ok(Some(record)) => record,
+        Ok(None) => return Ok(false),
+        Err(check) => return Err(check),
     };
     let Some(life) = life_of(record) else {
         return Err(Check::RowBytes);
@@ -53,6 +56,7 @@ pub fn read_in(
 }
 
 /// The stamps and the row of a slot of a page whose bytes may be any.
+#[tactic(auto, using(crate::proofs::Seeing::slot_wrong))]
 pub fn version_in(
     page: &[u8],
     slot: u16,
@@ -71,8 +75,10 @@ pub fn version_in(
     ensures width { OnOk result (length out.new ≡ columns) }
     ensures wrong { IfErr result (IsWrongVersion page.now columns slot) }
 {
-    let Some(record) = slot::peek(page, slot)? else {
-        return Err(Check::RowBytes);
+    let record = match slot::peek(page, slot) {
+        Ok(Some(record)) => record,
+        Ok(None) => return Err(Check::RowBytes),
+        Err(check) => return Err(check),
     };
     let Some(life) = life_of(record) else {
         return Err(Check::RowBytes);

@@ -1,15 +1,14 @@
 //! Versions in bytes.
-ghost use Rattle.std.specs.Prelude.{◌≡◌, ℕ, ◌+◌, ◌≤◌, List, Option, length, IfSome, IsNone, option_map};
+ghost use Rattle.std.specs.Prelude.{◌≡◌, ℕ, ◌++◌, ◌^◌, ◌<◌, ◌≤◌, List, Option, length, IfSome, IsNone, option_map};
 ghost use Rattle.std.specs.Bool.{OnTrue, OnFalse};
 ghost use Rattle.hg_base.specs.declared.Stamp.{Stamp as StampOf};
 ghost use Rattle.hg_model.specs.Visible.{is_visible};
-ghost use Rattle.hg_value.specs.Coding.{coded};
+ghost use Rattle.std.specs.Int.{w32, to_le_bytes};
 ghost use Rattle.hg_table.specs.Marks.{committed};
 ghost use Rattle.hg_table.specs.Versions.{RowVersion, IsStored, death, IsDeath};
 
 use crate::stamping::Stamps;
-use arrayvec::ArrayVec;
-use hg_base::{Stamp, get_u32};
+use hg_base::{Stamp, get_u32, put_u32};
 use hg_value::Row;
 
 /// The bytes of the two stamps.
@@ -22,18 +21,15 @@ pub struct Life {
     pub died: u32,
 }
 
-/// The record of a row that was born under a stamp.
-pub fn record_of(row: &Row, born: Stamp) -> ArrayVec<u8, 1008>
-    requires { length (coded row.now) ≤ 1000 }
-    ensures stored { IsStored (length row.now) result.items
-        (record { born = born.0; died = None; row = row.now }) }
-    ensures size { length result.items ≡ 8 + length (coded row.now) }
+/// The bytes with which the record of a version begins that was born under a stamp and did not die; the
+/// bytes of its row follow them.
+pub fn front_of(born: Stamp) -> [u8; STAMPS]
+    ensures bytes { result ≡ to_le_bytes w32 born.0 ++ to_le_bytes w32 0 }
+    ensures small { born.0 < 2 ^ 32 }
 {
-    let mut record = ArrayVec::new();
-    let _ = record.try_extend_from_slice(&born.0.to_le_bytes());
-    let _ = record.try_extend_from_slice(&[0; 4]);
-    let _ = record.try_extend_from_slice(row.bytes());
-    record
+    let mut front = [0; STAMPS];
+    put_u32(&mut front, 0, born.0);
+    front
 }
 
 /// The stamps of a record. None where it is too short to be a version.

@@ -7,7 +7,8 @@ ghost use Rattle.hg_base.specs.Space.{NoPins};
 
 use crate::kill::kill_in;
 use crate::reading::{read_in, version_in};
-use crate::walk::{first_slot, next_slot};
+use crate::seeking::next_seen;
+use crate::walk::next_slot;
 use crate::{Stamps, TableCalls};
 use hg_base::{Check, File, PageFault, Pages, Place, PlainSpace, Stamp, Table};
 use hg_model::{Chars, Value};
@@ -138,6 +139,29 @@ fn count_rows<S: Pages>(
     Ok(right)
 }
 
+/// How many rows of a table a snapshot sees, at most so many.
+fn count_seen<S: Pages>(
+    table: &Table,
+    space: &mut S,
+    most: u32,
+    snapshot: Stamp,
+    stamps: &Stamps,
+) -> Result<u32, PageFault>
+    requires { IsReady (S.state space.old) table.now 4 }
+{
+    let mut out = Row::new();
+    let mut at = None;
+    let mut seen: u32 = 0;
+    for _turn in 0..most {
+        let Some(place) = table.next_visible(space, at, 4, snapshot, stamps, &mut out)? else {
+            return Ok(seen);
+        };
+        seen = seen.saturating_add(1);
+        at = Some(place);
+    }
+    Ok(seen)
+}
+
 /// A table of no page.
 fn no_table<S: Pages>(space: &S) -> Table
     requires { NoPins (S.state space.now) }
@@ -169,6 +193,43 @@ fn commit(stamps: &mut Stamps, stamp: Stamp) {
     if 0 < stamp.0 && stamp.0 <= stamps.last().0 {
         stamps.commit(stamp);
     }
+}
+
+/// How many rows a snapshot sees of those that are born under these stamps, one after the other.
+fn seen_of<S: Pages>(
+    space: &mut S,
+    borns: &[u32],
+    snapshot: Stamp,
+    stamps: &Stamps,
+) -> Result<u32, PageFault>
+    requires { NoPins (S.state space.old) }
+{
+    let mut table = no_table(space);
+    for born in borns {
+        let _ = add(&mut table, space, &sized_row(LONGEST), Stamp(*born))?;
+    }
+    count_seen(&table, space, 100, snapshot, stamps)
+}
+
+#[test]
+fn rows_that_are_seen(rt: HostRuntime) -> Result<(), Fail> {
+    let mut stamps = Stamps::new(rt.alloc())?;
+    for _turn in 0..4u8 {
+        let _ = stamps.draw();
+    }
+    // 1 and 3 are committed, 2 and 4 are not; a page has four of these rows
+    commit(&mut stamps, Stamp(1));
+    commit(&mut stamps, Stamp(3));
+    let borns = [2, 1, 2, 2, 2, 4, 4, 2, 2, 1, 3, 2, 4, 2, 2, 2, 2, 3, 1, 2];
+    for (snapshot, want) in [(0, 0), (1, 3), (2, 3), (3, 5), (4, 5)] {
+        let mut space = PlainSpace::new(rt.alloc());
+        assert_eq!(rt;
+            seen_of(&mut space, &borns, Stamp(snapshot), &stamps)?,
+            want,
+            "{snapshot}"
+        );
+    }
+    Ok(())
 }
 
 #[test]
@@ -222,13 +283,13 @@ fn page_of(front: &[u8], end: &[u8]) -> [u8; 4096] {
     page
 }
 
-/// What a page that is entered answers, one that is looked at from its first slot on, a read and a
-/// version of its first slot, and a death there.
+/// What a page answers that is searched for a version that a snapshot sees, one that is looked at from
+/// its first slot on, a read and a version of its first slot, and a death there.
 fn answers(page: &[u8; 4096], stamps: &Stamps) -> [Option<Check>; 5] {
     let mut out = Row::new();
     let mut copy = *page;
     [
-        first_slot(page).err(),
+        next_seen(page, 0, 1, Stamp(1), stamps, &mut out).err(),
         next_slot(page, 0).err(),
         read_in(page, 0, 1, Stamp(1), stamps, &mut out).err(),
         version_in(page, 0, 1, &mut out).err(),
@@ -250,19 +311,19 @@ fn damaged_pages(rt: HostRuntime) -> Result<(), Fail> {
     // 129 slots, that end at 532 = 0x0214
     let page = page_of(&[0x53, 0, 129, 0, 0x14, 2], &[]);
     assert_eq!(rt; answers(&page, &stamps), [size, size, size, size, size]);
-    // records of 9 bytes at 4080 = 0x0FF0 and of 8 at 4088, which share a byte: seen where the page is
-    // read whole; the first one is born under 0, so that no snapshot sees it, and has no row
+    // records of 9 bytes at 4080 = 0x0FF0 and of 8 at 4088, which share a byte: none of these calls looks
+    // at both; the first one is born under 0, so that no snapshot sees it, and has no row
     let front = [
         0x53, 0, 2, 0, 0xF0, 0x0F, 0, 0, 0, 0, 0, 0, 0, 0, 0, 0, 0xF0, 0x0F, 9, 0, 0xF8, 0x0F, 8, 0,
     ];
     let page = page_of(&front, &[7; 8]);
-    assert_eq!(rt; answers(&page, &stamps), [size, None, None, row, size]);
+    assert_eq!(rt; answers(&page, &stamps), [None, None, None, row, None]);
     // one record of 9 bytes at 4087 = 0x0FF7: born under 1, not dead, and a byte that begins no value
     let front = [
         0x53, 0, 1, 0, 0xF7, 0x0F, 0, 0, 0, 0, 0, 0, 0, 0, 0, 0, 0xF7, 0x0F, 9, 0,
     ];
     let page = page_of(&front, &[1, 0, 0, 0, 0, 0, 0, 0, 9]);
-    assert_eq!(rt; answers(&page, &stamps), [None, None, row, row, None]);
+    assert_eq!(rt; answers(&page, &stamps), [row, None, row, row, None]);
     // the same with a row of one NULL
     let page = page_of(&front, &[1, 0, 0, 0, 0, 0, 0, 0, 0]);
     assert_eq!(rt; answers(&page, &stamps), [None, None, None, None, None]);
@@ -271,7 +332,7 @@ fn damaged_pages(rt: HostRuntime) -> Result<(), Fail> {
         0x53, 0, 1, 0, 0xFB, 0x0F, 0, 0, 0, 0, 0, 0, 0, 0, 0, 0, 0xFB, 0x0F, 5, 0,
     ];
     let page = page_of(&front, &[1, 0, 0, 0, 0]);
-    assert_eq!(rt; answers(&page, &stamps), [None, None, row, row, row]);
+    assert_eq!(rt; answers(&page, &stamps), [row, None, row, row, row]);
     // no record: nothing to see, and no version
     let page = page_of(&[0x53, 0, 0, 0, 0, 0x10], &[]);
     assert_eq!(rt; answers(&page, &stamps), [None, None, None, row, row]);

@@ -10,44 +10,36 @@ ghost use Rattle.hg_slot.specs.Changing.{IsWrong};
 ghost use Rattle.hg_table.specs.Chains.{IsChain};
 ghost use Rattle.hg_table.specs.Versions.{Placed, RowVersion, IsTable, in_pages};
 ghost use Rattle.hg_table.specs.Places.{behind, first_place};
-ghost use Rattle.hg_table.specs.Calls.{HasStart, LookFault, IsWalkCheck, NamesPage, NamesMain, IsBarred, StandsOn, main_page};
+ghost use Rattle.hg_table.specs.Calls.{HasStart, LookFault, IsPageCheck, IsWalkCheck, NamesPage, NamesMain, IsBarred, StandsOn, main_page};
 ghost use Rattle.hg_table.specs.Steps.{Looks, IsSound, IsNextSlot, HoldsLine};
 
 use crate::open::{damaged, main_page, open};
 use hg_base::{Check, File, PageFault, Pages, Place, Table};
 use hg_slot::slot;
 
-/// No page has more slots.
-const MOST_SLOTS: u32 = 128;
-
 /// The first slot from `from` on that is not empty, on a page whose bytes may be any.
+#[tactic(auto, using(crate::proofs::Seeing::head_wrong))]
 pub fn next_slot(page: &[u8], from: u32) -> Result<Option<u16>, Check>
     requires { length page.now ≡ 4096 }
     ensures slotted { IsSlotted page.now → IsOk result }
-    ensures next { IsSlotted page.now → IfOk result (IsNextSlot page.now from) }
+    ensures next { IfOk result (IsNextSlot page.now from) }
     ensures wrong { IfErr result (IsWrong page.now) }
 {
-    for slot in from..MOST_SLOTS {
-        if slot::peek(page, slot as u16)?.is_some() {
-            return Ok(Some(slot as u16));
+    let count = match slot::check_head(page) {
+        Ok(count) => count as u32,
+        Err(check) => return Err(check),
+    };
+    for slot in from..count {
+        match slot::peek(page, slot as u16) {
+            Ok(Some(_)) => return Ok(Some(slot as u16)),
+            Ok(None) => {}
+            Err(check) => return Err(check),
         }
     }
     Ok(None)
 }
 
-/// The first slot that is not empty, on a page that is read whole.
-pub fn first_slot(page: &[u8]) -> Result<Option<u16>, Check>
-    requires { length page.now ≡ 4096 }
-    ensures slotted { IsSlotted page.now → IsOk result }
-    ensures next { IfOk result (IsNextSlot page.now 0) }
-    ensures wrong { IfErr result (IsWrong page.now) }
-{
-    slot::verify(page)?;
-    next_slot(page, 0)
-}
-
-/// Pins a page and looks for a slot that is not empty: on a page that is entered for the first, and
-/// else from `from` on. Where it cannot be pinned, a page that is entered is a page of a chain, and
+/// Pins a page and looks for a slot that is not empty, from `from` on. Where it cannot be pinned, a page that is entered is a page of a chain, and
 /// another that of a place.
 fn look<S: Pages>(
     space: &mut S,
@@ -57,7 +49,6 @@ fn look<S: Pages>(
 ) -> Result<Option<u16>, PageFault>
     requires out { NoPins (S.state space.old) }
     requires sound { (S.state space.old).told ≡ true → IsSound (S.state space.old) no }
-    requires first { entering ≡ true → from ≡ 0 }
     ensures next { IfOk result (λ slot. (page : List ℕ)
         → (S.state space.old).bytes (key_in File.Main no) ≡ Some page → IsNextSlot page from slot) }
     ensures plain { OnOk result (IsFree (S.state space.old) (main_page no)) }
@@ -65,6 +56,8 @@ fn look<S: Pages>(
     ensures cause { HasCause (S.state space.old) (S.state space.new) (fault_of result) }
     ensures fault { IfErr result (LookFault IsWalkCheck) }
     ensures page { IfErr result (NamesPage no) }
+    ensures known { IsFree (S.state space.old) (main_page no)
+        → IfErr result (LookFault IsPageCheck) }
     ensures level { entering ≡ true → IfErr result (IsBarred (S.state space.old) None) }
     ensures row { entering ≡ false → (slot : ℕ)
         → IfErr result (IsBarred (S.state space.old) (Some (record { page = no; slot = slot }))) }
@@ -75,12 +68,7 @@ fn look<S: Pages>(
         Check::RowBytes
     };
     let pin = open(space, no, check)?;
-    let bytes = space.bytes(&pin);
-    let found = if entering {
-        first_slot(bytes)
-    } else {
-        next_slot(bytes, from)
-    };
+    let found = next_slot(space.bytes(&pin), from);
     space.unpin(pin);
     match found {
         Ok(slot) => Ok(slot),
@@ -100,6 +88,8 @@ fn first_along<S: Pages>(space: &mut S, start: Option<u32>) -> Result<Option<Pla
     ensures cause { HasCause (S.state space.old) (S.state space.new) (fault_of result) }
     ensures fault { IfErr result (LookFault IsWalkCheck) }
     ensures page { IfErr result NamesMain }
+    ensures known { (pages : List ℕ) → IsLine File.Main (S.state space.old) start pages
+        → IfErr result (LookFault IsPageCheck) }
     ensures level { IfErr result (IsBarred (S.state space.old) None) }
 {
     let mut next = start;
@@ -135,6 +125,8 @@ pub fn after<S: Pages>(
     ensures cause { HasCause (S.state space.old) (S.state space.new) (fault_of result) }
     ensures fault { IfErr result (LookFault IsWalkCheck) }
     ensures page { IfErr result NamesMain }
+    ensures known { (pages : List ℕ) → IsChain (S.state space.old) table.now pages
+        → StandsOn pages at → IfErr result (LookFault IsPageCheck) }
     ensures level { IfErr result (IsBarred (S.state space.old) at) }
 {
     match at {

@@ -1,7 +1,6 @@
-use Rattle.hg_slot.proofs.Overwriting.{removed}
+use Rattle.hg_slot.proofs.Lowest.{emptied}
 use Rattle.hg_slot.proofs.change.empty.Goals as goal
 
-pub returns-in-Some : goal.returns-in-Some
-returns-in-Some c =
-    removed c.args.page.now c.set_zeros.new.page c.set_entry.new.page c.args.slot c.in-Some.entry.offset c.in-Some.entry.size
-    c.requires.slotted c.in-Some.ensures c.set_zeros.ensures c.set_entry.ensures
+pub returns : goal.returns
+returns c = emptied c.args.page.now c.erase.new.page c.set_number.new.page c.args.slot c.lowest_record-lowest.result
+    c.erase.ensures c.lowest_record-lowest.ensures.lowest c.lowest_record-lowest.ensures.inside c.set_number.ensures

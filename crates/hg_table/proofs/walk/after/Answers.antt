@@ -2,11 +2,13 @@ use Rattle.std.specs.Prelude.{◌≡◌, ℕ, ◌+◌, true, Option, Some, IfErr
 use Rattle.std.proofs.Common.{refl, sym, ◌∙◌, ap, subst}
 use Rattle.std.proofs.lemmas.Result.{IfOk-weaker, err_from_is_err_and}
 use Rattle.hg_base.specs.Space.{Space, key}
+use Rattle.hg_base.specs.LineLaws.{line_free}
 use Rattle.hg_base.specs.Lines.{has_page, pages_behind}
+use Rattle.hg_base.specs.declared.File.TheVariants.{Main}
 use Rattle.hg_base.specs.declared.Place.{Place}
 use Rattle.hg_base.specs.declared.Table.{Table}
 use Rattle.hg_table.specs.Places.{behind, first_place}
-use Rattle.hg_table.specs.Calls.{HasStart, IsBarred, StandsOn}
+use Rattle.hg_table.specs.Calls.{HasStart, IsBarred, LookFault, IsPageCheck, StandsOn}
 use Rattle.hg_table.specs.Steps.{IsNextSlot}
 use Rattle.hg_table.proofs.Following.{line_rest, stands_behind, table_line, rest_line, place_sound, start_on, first_of_table, next_here, next_behind}
 use Rattle.hg_table.proofs.walk.after.Goals as goal
@@ -80,3 +82,21 @@ returns-in_default-clause-next g c =
     (start_on a t columns pages versions c.in-Some.place table h) (c.next.ensures ∙ ap (λ p. b.next (key p)) c.main_page.ensures)))
     ∙ ap (λ (p : Option Place). first_place (behind pages p versions)) (sym c.in-Some.is))
     c.first_along-in-Some.ensures.first
+
+pub returns-in_err-slot-in-Some-clause-known : goal.returns-in_err-slot-in-Some-clause-known
+returns-in_err-slot-in-Some-clause-known g c = λ pages chain stands.
+    let a : Space = g.S.Pages.state c.args.space.now in
+    let on : has_page pages c.in-Some.place.page ≡ true = subst (StandsOn pages) c.in-Some.is stands in
+    let p = err_from_is_err_and c.from_residual.result c.from_residual.ensures.1 in
+    subst (λ r. IfErr r (LookFault IsPageCheck)) (sym p.1)
+    (subst (LookFault IsPageCheck) (sym p.2)
+    (c.in_err-slot-in-Some.ensures.known (line_free Main a c.args.table.now.first pages c.in-Some.place.page c.requires.out chain.line on)))
+
+pub returns-in_default-clause-known : goal.returns-in_default-clause-known
+returns-in_default-clause-known g c = λ pages chain stands.
+    let a : Space = g.S.Pages.state c.args.space.now in
+    let b : Space = g.S.Pages.state c.look.new.space in
+    let x : ℕ = c.in-Some.place.page in
+    let on : has_page pages x ≡ true = subst (StandsOn pages) c.in-Some.is stands in
+    c.first_along-in-Some.ensures.known (pages_behind pages x) (line_rest a b c.args.table.now pages x c.next.result c.in_ok-slot-in-Some.ensures.looks chain on
+    (c.next.ensures ∙ ap (λ p. b.next (key p)) c.main_page.ensures))

@@ -1,11 +1,12 @@
-use Rattle.std.specs.Prelude.{◌≡◌, ℕ, ◌+◌, true, Some, None}
+use Rattle.std.specs.Prelude.{◌≡◌, ℕ, ◌+◌, true, Some, None, IfErr}
+use Rattle.std.proofs.lemmas.Result.{err_from_is_err_and}
 use Rattle.std.proofs.Common.{sym, ◌∙◌, ap, subst, refl, arith}
 use Rattle.hg_base.specs.Space.{Space, key}
 use Rattle.hg_base.specs.Causes.{HasCause}
 use Rattle.hg_base.specs.SteadyLaws.{HasCause_none, HasCause_behind}
-use Rattle.hg_table.specs.Calls.{LookFault, IsWalkCheck}
+use Rattle.hg_table.specs.Calls.{LookFault, IsPageCheck, IsWalkCheck}
 use Rattle.hg_table.specs.Steps.{HoldsLine, IsNextSlot}
-use Rattle.hg_table.proofs.Walking.{IsOnWay, way_starts, way_passed, way_page, looks_same, passed_none, Passed, line_ended, line_found, line_passed, line_short, looks_then, next_page, next_sound, not_told}
+use Rattle.hg_table.proofs.Walking.{IsOnWay, way_starts, way_passed, way_page, looks_same, passed_none, Passed, line_ended, line_found, line_passed, line_short, looks_then, next_page, next_sound, not_told, HasTurns, turns_start, turns_passed, turns_over, way_free}
 use Rattle.hg_table.proofs.walk.first_along.Goals as goal
 
 pub returns-in_default-clause-first : goal.returns-in_default-clause-first
@@ -46,6 +47,7 @@ loop-turn-init g c =
       cause = HasCause_none a a refl;
       passed = λ h. passed_none a c.args.start h;
       way = λ pages line. way_starts a c.args.start pages line;
+      turns = λ pages line. turns_start a c.args.start pages line;
     }
 
 pub loop-turn-preserved : goal.loop-turn-preserved
@@ -58,6 +60,10 @@ loop-turn-preserved g c =
       looks = looks_then a b d c.loop-turn.invariant.looks c.in_ok-slot.ensures.looks;
       cause = HasCause_behind a b d None c.loop-turn.invariant.looks.steady.told c.loop-turn.invariant.cause
           c.in_ok-slot.ensures.cause;
+      turns = λ pages line. subst (λ o. HasTurns a o (c.loop-turn._turn + 1)) (sym (c.next-next.ensures ∙ ap (λ p. d.next (key p)) c.main_page.ensures))
+          (turns_passed a d x c.loop-turn._turn (looks_then a b d c.loop-turn.invariant.looks c.in_ok-slot.ensures.looks)
+          (way_page a pages x (subst (IsOnWay a pages) c.in-Some.is (c.loop-turn.invariant.way pages line))).plain
+          (subst (λ o. HasTurns a o c.loop-turn._turn) c.in-Some.is (c.loop-turn.invariant.turns pages line)));
       way = λ pages line. subst (IsOnWay a pages) (sym (c.next-next.ensures ∙ ap (λ p. d.next (key p)) c.main_page.ensures))
           (way_passed a d pages x (looks_then a b d c.loop-turn.invariant.looks c.in_ok-slot.ensures.looks)
           (subst (IsOnWay a pages) c.in-Some.is (c.loop-turn.invariant.way pages line)));
@@ -88,3 +94,19 @@ returns-in-Some-next-clause-cause g c =
 pub returns-in-Some-next-clause-fault : goal.returns-in-Some-next-clause-fault
 returns-in-Some-next-clause-fault g c =
     subst (LookFault IsWalkCheck) (sym c.damaged.ensures) tt
+
+pub returns-in_err-slot-clause-known : goal.returns-in_err-slot-clause-known
+returns-in_err-slot-clause-known g c = λ pages line.
+    let a : Space = g.S.Pages.state c.args.space.now in
+    let b : Space = g.S.Pages.state c.loop-turn.space in
+    let p = err_from_is_err_and c.from_residual.result c.from_residual.ensures.1 in
+    subst (λ r. IfErr r (LookFault IsPageCheck)) (sym p.1)
+    (subst (LookFault IsPageCheck) (sym p.2)
+    (c.in_err-slot.ensures.known (way_free a b c.args.start pages c.in-Some.no c.loop-turn.invariant.looks line
+    (subst (IsOnWay a pages) c.in-Some.is (c.loop-turn.invariant.way pages line)))))
+
+pub returns-in-Some-next-clause-known : goal.returns-in-Some-next-clause-known
+returns-in-Some-next-clause-known g c = λ pages line.
+    let a : Space = g.S.Pages.state c.args.space.now in
+    absurd (turns_over a c.in-Some-next.no c.loop-turn._turn (omega arith)
+    (subst (λ o. HasTurns a o c.loop-turn._turn) c.in-Some-next.is (c.loop-turn.invariant.turns pages line)))

@@ -3,7 +3,7 @@ use Rattle.std.specs.Prelude.{ℕ, List, None}
 use Rattle.hg_base.specs.Causes.{HasCause}
 use Rattle.hg_base.specs.Lines.{IsLine}
 use Rattle.hg_base.specs.declared.File.TheVariants.{Main}
-use Rattle.hg_table.proofs.Walking.{Passed, IsOnWay}
+use Rattle.hg_table.proofs.Walking.{Passed, IsOnWay, HasTurns}
 use Rattle.hg_table.proofs.walk.first_along.Given as goal
 
 abbrev pub invariant-loop-turn : goal.invariant-loop-turn
@@ -12,4 +12,5 @@ invariant-loop-turn g l = record {
   passed : (h : HoldsLine (g.S.Pages.state l.initial.space) l.initial.next) → Passed (g.S.Pages.state l.initial.space) l.initial.next h l.next l._turn;
   cause : HasCause (g.S.Pages.state l.initial.space) (g.S.Pages.state l.space) None;
   way : (pages : List ℕ) → IsLine Main (g.S.Pages.state l.initial.space) l.initial.next pages → IsOnWay (g.S.Pages.state l.initial.space) pages l.next;
+  turns : (pages : List ℕ) → IsLine Main (g.S.Pages.state l.initial.space) l.initial.next pages → HasTurns (g.S.Pages.state l.initial.space) l.next l._turn;
 }
