@@ -6,7 +6,7 @@ use Rattle.hg_base.specs.declared.PageId.{PageId}
 use Rattle.hg_pool.specs.Disks.{Disks}
 use Rattle.hg_pool.specs.Passing.{IsClean}
 use Rattle.hg_pool.specs.Work.{Asks, with_read, with_call, owed_by, owed_of}
-use Rattle.hg_pool.specs.declared.frames.Frame.{Frame}
+use Rattle.hg_pool.specs.Seen.{Frame}
 use Rattle.hg_pool.specs.declared.PoolCounts.{PoolCounts}
 
 pub owed-some : (x : Frame) (p : PageId) → x.page ≡ Some p → x.dirty ≡ true → owed_of x ≡ Some p.file

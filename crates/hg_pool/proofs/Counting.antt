@@ -1,5 +1,5 @@
 -- Counts of pages that are taken, and of frames that are pinned.
-use Rattle.std.specs.Prelude.{◌≡◌, ◌≢◌, ℕ, zero, suc, ◌+◌, ◌-◌, ◌<◌, ◌≤◌, Bool, true, false, List, [], ◌∷◌, length, if◌then◌else◌, slice_index_or, slice_set}
+use Rattle.std.specs.Prelude.{◌≡◌, ◌≢◌, ℕ, zero, suc, ◌+◌, ◌-◌, ◌<◌, ◌≤◌, ◌||◌, Bool, true, false, List, [], ◌∷◌, length, if◌then◌else◌, slice_index_or, slice_set}
 use Rattle.std.proofs.Common.{sym, ◌∙◌, ap, refl, arith, inl, inr}
 use Rattle.std.proofs.lemmas.Bool.Decides.{nat_tests, eqb_tells}
 use Rattle.std.proofs.lemmas.List.Sums.{sum_by-set, sum_by-cons}
@@ -12,8 +12,10 @@ use Rattle.hg_space.specs.PageMap.{PageMap, count_below}
 use Rattle.hg_pool.specs.Files.{by_key}
 use Rattle.hg_pool.specs.Keys.{by_key-main, by_key-temp}
 use Rattle.hg_pool.specs.Picture.{frame_at, no_frame}
-use Rattle.hg_pool.specs.Sound.{pins_of, pinned_in}
-use Rattle.hg_pool.specs.declared.frames.Frame.{Frame}
+use Rattle.hg_pool.specs.Sound.{pins_of, pinned_in, lent_by, lent_in}
+use Rattle.hg_pool.specs.Clocking.{is_busy}
+use Rattle.std.proofs.lemmas.Bool.{false≢true}
+use Rattle.hg_pool.specs.Seen.{Frame}
 
 -- the count of a map is that of the pages of its file
 pub count-main : (m t : PageMap) (n : ℕ) → count_below m n ≡ taken_below (by_key m.used t.used) Main n
@@ -49,19 +51,57 @@ counted-all taken file (suc n) e k l =
       | inr d ↦ (let apart : k ≢ n = d.1 in counted-all taken file n both.1 k (omega arith))
     ]
 
--- no more frames are pinned than there are, and as many where all are
-all-pinned : (frames : List Frame) → ((k : ℕ) → k < length frames → (frame_at frames k).pinned ≡ true) → pinned_in frames ≡ length frames
-all-pinned [] h = refl
-all-pinned (x ∷ xs) h =
-    let here : x.pinned ≡ true = h 0 (omega arith) in
-    let rest : pinned_in xs ≡ length xs = all-pinned xs (λ k l. h (suc k) (omega arith)) in
-    sum_by-cons pins_of x xs ∙ ap (λ b. (if b then 1 else 0) + pinned_in xs) here ∙ (let s : 1 + pinned_in xs ≡ suc (length xs) = omega arith in s)
+-- no more frames are out than pins hold or were handed out
+busy-one : (x : Frame) → is_busy x ≡ true → 1 ≤ pins_of x + lent_by x
+busy-one x h = each x.pinned x.lent h
+  where
+    each : (s t : Bool) → (s || t) ≡ true → 1 ≤ (if s then 1 else 0) + (if t then 1 else 0)
+    each true t e = omega arith
+    each false true e = omega arith
+    each false false e = absurd (false≢true e)
 
--- with few pins out not all frames are pinned
-pub some-free : (frames : List Frame) (pins : ℕ) → pinned_in frames ≡ pins → pins < 8 → 16 ≤ length frames
-    → ((k : ℕ) → 0 ≤ k → k < length frames → (frame_at frames k).pinned ≡ true) → ⊥
-some-free frames pins e few many h =
-    let all : pinned_in frames ≡ length frames = all-pinned frames (λ k l. h k (omega arith) l) in absurd (omega arith)
+all-busy : (frames : List Frame) → ((k : ℕ) → k < length frames → is_busy (frame_at frames k) ≡ true) → length frames ≤ pinned_in frames + lent_in frames
+all-busy [] h = omega arith
+all-busy (x ∷ xs) h =
+    let here = busy-one x (h 0 (omega arith)) in
+    let rest = all-busy xs (λ k l. h (suc k) (omega (arith, l))) in
+    let a = sum_by-cons pins_of x xs in let b = sum_by-cons lent_by x xs in omega (arith, here, rest, a, b)
+
+-- with few pins and few frames handed out not all frames are out
+pub some-free : (frames : List Frame) (pins lent : ℕ) → pinned_in frames ≡ pins → lent_in frames ≡ lent → pins + lent < length frames
+    → ((k : ℕ) → k < length frames → is_busy (frame_at frames k) ≡ true) → ⊥
+some-free frames pins lent e l few h = let all = all-busy frames h in absurd (omega (arith, all, e, l, few))
+
+-- where no frame is pinned, each is not
+pub none-pinned : (frames : List Frame) → pinned_in frames ≡ 0 → (f : ℕ) → (frame_at frames f).pinned ≡ false
+none-pinned [] e f = refl
+none-pinned (x ∷ xs) e zero = let a = sum_by-cons pins_of x xs in let n : pins_of x ≡ 0 = omega (arith, a, e) in none-of x.pinned n
+  where
+    none-of : (s : Bool) → ◌≡◌ {A = ℕ} (if s then 1 else 0) 0 → s ≡ false
+    none-of true h = absurd (omega (arith, h))
+    none-of false h = refl
+none-pinned (x ∷ xs) e (suc f) = let a = sum_by-cons pins_of x xs in none-pinned xs (omega (arith, a, e)) f
+
+pub lent-each : (frames : List Frame) → lent_in frames ≡ 0 → (f : ℕ) → (frame_at frames f).lent ≡ false
+lent-each [] e f = refl
+lent-each (x ∷ xs) e zero = let a = sum_by-cons lent_by x xs in let n : lent_by x ≡ 0 = omega (arith, a, e) in none-of x.lent n
+  where
+    none-of : (s : Bool) → ◌≡◌ {A = ℕ} (if s then 1 else 0) 0 → s ≡ false
+    none-of true h = absurd (omega (arith, h))
+    none-of false h = refl
+lent-each (x ∷ xs) e (suc f) = let a = sum_by-cons lent_by x xs in lent-each xs (omega (arith, a, e)) f
+
+pub pinned-none : (frames : List Frame) → ((f : ℕ) → (frame_at frames f).pinned ≡ false) → pinned_in frames ≡ 0
+pinned-none [] h = refl
+pinned-none (x ∷ xs) h =
+    let a = sum_by-cons pins_of x xs in let b = pinned-none xs (λ f. h (suc f)) in
+    let c : pins_of x ≡ 0 = ap (λ t. if t then 1 else 0) (h zero) in omega (arith, a, b, c)
+
+pub lent-none : (frames : List Frame) → ((f : ℕ) → (frame_at frames f).lent ≡ false) → lent_in frames ≡ 0
+lent-none [] h = refl
+lent-none (x ∷ xs) h =
+    let a = sum_by-cons lent_by x xs in let b = lent-none xs (λ f. h (suc f)) in
+    let c : lent_by x ≡ 0 = ap (λ t. if t then 1 else 0) (h zero) in omega (arith, a, b, c)
 
 -- the count after one frame changed
 pub pins-set : (frames : List Frame) (f : ℕ) (x : Frame) → f < length frames → pinned_in (slice_set frames f x) + pins_of (frame_at frames f) ≡ pinned_in frames + pins_of x
@@ -84,3 +124,11 @@ pins-less frames f x h was now =
 -- a frame that the code looks at is the one at its number
 pub frame-here : (frames : List Frame) (f : ℕ) (x : Frame) → f < length frames → x ≡ slice_index_or frames f x → x ≡ frame_at frames f
 frame-here frames f x h e = grind (arith, nat_tests, common_steps)
+
+-- the same of the frames that were handed out
+lent-set : (frames : List Frame) (f : ℕ) (x : Frame) → f < length frames → lent_in (slice_set frames f x) + lent_by (frame_at frames f) ≡ lent_in frames + lent_by x
+lent-set frames f x h = sum_by-set lent_by frames f x no_frame h
+
+pub lent-same : (frames : List Frame) (f : ℕ) (x : Frame) → f < length frames → x.lent ≡ (frame_at frames f).lent → lent_in (slice_set frames f x) ≡ lent_in frames
+lent-same frames f x h e =
+    let one : lent_by x ≡ lent_by (frame_at frames f) = ap (λ b. if b then 1 else 0) e in omega (arith, lent-set frames f x h)

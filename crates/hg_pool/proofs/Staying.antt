@@ -10,7 +10,7 @@ use Rattle.hg_pool.specs.Picture.{frame_at, place_at, is_in, is_key_of}
 use Rattle.hg_pool.specs.Keys.{at-other, is_key_of-other}
 use Rattle.hg_pool.specs.FrameLaws.{here-at, other-at, inside-of, page-of}
 use Rattle.hg_pool.specs.Shown.{in_frame, frame_of, SameFrames, SameFramesBut, KeepsFramesAll, KeepsFrames}
-use Rattle.hg_pool.specs.declared.frames.Frame.{Frame}
+use Rattle.hg_pool.specs.Seen.{Frame}
 use Rattle.hg_pool.specs.declared.places.Places.{Places}
 use Rattle.hg_pool.specs.declared.parts.Parts.{Parts}
 

@@ -1,5 +1,5 @@
--- What a change of one frame leaves of the pages that are in frames; and the laws that a write of the
--- bytes of a page leaves all of them, and the counts.
+-- What a change of one frame leaves of the pages that are in frames; and the laws that a write of the bytes of a page
+-- leaves all of them, the counts, the clock, and what is reserved and handed out.
 use Rattle.std.specs.Prelude.{◌≡◌, ◌≢◌, ℕ, ◌<◌, true, List, length, slice_set}
 use Rattle.std.proofs.Common.{sym, ◌∙◌, ap, refl, inl, inr}
 use Rattle.std.proofs.lemmas.Bool.Decides.{eqb_tells}
@@ -8,9 +8,10 @@ use Rattle.hg_base.specs.Space.{at, key}
 use Rattle.hg_base.specs.declared.PageId.{PageId}
 use Rattle.hg_pool.specs.Picture.{frame_at, place_at, is_in, is_key_of}
 use Rattle.hg_pool.specs.Keys.{at-here, at-other}
-use Rattle.hg_pool.specs.Loans.{after_write_of, written, frames-set, frame-in, and-left}
-use Rattle.hg_pool.specs.Shown.{state_of, in_frame, page_in, counts_of_pool, SameFrames}
-use Rattle.hg_pool.specs.declared.frames.Frame.{Frame}
+use Rattle.hg_pool.specs.Loans.{after_write_of, frames-set, frame-in, and-left}
+use Rattle.hg_pool.specs.Keeping.{written}
+use Rattle.hg_pool.specs.Shown.{state_of, in_frame, page_in, counts_of_pool, clock_of, SameStockOf, SameFrames}
+use Rattle.hg_pool.specs.Seen.{Frame}
 use Rattle.hg_pool.specs.declared.places.Places.{Places}
 use Rattle.hg_pool.specs.declared.parts.Parts.{Parts}
 
@@ -71,3 +72,9 @@ module _ {M T : Type 0} where
 
   pub counts-written : (s : Parts M T) (p : ℕ) (w : List ℕ) → counts_of_pool (after_write_of s p w) ≡ counts_of_pool s
   counts-written s p w = refl
+
+  pub clock-written : (s : Parts M T) (p : ℕ) (w : List ℕ) → clock_of (after_write_of s p w) ≡ clock_of s
+  clock-written s p w = refl
+
+  pub stock-written : (s : Parts M T) (p : ℕ) (w : List ℕ) → SameStockOf s (after_write_of s p w)
+  stock-written s p w = record { lent = refl; max = refl; region = refl }

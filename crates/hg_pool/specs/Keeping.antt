@@ -1,5 +1,5 @@
 -- What the calls on the parts of a pool leave of them. Our own rule.
-use Rattle.std.specs.Prelude.{◌≡◌, ℕ, ◌<◌, ◌≤◌, Bool, true, false, length, Option, None, Some}
+use Rattle.std.specs.Prelude.{◌≡◌, ℕ, ◌<◌, ◌≤◌, Bool, true, false, List, [], ◌∷◌, length, Option, None, Some, slice_set}
 use Rattle.std.specs.Vec.{with_item}
 use Rattle.hg_base.specs.Space.{at, key, key_in, zero_page}
 use Rattle.hg_base.specs.declared.File.{File}
@@ -7,7 +7,10 @@ use Rattle.hg_base.specs.declared.File.TheVariants.{Main, Temp}
 use Rattle.hg_base.specs.declared.PageId.{PageId}
 use Rattle.hg_pool.specs.Picture.{frame_at, place_at, places_in, room_in, taken_at, next_at, limit_of, is_in}
 use Rattle.hg_pool.specs.Sound.{AreSound}
-use Rattle.hg_pool.specs.declared.frames.Frame.{Frame}
+use Rattle.hg_pool.specs.Seen.{Frame, FramesSeen}
+use Rattle.hg_pool.specs.Clocking.{is_busy}
+use Rattle.hg_base.specs.Lending.{refit}
+use Rattle.hg_raw.specs.Frames.{ChainSeen, bytes_of}
 use Rattle.hg_pool.specs.declared.places.Places.{Places}
 use Rattle.hg_pool.specs.declared.maps.Maps.{Maps}
 use Rattle.hg_pool.specs.declared.store.Answers.{Answers}
@@ -59,13 +62,50 @@ pub record IsFoundAt (s : Store) (page : PageId) (f : ℕ) : Type 0 where
 abbrev pub is_inside : Store → ℕ → Bool
 is_inside s = is_in (frame_at s.frames.items) (place_at s.places)
 
+-- the frames with x in place of the frame f
+abbrev pub set_item : FramesSeen → ℕ → Frame → FramesSeen
+set_item s f x = record s { items = slice_set s.items f x }
+
+-- a frame with these bytes, which are newer than those on its device
+abbrev pub written : Frame → List ℕ → Frame
+written x w = record x { bytes = refit x.bytes w; dirty = true }
+
+abbrev pub write_item : FramesSeen → ℕ → List ℕ → FramesSeen
+write_item s f w = set_item s f (written (frame_at s.items f) w)
+
+-- the same frames are reserved, and as many are handed out
+pub record SameStock (a b : Store) : Type 0 where
+  pub lent : b.lent ≡ a.lent
+  pub max : b.frames.max ≡ a.frames.max
+  pub region : b.frames.region ≡ a.frames.region
+
 -- s with x in the frame f
 abbrev pub with_frame : Store → ℕ → Frame → Store
-with_frame s f x = record s { frames = with_item s.frames f x }
+with_frame s f x = record s { frames = set_item s.frames f x }
 
 -- a frame with a new page, which a pin holds
 abbrev pub new_frame : PageId → Frame
-new_frame page = record { bytes = zero_page; page = Some page; dirty = true; pinned = true }
+new_frame page = record { bytes = zero_page; page = Some page; dirty = true; pinned = true; lent = false }
+
+-- a chain of this frame alone
+abbrev pub IsJust : ChainSeen → ℕ → Type 0
+IsJust c f = c.frames ≡ (f, bytes_of c.frames f) ∷ []
+
+-- so many frames of no page, none of them out
+pub record AreEmpty (frames : List Frame) (n : ℕ) : Type 0 where
+  pub count : length frames ≡ n
+  pub none : (f : ℕ) → (frame_at frames f).page ≡ None
+  pub pinned : (f : ℕ) → (frame_at frames f).pinned ≡ false
+  pub lent : (f : ℕ) → (frame_at frames f).lent ≡ false
+
+-- Other frames are in use, n of them: those that were stay as they are, and those that come in have no page.
+pub record Resizes (a b : FramesSeen) (n : ℕ) : Type 0 where
+  pub count : length b.items ≡ n
+  pub kept : (f : ℕ) → f < n → f < length a.items → frame_at b.items f ≡ frame_at a.items f
+  pub none : (f : ℕ) → length a.items ≤ f → (frame_at b.items f).page ≡ None
+  pub free : (f : ℕ) → length a.items ≤ f → is_busy (frame_at b.items f) ≡ false
+  pub max : b.max ≡ a.max
+  pub region : b.region ≡ a.region
 
 -- an answer was counted
 abbrev pub counted : Answers → PageFault → Answers

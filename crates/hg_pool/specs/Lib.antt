@@ -1,15 +1,15 @@
 pub mod Files
 pub mod Disks
+pub mod Seen
 pub mod Picture
+pub mod Clocking
 pub mod Sound
 pub mod Keeping
 pub mod Keys
 pub mod Views
 pub mod Opening
-pub mod Round
 pub mod Shown
 pub mod Passing
 pub mod Work
 pub mod Loans
-pub mod RoundLaws
 pub mod FrameLaws

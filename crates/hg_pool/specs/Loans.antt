@@ -1,5 +1,5 @@
 -- What a loan of a page's bytes leaves of a pool.
-use Rattle.std.specs.Prelude.{◌≡◌, ◌≢◌, ℕ, ◌<◌, ◌&&◌, ◌||◌, Bool, true, false, List, length, Option, None, Some, if◌then◌else◌, slice_set}
+use Rattle.std.specs.Prelude.{◌≡◌, ◌≢◌, ℕ, ◌<◌, ◌&&◌, ◌||◌, not, Bool, true, false, List, length, Option, None, Some, if◌then◌else◌, slice_set}
 use Rattle.std.proofs.Common.{sym, ◌∙◌, ap, refl, arith, length-set}
 use Rattle.std.proofs.lemmas.Bool.Decides.{nat_tests}
 use Rattle.std.proofs.lemmas.Grind.{common_steps}
@@ -8,18 +8,14 @@ use Rattle.hg_base.specs.Lending.{refit}
 use Rattle.hg_base.specs.Space.{at, with_bytes}
 use Rattle.hg_base.specs.Changes.{items-set}
 use Rattle.hg_pool.specs.Disks.{Disks}
-use Rattle.hg_pool.specs.Picture.{Picture, frame_at, place_at, picture_of, shown, is_in, is_pinned, bytes_told, is_key_of, no_frame}
-use Rattle.hg_pool.specs.Keeping.{with_frame}
+use Rattle.hg_pool.specs.Picture.{Picture, frame_at, place_at, picture_of, shown, is_in, is_pinned, is_lent, bytes_told, is_key_of, no_frame}
+use Rattle.hg_pool.specs.Keeping.{with_frame, written}
 use Rattle.hg_pool.specs.Shown.{state_of, disks_of}
 use Rattle.hg_pool.specs.Keys.{at-here, is_key_of-true, is_key_of-other}
-use Rattle.hg_pool.specs.Views.{SameAt, same-pins, pinned_by, held_by, bytes-at, away}
-use Rattle.hg_pool.specs.declared.frames.Frame.{Frame}
+use Rattle.hg_pool.specs.Views.{SameAt, same-pins, same-lent, pinned_by, out_by, held_by, bytes-at, away}
+use Rattle.hg_pool.specs.Seen.{Frame}
 use Rattle.hg_pool.specs.declared.store.Store.{Store}
 use Rattle.hg_pool.specs.declared.parts.Parts.{Parts}
-
--- a frame with these bytes, which are newer than those on its device
-abbrev pub written : Frame → List ℕ → Frame
-written x w = record x { bytes = refit x.bytes w; dirty = true }
 
 -- the page with that key has these bytes in its frame
 abbrev pub with_written : Store → ℕ → List ℕ → Store
@@ -51,14 +47,15 @@ or-true : (t : Bool) → (t || true) ≡ true
 or-true true = refl
 or-true false = refl
 
-told-some : (t s : Bool) (x b : List ℕ) → (if t && s then Some x else None) ≡ Some b → (t ≡ true) × (x ≡ b)
-told-some true true x b e = (refl, cc)
-told-some true false x b e = let n : ◌≡◌ {A = Option (List ℕ)} None (Some b) = e in absurd (cc)
-told-some false s x b e = let n : ◌≡◌ {A = Option (List ℕ)} None (Some b) = e in absurd (cc)
+told-some : (t s l : Bool) (x b : List ℕ) → (if t && (s && not l) then Some x else None) ≡ Some b → (t ≡ true) × (l ≡ false) × (x ≡ b)
+told-some true true false x b e = (refl, refl, cc)
+told-some true true true x b e = let n : ◌≡◌ {A = Option (List ℕ)} None (Some b) = e in absurd (cc)
+told-some true false l x b e = let n : ◌≡◌ {A = Option (List ℕ)} None (Some b) = e in absurd (cc)
+told-some false s l x b e = let n : ◌≡◌ {A = Option (List ℕ)} None (Some b) = e in absurd (cc)
 
 -- what a frame at the place of a page shows of it
 abbrev shown_by : Bool → Bool → ℕ → (ℕ → List ℕ) → Frame → Option (List ℕ)
-shown_by told taken q page z = if taken && (told || pinned_by q z) then Some (held_by q page z) else None
+shown_by told taken q page z = if taken && ((told || pinned_by q z) && not (out_by q z)) then Some (held_by q page z) else None
 
 -- other bytes of a page that a pin holds, as many as before
 pub shown-written : (a : Picture) (p : ℕ) (b w : List ℕ) → bytes_told a p ≡ Some b → is_pinned a.frame a.place p ≡ true → length w ≡ length b
@@ -70,20 +67,22 @@ shown-written a p b w told out long =
     let here : c.frame (c.place p) ≡ x = at-here a.frame (a.place p) x in
     let inside : is_key_of p y.page ≡ true = and-left (is_key_of p y.page) y.pinned out in
     let r = is_key_of-true p y.page inside in
-    let both = told-some (a.taken p) (a.told || is_pinned a.frame a.place p) (held_by p a.page y) b told in
-    let bytes : y.bytes ≡ b = sym (ap (λ k. if k then y.bytes else a.page p) inside) ∙ both.1 in
+    let all = told-some (a.taken p) (a.told || is_pinned a.frame a.place p) (is_lent a.frame a.place p) (held_by p a.page y) b told in
+    let bytes : y.bytes ≡ b = sym (ap (λ k. if k then y.bytes else a.page p) inside) ∙ all.2 in
     let fits : refit y.bytes w ≡ w = refit-whole y.bytes w (long ∙ ap length (sym bytes)) in
     let others : (q : ℕ) → q ≢ p → SameAt a c q = λ q apart.
     let other : is_key_of q y.page ≡ false = ap (is_key_of q) r.1 ∙ is_key_of-other q r.0 (λ e. apart (e ∙ r.2)) in
     away a c (a.place p) x q refl refl (λ t. refl) other other in λ i. record (shown c) {
       bytes = λ q. bytes-at a c p (Some w) refl (λ k _. refl) others
           (ap (shown_by a.told (a.taken p) p a.page) here
-          ∙ ap (λ s. if s && (a.told || pinned_by p x) then Some (held_by p a.page x) else None) both.0
-          ∙ ap (λ s. if a.told || s then Some (held_by p a.page x) else None) out
-          ∙ ap (λ s. if s then Some (held_by p a.page x) else None) (or-true a.told)
+          ∙ ap (λ s. if s && ((a.told || pinned_by p x) && not (out_by p x)) then Some (held_by p a.page x) else None) all.0
+          ∙ ap (λ s. if (a.told || pinned_by p x) && not s then Some (held_by p a.page x) else None) all.1
+          ∙ ap (λ s. if (a.told || s) && true then Some (held_by p a.page x) else None) out
+          ∙ ap (λ s. if s && true then Some (held_by p a.page x) else None) (or-true a.told)
           ∙ ap (λ s. Some (if s then refit y.bytes w else a.page p)) inside
           ∙ ap Some fits) q i;
       pinned = λ q. same-pins a c p others (ap (pinned_by p) here) q i;
+      of_heap = λ q. same-lent a c p others (ap (out_by p) here) q i;
     }
 
 module _ {M T : Type 0} where

@@ -1,6 +1,6 @@
 -- A pool that is opened. Our own rule.
 use Rattle.std.specs.Prelude.{◌≡◌, ℕ, ◌≤◌, false, None, replicate, vec_capacity}
-use Rattle.hg_base.specs.Space.{Space, zero_page}
+use Rattle.hg_base.specs.Space.{Space}
 use Rattle.hg_base.specs.declared.File.{File}
 use Rattle.hg_base.specs.declared.File.TheVariants.{Main, Temp}
 use Rattle.hg_pool.specs.Disks.{Disks, all_told, pages_in}
@@ -8,13 +8,10 @@ use Rattle.hg_pool.specs.Picture.{no_heaps}
 use Rattle.hg_space.specs.Shown.{pages_of}
 use Rattle.hg_space.specs.PageMap as map
 use Rattle.hg_pool.specs.declared.store.Store.{Store}
-use Rattle.hg_pool.specs.declared.frames.Frame.{Frame}
+use Rattle.hg_clock.specs.Clock.{ClockState}
+use Rattle.hg_pool.specs.Keeping.{AreEmpty}
 use Rattle.hg_pool.specs.declared.Config.{Config}
 use Rattle.hg_pool.specs.declared.PoolCounts.{PoolCounts}
-
--- a frame that no page ever used
-abbrev pub empty_frame : Frame
-empty_frame = record { bytes = zero_page; page = None; dirty = false; pinned = false }
 
 -- what an engine may be opened with, over devices of so many pages
 pub record IsPossible (c : Config) (main temp : ℕ) : Type 0 where
@@ -54,16 +51,22 @@ new_space c d = record {
 abbrev pub no_counts : PoolCounts
 no_counts = record { reads = 0; writes = 0; evictions = 0 }
 
+-- no frame is out or was used, and the hand stands at the first one
+abbrev pub first_clock : ℕ → ClockState
+first_clock max = record { scores = replicate max 0; out = replicate max false; hand = 0 }
+
 -- what a new pool keeps
 pub record IsNewStore (c : Config) (s : Store) : Type 0 where
-  pub frames : s.frames.items ≡ replicate c.pool empty_frame
+  pub frames : AreEmpty s.frames.items c.pool
+  pub max : s.frames.max ≡ c.max
+  pub clock : s.clock ≡ first_clock c.max
   pub main_room : c.main_pages ≤ vec_capacity s.places.main
   pub temp_room : c.temp_pages ≤ vec_capacity s.places.temp
   pub main_map : pages_of s.maps.main ≡ map.unused_pages c.main_pages
   pub temp_map : pages_of s.maps.temp ≡ map.unused_pages c.temp_pages
   pub main_sound : map.IsSound (pages_of s.maps.main)
   pub temp_sound : map.IsSound (pages_of s.maps.temp)
-  pub hand : s.hand ≡ 0
   pub pins : s.pins ≡ 0
+  pub lent : s.lent ≡ 0
   pub answers : s.answers ≡ record { main = 0; temp = 0; main_full = 0; temp_full = 0 }
   pub counts : s.counts ≡ no_counts

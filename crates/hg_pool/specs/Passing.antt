@@ -1,5 +1,5 @@
 -- A step of a pool that changes nothing of what it shows but counts, or fails by a device. Our own rule.
-use Rattle.std.specs.Prelude.{◌≡◌, ℕ, ◌<◌, ◌≤◌, false, length, None, Some, Result, IfErr}
+use Rattle.std.specs.Prelude.{◌≡◌, ℕ, ◌+◌, ◌<◌, ◌≤◌, false, length, None, Some, Result, IfErr}
 use Rattle.hg_io.specs.declared.device.PageDevice.{Ghosts}
 use Rattle.hg_base.specs.Space.{IsSame}
 use Rattle.hg_base.specs.Causes.{Later, PinFault, counts_after, fault_of}
@@ -8,10 +8,9 @@ use Rattle.hg_base.specs.declared.pages.PageFault.{PageFault}
 use Rattle.hg_pool.specs.Disks.{Disks}
 use Rattle.hg_pool.specs.Picture.{shown, picture_of, counts_of, frame_at}
 use Rattle.hg_pool.specs.Sound.{IsSound}
-use Rattle.hg_pool.specs.Keeping.{is_inside}
-use Rattle.hg_pool.specs.Round.{Round, IsNext, behind}
+use Rattle.hg_pool.specs.Keeping.{is_inside, SameStock}
 use Rattle.hg_pool.specs.Shown.{disks_of}
-use Rattle.hg_pool.specs.declared.frames.Frame.{Frame}
+use Rattle.hg_pool.specs.Seen.{Frame}
 use Rattle.hg_pool.specs.declared.store.Answers.{Answers}
 use Rattle.hg_pool.specs.declared.store.Store.{Store}
 use Rattle.hg_pool.specs.declared.parts.Parts.{Parts}
@@ -22,6 +21,7 @@ pub record Passes {X : Type 0} (d : Disks) (s : Store) (e : Disks) (z : Store) (
   pub later : Later (counts_of d s) (counts_of e z)
   pub counts : counts_of e z ≡ counts_after (counts_of d s) (fault_of r)
   pub fault : IfErr r PinFault
+  pub stock : SameStock s z
 
 -- the same of the parts of a pool
 abbrev pub PassesParts : {M T X : Type 0} → Ghosts M → Ghosts T → Parts M T → Parts M T → Result X PageFault → Type 0
@@ -47,17 +47,17 @@ pub record Clears (s z : Store) : Type 0 where
 abbrev pub IsClean : Frame → Type 0
 IsClean x = (p : PageId) → x.page ≡ Some p → x.dirty ≡ false
 
--- a frame of no page, which no pin holds
+-- a frame of no page, which is not out
 pub record IsRoom (s : Store) (f : ℕ) : Type 0 where
   pub there : f < length s.frames.items
   pub none : (frame_at s.frames.items f).page ≡ None
   pub free : (frame_at s.frames.items f).pinned ≡ false
+  pub home : (frame_at s.frames.items f).lent ≡ false
 
 -- no frame has a page
 abbrev pub AreEmpty : Store → Type 0
 AreEmpty s = (f : ℕ) → (frame_at s.frames.items f).page ≡ None
 
--- the hand came to f next, and stands behind it
-pub record Reaches (a b : Round) (f : ℕ) : Type 0 where
-  pub next : IsNext a f
-  pub after : b ≡ behind a f
+-- not all frames are out
+abbrev pub HasRoom : Store → Type 0
+HasRoom s = s.pins + s.lent < length s.frames.items

@@ -1,6 +1,6 @@
 -- What a pool comes down to, as functions of the key of a page and of the number of a frame, and the
 -- space that it shows. Our own rule.
-use Rattle.std.specs.Prelude.{ℕ, ◌==◌, ◌&&◌, ◌||◌, Bool, false, List, [], length, Option, None, Some, if◌then◌else◌, slice_index_or, vec_capacity}
+use Rattle.std.specs.Prelude.{ℕ, ◌==◌, ◌&&◌, ◌||◌, not, Bool, false, List, [], length, Option, None, Some, if◌then◌else◌, slice_index_or, vec_capacity}
 use Rattle.hg_base.specs.Content.{Heaps}
 use Rattle.hg_base.specs.Space.{Space, Counts, key}
 use Rattle.hg_base.specs.declared.File.{File}
@@ -9,14 +9,14 @@ use Rattle.hg_base.specs.declared.PageId.{PageId}
 use Rattle.hg_space.specs.Shown.{pages_of}
 use Rattle.hg_pool.specs.Files.{by_key}
 use Rattle.hg_pool.specs.Disks.{Disks, all_told, page_on, pages_in}
-use Rattle.hg_pool.specs.declared.frames.Frame.{Frame}
+use Rattle.hg_pool.specs.Seen.{Frame}
 use Rattle.hg_pool.specs.declared.places.Places.{Places}
 use Rattle.hg_pool.specs.declared.maps.Maps.{Maps}
 use Rattle.hg_pool.specs.declared.store.Store.{Store}
 
 -- the frame that is not there
 abbrev pub no_frame : Frame
-no_frame = record { bytes = []; page = None; dirty = false; pinned = false }
+no_frame = record { bytes = []; page = None; dirty = false; pinned = false; lent = false }
 
 abbrev pub frame_at : List Frame → ℕ → Frame
 frame_at frames f = slice_index_or frames f no_frame
@@ -71,13 +71,19 @@ is_in frame place q = is_key_of q (frame (place q)).page
 abbrev pub is_pinned : (ℕ → Frame) → (ℕ → ℕ) → ℕ → Bool
 is_pinned frame place q = is_in frame place q && (frame (place q)).pinned
 
+abbrev pub is_lent : (ℕ → Frame) → (ℕ → ℕ) → ℕ → Bool
+is_lent frame place q = is_in frame place q && (frame (place q)).lent
+
 -- what a page holds: its frame's bytes, or what stands on its device
 abbrev pub held_in : (ℕ → Frame) → (ℕ → ℕ) → (ℕ → List ℕ) → ℕ → List ℕ
 held_in frame place page q = if is_in frame place q then (frame (place q)).bytes else page q
 
--- the bytes of a page are told where it is taken, and pinned or the devices tell
+-- the bytes of a page that was not handed out are told where it is taken, and pinned or the devices tell
+abbrev pub tells : Picture → ℕ → Bool
+tells v q = (v.told || is_pinned v.frame v.place q) && not (is_lent v.frame v.place q)
+
 abbrev pub bytes_told : Picture → ℕ → Option (List ℕ)
-bytes_told v q = if v.taken q && (v.told || is_pinned v.frame v.place q) then Some (held_in v.frame v.place v.page q) else None
+bytes_told v q = if v.taken q && tells v q then Some (held_in v.frame v.place v.page q) else None
 
 -- no heaps, and the numbers of a pool that has none
 abbrev pub no_heaps : ℕ → Heaps
@@ -93,7 +99,7 @@ shown v = record {
   pinned = is_pinned v.frame v.place;
   pins = v.pins;
   next = v.next;
-  of_heap = λ _. false;
+  of_heap = is_lent v.frame v.place;
   heaps = no_heaps v.current;
   counts = v.counts;
 }

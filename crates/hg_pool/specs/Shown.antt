@@ -8,7 +8,8 @@ use Rattle.hg_base.specs.declared.pages.PageFault.{PageFault}
 use Rattle.hg_base.specs.declared.PageId.{PageId}
 use Rattle.hg_pool.specs.Disks.{Disks, disks_in}
 use Rattle.hg_pool.specs.Picture.{shown, picture_of, is_in, frame_at, place_at}
-use Rattle.hg_pool.specs.Round.{Round, IsNext, round_in}
+use Rattle.hg_clock.specs.Clock.{ClockState, Takes}
+use Rattle.hg_pool.specs.Keeping.{SameStock}
 use Rattle.hg_pool.specs.Sound.{IsSound}
 use Rattle.hg_pool.specs.Work.{Asks, owed_of, evicted, IsFaultOf}
 use Rattle.hg_pool.specs.declared.PoolCounts.{PoolCounts}
@@ -51,9 +52,17 @@ module _ {M T : Type 0} where
   abbrev pub counts_of_pool : Parts M T → PoolCounts
   counts_of_pool s = s.store.counts
 
-  -- the round over the frames
-  abbrev pub round_of : Parts M T → Round
-  round_of s = round_in s.store
+  -- the clock over the frames
+  abbrev pub clock_of : Parts M T → ClockState
+  clock_of s = s.store.clock
+
+  -- how many frames are reserved
+  abbrev pub max_of : Parts M T → ℕ
+  max_of s = s.store.frames.max
+
+  -- the same frames are reserved, and as many are handed out
+  abbrev pub SameStockOf : Parts M T → Parts M T → Type 0
+  SameStockOf a b = SameStock a.store b.store
 
   -- no device was called: both are as they were
   pub record CalledNone (a b : Parts M T) : Type 0 where
@@ -94,21 +103,21 @@ module _ {M T : Type 0} where
   abbrev pub Asked : Ghosts M → Ghosts T → Parts M T → Parts M T → Option File → Option File → Type 0
   Asked m t a b written read = Asks (disks_of m t a) a.store.counts (disks_of m t b) b.store.counts written read
 
-  -- The write of the page of the next frame failed, so that the page did not leave it: each page is in the frame that
+  -- The write of the page of the victim failed, so that the page did not leave its frame: each page is in the frame that
   -- it was in.
   pub record StaysIn (m : Ghosts M) (t : Ghosts T) (a b : Parts M T) (fault : PageFault) : Type 0 where
     pub frame : ℕ
-    pub next : IsNext (round_of a) frame
+    pub takes : Takes (current_of a) (clock_of a) frame (clock_of b)
     pub fails : IsFaultOf (owed a frame) fault
     pub asked : Asked m t a b (owed a frame) None
     pub frames : SameFrames a b
     pub evictions : b.store.counts.evictions ≡ a.store.counts.evictions
 
-  -- The read of a page into the next frame failed: the page that was there had left it, after it was written where
+  -- The read of a page into the victim's frame failed: the page that was there had left it, after it was written where
   -- that was owed. Each other page is in the frame that it was in, and none came in.
   pub record Leaves (m : Ghosts M) (t : Ghosts T) (a b : Parts M T) (page : PageId) (fault : PageFault) : Type 0 where
     pub frame : ℕ
-    pub next : IsNext (round_of a) frame
+    pub takes : Takes (current_of a) (clock_of a) frame (clock_of b)
     pub fails : fault ≡ device_fault page.file
     pub asked : Asked m t a b (owed a frame) (Some page.file)
     pub empty : page_in b frame ≡ None

@@ -8,7 +8,7 @@ use Rattle.hg_base.specs.declared.File.TheVariants.{Main, Temp}
 use Rattle.hg_base.specs.declared.PageId.{PageId}
 use Rattle.hg_base.specs.declared.pages.PageFault.{PageFault}
 use Rattle.hg_pool.specs.Disks.{Disks}
-use Rattle.hg_pool.specs.declared.frames.Frame.{Frame}
+use Rattle.hg_pool.specs.Seen.{Frame}
 use Rattle.hg_pool.specs.declared.PoolCounts.{PoolCounts}
 
 -- how often each device was asked, by its own counts

@@ -9,14 +9,16 @@ impl<M: PageDevice, T: PageDevice> Parts<M, T> {
     ghost use Rattle.hg_base.specs.Space.{key, IsPinned, IsMade, IsSame, IsFull, without_pin, without_page, with_next};
     ghost use Rattle.hg_base.specs.Causes.{HasCause, PinFault, FreshFault, fault_of, full_fault};
     ghost use Rattle.hg_pool.specs.Picture.{frame_at, place_at, taken_at, is_pinned};
-    ghost use Rattle.hg_pool.specs.Round.{Stays, ComesIn, PassesNext, without_out};
-    ghost use Rattle.hg_pool.specs.Shown.{state_of, IsWhole, in_frame, frame_of, page_in, round_of, SameFrames, SameFramesBut, KeepsFrames, owed, Asked, StaysIn, IsRefused};
+    ghost use Rattle.hg_clock.specs.Clock.{score_of};
+    ghost use Rattle.hg_pool.specs.Clocking.{ComesIn, used, back, forgotten};
+    ghost use Rattle.hg_pool.specs.Shown.{state_of, IsWhole, in_frame, frame_of, page_in, clock_of, current_of, SameStockOf, SameFrames, SameFramesBut, KeepsFrames, owed, Asked, StaysIn, IsRefused};
     ghost use Rattle.hg_pool.specs.Work.{IsLowest, IsUnused, CallsNone, evicted};
 
     pub(crate) fn pin(&mut self, page: PageId) -> Result<(), PageFault>
         requires whole { IsWhole M.PageDevice T.PageDevice self.old }
         requires taken { (state_of M.PageDevice T.PageDevice self.old).taken (key page) ≡ true }
         requires not_pinned { (state_of M.PageDevice T.PageDevice self.old).pinned (key page) ≡ false }
+        requires no_heap { (state_of M.PageDevice T.PageDevice self.old).of_heap (key page) ≡ false }
         requires few { self.old.store.pins < 8 }
         ensures whole { IsWhole M.PageDevice T.PageDevice self.new }
         ensures ok { OnOk result (IsPinned (state_of M.PageDevice T.PageDevice self.old) (state_of M.PageDevice T.PageDevice self.new) (key page)) }
@@ -28,10 +30,11 @@ impl<M: PageDevice, T: PageDevice> Parts<M, T> {
         ensures asked { OnOk result (in_frame self.old page ≡ false
             → Asked M.PageDevice T.PageDevice self.old self.new (owed self.old (frame_of self.new page)) (Some page.file)) }
         ensures refused { IfErr result (IsRefused M.PageDevice T.PageDevice self.old self.new page) }
-        ensures stays { OnOk result (in_frame self.old page ≡ true → Stays (round_of self.old) (round_of self.new)
-            (frame_of self.old page) (frame_of self.new page)) }
-        ensures comes { OnOk result (in_frame self.old page ≡ false → ComesIn (round_of self.old) (round_of self.new) (frame_of self.new page)) }
-        ensures passes_next { OnErr result (PassesNext (round_of self.old) (round_of self.new)) }
+        ensures used { OnOk result (in_frame self.old page ≡ true → clock_of self.new ≡ used (clock_of self.old) (frame_of self.old page)) }
+        ensures comes { OnOk result (in_frame self.old page ≡ false
+            → ComesIn (current_of self.old) (clock_of self.old) (clock_of self.new) (frame_of self.new page)) }
+        ensures score { OnOk result (score_of (clock_of self.new) (frame_of self.new page) ≡ 7) }
+        ensures stock { SameStockOf self.old self.new }
         ensures no_call { in_frame self.old page ≡ true → self.new.devices ≡ self.old.devices }
         ensures stays_ok { in_frame self.old page ≡ true → IsOk result }
         ensures keeps_frames { OnOk result (KeepsFrames self.old self.new page (frame_of self.new page)) }
@@ -64,9 +67,10 @@ impl<M: PageDevice, T: PageDevice> Parts<M, T> {
         ensures refused { IfErr result (λ fault. (IsFull (state_of M.PageDevice T.PageDevice self.old) file → ⊥)
             → StaysIn M.PageDevice T.PageDevice self.old self.new fault) }
         ensures full_work { IsFull (state_of M.PageDevice T.PageDevice self.old) file → self.new.store.counts ≡ self.old.store.counts }
-        ensures full_round { IsFull (state_of M.PageDevice T.PageDevice self.old) file → round_of self.new ≡ round_of self.old }
-        ensures comes { IfOk result (λ page. ComesIn (round_of self.old) (round_of self.new) (frame_of self.new page)) }
-        ensures passes_next { OnErr result ((IsFull (state_of M.PageDevice T.PageDevice self.old) file → ⊥) → PassesNext (round_of self.old) (round_of self.new)) }
+        ensures full_clock { IsFull (state_of M.PageDevice T.PageDevice self.old) file → clock_of self.new ≡ clock_of self.old }
+        ensures comes { IfOk result (λ page. ComesIn (current_of self.old) (clock_of self.old) (clock_of self.new) (frame_of self.new page)) }
+        ensures score { IfOk result (λ page. score_of (clock_of self.new) (frame_of self.new page) ≡ 7) }
+        ensures stock { SameStockOf self.old self.new }
         ensures unused { IsUnused (state_of M.PageDevice T.PageDevice self.old) → CallsNone self.old.devices.main self.new.devices.main
             self.old.devices.temp self.new.devices.temp result (full_fault file) }
         ensures full_calls_none { IsFull (state_of M.PageDevice T.PageDevice self.old) file → self.new.devices ≡ self.old.devices }
@@ -103,7 +107,8 @@ impl<M: PageDevice, T: PageDevice> Parts<M, T> {
         ensures cause { HasCause (state_of M.PageDevice T.PageDevice self.old) (state_of M.PageDevice T.PageDevice self.new) (Some result) }
         ensures fault { FreshFault file (state_of M.PageDevice T.PageDevice self.old) result }
         ensures counts { self.new.store.counts ≡ self.old.store.counts }
-        ensures round { round_of self.new ≡ round_of self.old }
+        ensures clock { clock_of self.new ≡ clock_of self.old }
+        ensures stock { SameStockOf self.old self.new }
         ensures no_call { self.new.devices ≡ self.old.devices }
         ensures frames { SameFrames self.old self.new }
     {
@@ -134,7 +139,8 @@ impl<M: PageDevice, T: PageDevice> Parts<M, T> {
         requires pinned { (state_of M.PageDevice T.PageDevice self.old).pinned (key page) ≡ true }
         ensures whole { IsWhole M.PageDevice T.PageDevice self.new }
         ensures after { state_of M.PageDevice T.PageDevice self.new ≡ without_pin (state_of M.PageDevice T.PageDevice self.old) (key page) }
-        ensures round { round_of self.new ≡ without_out (round_of self.old) (frame_of self.old page) }
+        ensures clock { clock_of self.new ≡ back (clock_of self.old) (frame_of self.old page) }
+        ensures stock { SameStockOf self.old self.new }
         ensures frames { SameFrames self.old self.new }
         ensures counts { self.new.store.counts ≡ self.old.store.counts }
         ensures no_call { self.new.devices ≡ self.old.devices }
@@ -147,16 +153,19 @@ impl<M: PageDevice, T: PageDevice> Parts<M, T> {
         requires whole { IsWhole M.PageDevice T.PageDevice self.old }
         requires taken { (state_of M.PageDevice T.PageDevice self.old).taken (key page) ≡ true }
         requires not_pinned { (state_of M.PageDevice T.PageDevice self.old).pinned (key page) ≡ false }
+        requires no_heap { (state_of M.PageDevice T.PageDevice self.old).of_heap (key page) ≡ false }
         ensures whole { IsWhole M.PageDevice T.PageDevice self.new }
         ensures after { state_of M.PageDevice T.PageDevice self.new ≡ without_page (state_of M.PageDevice T.PageDevice self.old) (key page) }
-        ensures round { round_of self.new ≡ round_of self.old }
+        ensures forgets { in_frame self.old page ≡ true → clock_of self.new ≡ forgotten (clock_of self.old) (frame_of self.old page) }
+        ensures keeps_clock { in_frame self.old page ≡ false → clock_of self.new ≡ clock_of self.old }
+        ensures stock { SameStockOf self.old self.new }
         ensures frames { SameFramesBut self.old self.new page }
         ensures counts { self.new.store.counts ≡ self.old.store.counts }
         ensures no_call { self.new.devices ≡ self.old.devices }
     {
         match self.store.find(page) {
             Some(at) => {
-                self.store.set_empty(at);
+                self.store.forget(at);
                 self.store.maps.release(page);
             }
             None => self.store.maps.release(page),
@@ -168,7 +177,8 @@ impl<M: PageDevice, T: PageDevice> Parts<M, T> {
         requires taken { (state_of M.PageDevice T.PageDevice self.old).taken (key page) ≡ true }
         ensures whole { IsWhole M.PageDevice T.PageDevice self.new }
         ensures after { state_of M.PageDevice T.PageDevice self.new ≡ with_next (state_of M.PageDevice T.PageDevice self.old) (key page) next }
-        ensures round { round_of self.new ≡ round_of self.old }
+        ensures clock { clock_of self.new ≡ clock_of self.old }
+        ensures stock { SameStockOf self.old self.new }
         ensures frames { SameFrames self.old self.new }
         ensures counts { self.new.store.counts ≡ self.old.store.counts }
         ensures no_call { self.new.devices ≡ self.old.devices }

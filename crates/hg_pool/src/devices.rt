@@ -1,8 +1,8 @@
 //! The two devices.
 ghost use Rattle.std.specs.Prelude.{◌≡◌, MatchResult};
 
-use crate::frames::Frame;
-use hg_base::{File, PageFault, PageId};
+use crate::frames::Frames;
+use hg_base::{File, FrameNo, PageFault, PageId};
 use hg_io::{Failed, PageDevice};
 
 /// The answer of a device, with the fault that it stands for.
@@ -22,9 +22,12 @@ pub(crate) struct Devices<M, T> {
 }
 
 impl<M: PageDevice, T: PageDevice> Devices<M, T> {
-    ghost use Rattle.std.specs.Prelude.{◌≡◌, ◌<◌, true, Some, length, OnOk, IfErr};
+    ghost use Rattle.std.specs.Prelude.{◌≡◌, ◌<◌, true, false, Some, length, OnOk, IfErr};
     ghost use Rattle.hg_base.specs.Space.{key};
     ghost use Rattle.hg_pool.specs.Disks.{disks_in, pages_in, page_on, all_told, SamePages, SameButOne, DeviceCause};
+    ghost use Rattle.hg_pool.specs.Clocking.{is_busy};
+    ghost use Rattle.hg_pool.specs.Picture.{frame_at};
+    ghost use Rattle.hg_pool.specs.Keeping.{set_item};
     ghost use Rattle.hg_pool.specs.Work.{calls_in, with_read, with_write, IsFaultOf};
 
     /// Puts the page's bytes into `bytes`.
@@ -46,19 +49,29 @@ impl<M: PageDevice, T: PageDevice> Devices<M, T> {
     }
 
     /// Reads the page into the frame's bytes.
-    pub(crate) fn fill(&mut self, page: PageId, frame: &mut Frame) -> Result<(), PageFault>
+    pub(crate) fn fill(
+        &mut self,
+        page: PageId,
+        frames: &mut Frames,
+        at: usize,
+    ) -> Result<(), PageFault>
         requires in_range { page.no < pages_in (disks_in M.PageDevice T.PageDevice self.old) page.file }
-        ensures rest { frame.new ≡ record frame.old { bytes = frame.new.bytes } }
-        ensures whole { length frame.new.bytes ≡ 4096 }
+        requires there { at < length frames.old.items }
+        requires free { is_busy (frame_at frames.old.items at) ≡ false }
+        ensures rest { frames.new ≡ set_item frames.old at (record (frame_at frames.old.items at) { bytes = (frame_at frames.new.items at).bytes }) }
+        ensures whole { length (frame_at frames.new.items at).bytes ≡ 4096 }
         ensures gives { OnOk result (all_told (disks_in M.PageDevice T.PageDevice self.old) ≡ true
-            → frame.new.bytes ≡ page_on (disks_in M.PageDevice T.PageDevice self.old) (key page)) }
+            → (frame_at frames.new.items at).bytes ≡ page_on (disks_in M.PageDevice T.PageDevice self.old) (key page)) }
         ensures keeps { SamePages (disks_in M.PageDevice T.PageDevice self.old) (disks_in M.PageDevice T.PageDevice self.new) }
         ensures cause { DeviceCause (disks_in M.PageDevice T.PageDevice self.old) (disks_in M.PageDevice T.PageDevice self.new) result }
         ensures fails { IfErr result (IsFaultOf (Some page.file)) }
         ensures asked { calls_in (disks_in M.PageDevice T.PageDevice self.new)
             ≡ with_read (calls_in (disks_in M.PageDevice T.PageDevice self.old)) (Some page.file) }
     {
-        self.read(page, frame.bytes.bytes_mut())
+        let mut chain = frames.lend(at);
+        let outcome = self.read(page, chain.page_mut(FrameNo(at as u32)));
+        frames.put(at, chain);
+        outcome
     }
 
     /// Puts `bytes` into the page. A write that failed leaves any bytes in that page.
@@ -77,5 +90,29 @@ impl<M: PageDevice, T: PageDevice> Devices<M, T> {
             File::Main => answer(self.main.write(page.no, bytes), PageFault::MainFault),
             File::Temp => answer(self.temp.write(page.no, bytes), PageFault::TempFault),
         }
+    }
+    /// Writes the frame's bytes into the page.
+    pub(crate) fn save(
+        &mut self,
+        page: PageId,
+        frames: &mut Frames,
+        at: usize,
+    ) -> Result<(), PageFault>
+        requires in_range { page.no < pages_in (disks_in M.PageDevice T.PageDevice self.old) page.file }
+        requires there { at < length frames.old.items }
+        requires free { is_busy (frame_at frames.old.items at) ≡ false }
+        ensures same { frames.new ≡ frames.old }
+        ensures puts { OnOk result (all_told (disks_in M.PageDevice T.PageDevice self.old) ≡ true
+            → page_on (disks_in M.PageDevice T.PageDevice self.new) (key page) ≡ (frame_at frames.old.items at).bytes) }
+        ensures keeps { SameButOne (disks_in M.PageDevice T.PageDevice self.old) (disks_in M.PageDevice T.PageDevice self.new) (key page) }
+        ensures cause { DeviceCause (disks_in M.PageDevice T.PageDevice self.old) (disks_in M.PageDevice T.PageDevice self.new) result }
+        ensures fails { IfErr result (IsFaultOf (Some page.file)) }
+        ensures asked { calls_in (disks_in M.PageDevice T.PageDevice self.new)
+            ≡ with_write (calls_in (disks_in M.PageDevice T.PageDevice self.old)) (Some page.file) }
+    {
+        let chain = frames.lend(at);
+        let outcome = self.write(page, chain.page(FrameNo(at as u32)));
+        frames.put(at, chain);
+        outcome
     }
 }

@@ -1,7 +1,17 @@
-//! The buffer pool: a space of pages over two devices, kept in frames of memory that are reserved when
-//! the pool is opened. It stands on the base crate, the traits of the outside and the page maps. The
-//! contract that the layers above use is that of [`hg_base::Pages`], which [`Pool`] implements, with
-//! what `Pool::new` says of a new pool.
+//! The buffer pool: a space of pages over two devices, kept in raw frames of memory that are reserved
+//! when the pool is opened.
+//!
+//! ```text
+//!   page maps (hg_space)     which pages are taken, and their successors
+//!   places                   page -> the frame that it was brought into last
+//!   marks                    frame -> its page, dirty, pinned             (`frames`)
+//!   memory (hg_raw)          frame -> 4,096 bytes: at home, or in the chain of the pinned ones
+//!   clock (hg_clock)         frame -> score and whether it is out; the hand gives the next victim
+//! ```
+//!
+//! It stands on the base crate, the traits of the outside, the raw frames, the clock and the page maps.
+//! The contract that the layers above use is that of [`hg_base::Pages`], which [`Pool`] implements,
+//! with what `Pool::new` says of a new pool.
 //!
 //! What a call asks of the devices is said by their own counts of reads and writes (`Asked`): a page
 //! that is in a frame asks nothing, and any other at most one write, of the page that leaves the frame

@@ -1,27 +1,16 @@
 //! The store of a new pool.
-ghost use Rattle.std.specs.Prelude.{◌≡◌, ◌≤◌, IfOk, vec_capacity, replicate};
-ghost use Rattle.hg_pool.specs.Opening.{empty_frame, IsNewStore};
+ghost use Rattle.std.specs.Prelude.{◌≡◌, ◌<◌, ◌≤◌, IfOk, vec_capacity};
+ghost use Rattle.hg_pool.specs.Opening.{IsNewStore};
 
-use crate::frames::Frame;
+use crate::frames::Frames;
 use crate::maps::Maps;
 use crate::places::Places;
 use crate::store::{Answers, Store};
 use crate::{Config, PoolCounts};
 use hg_base::NoMemory;
+use hg_clock::Clock;
 use hg_space::Space;
 use std::alloc::{AllocError, Global};
-
-/// So many frames of no page, with room for `room` of them.
-fn frames(alloc: Global, count: u32, room: u32) -> Result<Vec<Frame>, AllocError>
-    ensures { IfOk result (λ made. made.items ≡ replicate count empty_frame) }
-{
-    let mut made = Vec::with_capacity(alloc, room as usize)?;
-    for _turn in 0..count {
-        let frame = Frame::empty(alloc)?;
-        made.push(frame)?;
-    }
-    Ok(made)
-}
 
 /// Room for the places of the pages of both files.
 fn places(alloc: Global, main_pages: u32, temp_pages: u32) -> Result<Places, AllocError>
@@ -36,7 +25,8 @@ fn places(alloc: Global, main_pages: u32, temp_pages: u32) -> Result<Places, All
 
 /// What a pool in which no page is taken keeps. The only error is want of memory.
 pub(crate) fn new_store(alloc: Global, config: &Config) -> Result<Store, NoMemory>
-    requires { config.now.pool ≤ config.now.max }
+    requires some { 0 < config.now.max }
+    requires inside { config.now.pool ≤ config.now.max }
     ensures { IfOk result (IsNewStore config.now) }
 {
     let main = Space::new(alloc, config.main_pages)?;
@@ -44,19 +34,15 @@ pub(crate) fn new_store(alloc: Global, config: &Config) -> Result<Store, NoMemor
     let Ok(places) = places(alloc, config.main_pages, config.temp_pages) else {
         return Err(NoMemory);
     };
-    let Ok(used) = frames(alloc, config.pool, config.max) else {
-        return Err(NoMemory);
-    };
-    let Ok(spare) = frames(alloc, config.max - config.pool, config.max) else {
-        return Err(NoMemory);
-    };
+    let clock = Clock::new(alloc, config.max)?;
+    let frames = Frames::new(alloc, config.max, config.pool)?;
     Ok(Store {
-        frames: used,
-        spare,
+        frames,
+        clock,
         places,
         maps: Maps { main, temp },
-        hand: 0,
         pins: 0,
+        lent: 0,
         answers: Answers {
             main: 0,
             temp: 0,

@@ -2,14 +2,17 @@
 ghost use Rattle.std.specs.Prelude.{◌≡◌, ◌<◌, ◌-◌, ◌^◌, true, false, None, Some, IfOk, IfErr, OnOk, OnErr, IsOk, IsErrOf};
 ghost use Rattle.hg_base.specs.Space.{key, IsPinned, IsMade, IsSame, IsFull, without_pin, without_page, with_next};
 ghost use Rattle.hg_base.specs.Causes.{HasCause, PinFault, FreshFault, fault_of, full_fault};
-ghost use Rattle.hg_pool.specs.Round.{Stays, ComesIn, PassesNext, without_out};
+ghost use Rattle.hg_clock.specs.Clock.{score_of};
+ghost use Rattle.hg_pool.specs.Clocking.{ComesIn, used, back, forgotten};
 ghost use Rattle.hg_pool.specs.Shown.{
   state_of,
   in_frame,
   frame_of,
   page_in,
   counts_of_pool,
-  round_of,
+  clock_of,
+  current_of,
+  SameStockOf,
   main_device,
   temp_device,
   CalledNone,
@@ -44,8 +47,7 @@ impl<M: PageDevice, T: PageDevice> Pages for Pool<M, T> {
 
     ghost after_write = { after_write_of };
 
-    /// A page that is in no frame is read, once, into the frame that the round comes to next among
-    /// those that no pin holds. A page whose bytes are newer than those on its device leaves that frame
+    /// A page that is in no frame is read, once, into the frame that the clock gives. A page whose bytes are newer than those on its device leaves that frame
     /// only after a write that succeeded; where the read fails then, it has left it all the same. After a
     /// fault each page is as it was. Pages in other frames stay there, so that a pin of them succeeds and
     /// calls no device.
@@ -66,10 +68,11 @@ impl<M: PageDevice, T: PageDevice> Pages for Pool<M, T> {
         ensures asked { OnOk result (in_frame self.old page ≡ false
             → Asked M.PageDevice T.PageDevice self.old self.new (owed self.old (frame_of self.new page)) (Some page.file)) }
         ensures refused { IfErr result (IsRefused M.PageDevice T.PageDevice self.old self.new page) }
-        ensures stays { OnOk result (in_frame self.old page ≡ true → Stays (round_of self.old) (round_of self.new)
-            (frame_of self.old page) (frame_of self.new page)) }
-        ensures comes { OnOk result (in_frame self.old page ≡ false → ComesIn (round_of self.old) (round_of self.new) (frame_of self.new page)) }
-        ensures passes_next { OnErr result (PassesNext (round_of self.old) (round_of self.new)) }
+        ensures used { OnOk result (in_frame self.old page ≡ true → clock_of self.new ≡ used (clock_of self.old) (frame_of self.old page)) }
+        ensures comes { OnOk result (in_frame self.old page ≡ false
+            → ComesIn (current_of self.old) (clock_of self.old) (clock_of self.new) (frame_of self.new page)) }
+        ensures score { OnOk result (score_of (clock_of self.new) (frame_of self.new page) ≡ 7) }
+        ensures stock { SameStockOf self.old self.new }
         ensures calls_none { in_frame self.old page ≡ true → CalledNone self.old self.new }
         ensures stays_ok { in_frame self.old page ≡ true → IsOk result }
         ensures keeps_frames { OnOk result (KeepsFrames self.old self.new page (frame_of self.new page)) }
@@ -102,9 +105,10 @@ impl<M: PageDevice, T: PageDevice> Pages for Pool<M, T> {
         ensures refused { IfErr result (λ fault. (IsFull (state_of M.PageDevice T.PageDevice self.old) file → ⊥)
             → StaysIn M.PageDevice T.PageDevice self.old self.new fault) }
         ensures full_work { IsFull (state_of M.PageDevice T.PageDevice self.old) file → counts_of_pool self.new ≡ counts_of_pool self.old }
-        ensures full_round { IsFull (state_of M.PageDevice T.PageDevice self.old) file → round_of self.new ≡ round_of self.old }
-        ensures comes { IfOk result (λ pin. ComesIn (round_of self.old) (round_of self.new) (frame_of self.new pin.page)) }
-        ensures passes_next { OnErr result ((IsFull (state_of M.PageDevice T.PageDevice self.old) file → ⊥) → PassesNext (round_of self.old) (round_of self.new)) }
+        ensures full_clock { IsFull (state_of M.PageDevice T.PageDevice self.old) file → clock_of self.new ≡ clock_of self.old }
+        ensures comes { IfOk result (λ pin. ComesIn (current_of self.old) (clock_of self.old) (clock_of self.new) (frame_of self.new pin.page)) }
+        ensures score { IfOk result (λ pin. score_of (clock_of self.new) (frame_of self.new pin.page) ≡ 7) }
+        ensures stock { SameStockOf self.old self.new }
         ensures unused { IsUnused (state_of M.PageDevice T.PageDevice self.old) → CallsNone (main_device self.old) (main_device self.new)
             (temp_device self.old) (temp_device self.new) result (full_fault file) }
         ensures full_calls_none { IsFull (state_of M.PageDevice T.PageDevice self.old) file → CalledNone self.old self.new }
@@ -129,17 +133,15 @@ impl<M: PageDevice, T: PageDevice> Pages for Pool<M, T> {
     }
 
     fn bytes_mut(&mut self, pin: &PoolPin) -> &mut [u8] {
-        let store = &mut self.parts.store;
-        let at = store.places.at(pin.page);
-        let frame = &mut store.frames[at];
-        frame.dirty = true;
-        frame.bytes.bytes_mut()
+        let at = self.parts.store.places.at(pin.page);
+        self.parts.store.frames.bytes_mut(at)
     }
 
     fn unpin(&mut self, pin: PoolPin)
         requires { (state_of M.PageDevice T.PageDevice self.old).pinned (key pin.page) ≡ true }
         ensures after { state_of M.PageDevice T.PageDevice self.new ≡ without_pin (state_of M.PageDevice T.PageDevice self.old) (key pin.page) }
-        ensures round { round_of self.new ≡ without_out (round_of self.old) (frame_of self.old pin.page) }
+        ensures clock { clock_of self.new ≡ back (clock_of self.old) (frame_of self.old pin.page) }
+        ensures stock { SameStockOf self.old self.new }
         ensures frames { SameFrames self.old self.new }
         ensures counts { counts_of_pool self.new ≡ counts_of_pool self.old }
         ensures calls_none { CalledNone self.old self.new }
@@ -153,7 +155,9 @@ impl<M: PageDevice, T: PageDevice> Pages for Pool<M, T> {
         requires not_pinned { (state_of M.PageDevice T.PageDevice self.old).pinned (key page) ≡ false }
         requires no_heap { (state_of M.PageDevice T.PageDevice self.old).of_heap (key page) ≡ false }
         ensures after { state_of M.PageDevice T.PageDevice self.new ≡ without_page (state_of M.PageDevice T.PageDevice self.old) (key page) }
-        ensures round { round_of self.new ≡ round_of self.old }
+        ensures forgets { in_frame self.old page ≡ true → clock_of self.new ≡ forgotten (clock_of self.old) (frame_of self.old page) }
+        ensures keeps_clock { in_frame self.old page ≡ false → clock_of self.new ≡ clock_of self.old }
+        ensures stock { SameStockOf self.old self.new }
         ensures frames { SameFramesBut self.old self.new page }
         ensures counts { counts_of_pool self.new ≡ counts_of_pool self.old }
         ensures calls_none { CalledNone self.old self.new }
@@ -169,7 +173,8 @@ impl<M: PageDevice, T: PageDevice> Pages for Pool<M, T> {
         requires taken { (state_of M.PageDevice T.PageDevice self.old).taken (key page) ≡ true }
         requires no_heap { (state_of M.PageDevice T.PageDevice self.old).of_heap (key page) ≡ false }
         ensures after { state_of M.PageDevice T.PageDevice self.new ≡ with_next (state_of M.PageDevice T.PageDevice self.old) (key page) next }
-        ensures round { round_of self.new ≡ round_of self.old }
+        ensures clock { clock_of self.new ≡ clock_of self.old }
+        ensures stock { SameStockOf self.old self.new }
         ensures frames { SameFrames self.old self.new }
         ensures counts { counts_of_pool self.new ≡ counts_of_pool self.old }
         ensures calls_none { CalledNone self.old self.new }

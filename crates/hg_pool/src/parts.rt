@@ -2,7 +2,7 @@
 
 use crate::devices::Devices;
 use crate::store::Store;
-use hg_base::{File, PageFault, PageId};
+use hg_base::{PageFault, PageId};
 use hg_io::PageDevice;
 
 /// The devices of a pool, and what it keeps of them.
@@ -14,11 +14,12 @@ pub(crate) struct Parts<M, T> {
 impl<M: PageDevice, T: PageDevice> Parts<M, T> {
     ghost use Rattle.std.specs.Prelude.{◌≡◌, ◌<◌, ◌-◌, ◌^◌, true, false, Ok, None, Some, OnOk, OnErr, IfOk, IfErr, IsOk, length};
     ghost use Rattle.hg_base.specs.Space.{key};
+    ghost use Rattle.hg_clock.specs.Clock.{Takes};
+    ghost use Rattle.hg_pool.specs.Clocking.{is_busy};
     ghost use Rattle.hg_pool.specs.Picture.{frame_at, place_at, taken_at};
     ghost use Rattle.hg_pool.specs.Keeping.{is_inside, IsFoundAt};
-    ghost use Rattle.hg_pool.specs.Shown.{IsWhole, page_in, owed, Asked, SameFrames, KeepsFramesAll, KeepsFrames, StaysIn, IsRefused};
-    ghost use Rattle.hg_pool.specs.Passing.{PassesParts, Clears, IsClean, IsRoom, AreEmpty, Reaches};
-    ghost use Rattle.hg_pool.specs.Round.{PassesNext, round_in};
+    ghost use Rattle.hg_pool.specs.Shown.{IsWhole, page_in, clock_of, current_of, owed, Asked, SameFrames, KeepsFramesAll, KeepsFrames, StaysIn, IsRefused};
+    ghost use Rattle.hg_pool.specs.Passing.{PassesParts, Clears, IsClean, IsRoom, AreEmpty, HasRoom};
     ghost use Rattle.hg_pool.specs.Work.{IsFaultOf, evicted};
 
     /// Writes the frame's page to its device.
@@ -27,11 +28,12 @@ impl<M: PageDevice, T: PageDevice> Parts<M, T> {
         requires there { at < length self.old.store.frames.items }
         requires page { (frame_at self.old.store.frames.items at).page ≡ Some page }
         requires dirty { (frame_at self.old.store.frames.items at).dirty ≡ true }
+        requires free { is_busy (frame_at self.old.store.frames.items at) ≡ false }
         ensures passes { PassesParts M.PageDevice T.PageDevice self.old self.new result }
         ensures clears { Clears self.old.store self.new.store }
         ensures clean { OnOk result ((frame_at self.new.store.frames.items at).dirty ≡ false) }
-        ensures pinned { (frame_at self.new.store.frames.items at).pinned ≡ (frame_at self.old.store.frames.items at).pinned }
-        ensures round { round_in self.new.store ≡ round_in self.old.store }
+        ensures busy { is_busy (frame_at self.new.store.frames.items at) ≡ is_busy (frame_at self.old.store.frames.items at) }
+        ensures clock { self.new.store.clock ≡ self.old.store.clock }
         ensures asked { Asked M.PageDevice T.PageDevice self.old self.new (Some page.file) None }
         ensures fails { IfErr result (IsFaultOf (Some page.file)) }
         ensures evictions { self.new.store.counts.evictions ≡ self.old.store.counts.evictions }
@@ -39,10 +41,7 @@ impl<M: PageDevice, T: PageDevice> Parts<M, T> {
         ensures frames { SameFrames self.old self.new }
     {
         self.store.count_write();
-        match self
-            .devices
-            .write(page, self.store.frames[at].bytes.bytes())
-        {
+        match self.devices.save(page, &mut self.store.frames, at) {
             Err(failed) => {
                 self.store.answers.count(failed);
                 Err(failed)
@@ -55,14 +54,15 @@ impl<M: PageDevice, T: PageDevice> Parts<M, T> {
     }
 
     /// Writes the frame's page to its device, if its bytes are newer.
-    fn clean(&mut self, at: usize) -> Result<(), PageFault>
+    pub(crate) fn clean(&mut self, at: usize) -> Result<(), PageFault>
         requires whole { IsWhole M.PageDevice T.PageDevice self.old }
         requires there { at < length self.old.store.frames.items }
+        requires free { is_busy (frame_at self.old.store.frames.items at) ≡ false }
         ensures passes { PassesParts M.PageDevice T.PageDevice self.old self.new result }
         ensures clears { Clears self.old.store self.new.store }
         ensures clean { OnOk result (IsClean (frame_at self.new.store.frames.items at)) }
-        ensures pinned { (frame_at self.new.store.frames.items at).pinned ≡ (frame_at self.old.store.frames.items at).pinned }
-        ensures round { round_in self.new.store ≡ round_in self.old.store }
+        ensures busy { is_busy (frame_at self.new.store.frames.items at) ≡ is_busy (frame_at self.old.store.frames.items at) }
+        ensures clock { self.new.store.clock ≡ self.old.store.clock }
         ensures no_call { (frame_at self.old.store.frames.items at).page ≡ None → self.new.devices ≡ self.old.devices }
         ensures no_fault { OnErr result ((frame_at self.old.store.frames.items at).page ≡ None → ⊥) }
         ensures asked { Asked M.PageDevice T.PageDevice self.old self.new (owed self.old at) None }
@@ -84,33 +84,32 @@ impl<M: PageDevice, T: PageDevice> Parts<M, T> {
         requires whole { IsWhole M.PageDevice T.PageDevice self.old }
         requires there { at < length self.old.store.frames.items }
         requires clean { IsClean (frame_at self.old.store.frames.items at) }
-        requires free { (frame_at self.old.store.frames.items at).pinned ≡ false }
+        requires free { is_busy (frame_at self.old.store.frames.items at) ≡ false }
         ensures passes { PassesParts M.PageDevice T.PageDevice self.old self.new (Ok (tt {0})) }
         ensures clears { Clears self.old.store self.new.store }
         ensures room { IsRoom self.new.store at }
-        ensures round { round_in self.new.store ≡ round_in self.old.store }
+        ensures clock { self.new.store.clock ≡ self.old.store.clock }
         ensures no_call { self.new.devices ≡ self.old.devices }
         ensures asked { Asked M.PageDevice T.PageDevice self.old self.new None None }
         ensures empty { page_in self.new at ≡ None }
         ensures keeps { KeepsFramesAll self.old self.new at }
         ensures evicts { self.new.store.counts.evictions ≡ evicted (page_in self.old at) self.old.store.counts.evictions }
     {
-        if self.store.frames[at].page.is_none() {
+        if self.store.frames.mark(at).page.is_none() {
             return;
         }
         self.store.set_empty(at);
         self.store.count_eviction();
     }
 
-    /// An empty frame, which no pin holds: the next one in the round.
+    /// An empty frame, which is not out: the one that the clock gives.
     pub(crate) fn room(&mut self) -> Result<usize, PageFault>
         requires whole { IsWhole M.PageDevice T.PageDevice self.old }
-        requires few { self.old.store.pins < 8 }
+        requires room { HasRoom self.old.store }
         ensures passes { PassesParts M.PageDevice T.PageDevice self.old self.new result }
         ensures clears { Clears self.old.store self.new.store }
         ensures room { IfOk result (λ f. IsRoom self.new.store f) }
-        ensures reaches { IfOk result (Reaches (round_in self.old.store) (round_in self.new.store)) }
-        ensures passes_next { OnErr result (PassesNext (round_in self.old.store) (round_in self.new.store)) }
+        ensures takes { IfOk result (λ f. Takes (current_of self.old) (clock_of self.old) f (clock_of self.new)) }
         ensures no_call { AreEmpty self.old.store → self.new.devices ≡ self.old.devices }
         ensures no_fault { OnErr result (AreEmpty self.old.store → ⊥) }
         ensures asked { IfOk result (λ f. Asked M.PageDevice T.PageDevice self.old self.new (owed self.old f) None) }
@@ -134,9 +133,8 @@ impl<M: PageDevice, T: PageDevice> Parts<M, T> {
         requires out { is_inside self.old.store (key page) ≡ false }
         ensures passes { PassesParts M.PageDevice T.PageDevice self.old self.new result }
         ensures found { OnOk result (IsFoundAt self.new.store page at) }
-        ensures free { (frame_at self.new.store.frames.items at).pinned ≡ false }
         ensures pins { self.new.store.pins ≡ self.old.store.pins }
-        ensures round { round_in self.new.store ≡ round_in self.old.store }
+        ensures clock { self.new.store.clock ≡ self.old.store.clock }
         ensures asked { Asked M.PageDevice T.PageDevice self.old self.new None (Some page.file) }
         ensures fails { IfErr result (IsFaultOf (Some page.file)) }
         ensures evictions { self.new.store.counts.evictions ≡ self.old.store.counts.evictions }
@@ -145,15 +143,14 @@ impl<M: PageDevice, T: PageDevice> Parts<M, T> {
         ensures err_frames { OnErr result (SameFrames self.old self.new) }
     {
         self.store.count_read();
-        let frame = &mut self.store.frames[at];
-        match self.devices.fill(page, frame) {
+        match self.devices.fill(page, &mut self.store.frames, at) {
             Err(fault) => {
                 self.store.answers.count(fault);
                 Err(fault)
             }
             Ok(()) => {
-                frame.page = Some(page);
-                frame.dirty = false;
+                self.store.frames.set_page(at, Some(page));
+                self.store.frames.set_dirty(at, false);
                 self.store.places.set(page, at);
                 Ok(())
             }
@@ -163,16 +160,15 @@ impl<M: PageDevice, T: PageDevice> Parts<M, T> {
     /// The frame of the page, which is brought into one if it is in none.
     pub(crate) fn bring(&mut self, page: PageId) -> Result<usize, PageFault>
         requires whole { IsWhole M.PageDevice T.PageDevice self.old }
-        requires few { self.old.store.pins < 8 }
+        requires room { HasRoom self.old.store }
         requires taken { taken_at self.old.store.maps (key page) ≡ true }
         ensures passes { PassesParts M.PageDevice T.PageDevice self.old self.new result }
         ensures found { IfOk result (λ f. IsFoundAt self.new.store page f) }
         ensures pins { self.new.store.pins ≡ self.old.store.pins }
         ensures stays { IfOk result (λ f. is_inside self.old.store (key page) ≡ true → f ≡ place_at self.old.store.places (key page)) }
-        ensures keeps_round { is_inside self.old.store (key page) ≡ true → round_in self.new.store ≡ round_in self.old.store }
-        ensures reaches { IfOk result (λ f. is_inside self.old.store (key page) ≡ false
-            → Reaches (round_in self.old.store) (round_in self.new.store) f) }
-        ensures passes_next { OnErr result (PassesNext (round_in self.old.store) (round_in self.new.store)) }
+        ensures keeps_clock { is_inside self.old.store (key page) ≡ true → clock_of self.new ≡ clock_of self.old }
+        ensures takes { IfOk result (λ f. is_inside self.old.store (key page) ≡ false
+            → Takes (current_of self.old) (clock_of self.old) f (clock_of self.new)) }
         ensures asked { IfOk result (λ f. is_inside self.old.store (key page) ≡ false
             → Asked M.PageDevice T.PageDevice self.old self.new (owed self.old f) (Some page.file)) }
         ensures refused { IfErr result (IsRefused M.PageDevice T.PageDevice self.old self.new page) }

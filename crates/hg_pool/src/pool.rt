@@ -6,7 +6,8 @@ use crate::devices::Devices;
 use crate::opening::new_store;
 use crate::parts::Parts;
 use crate::{Config, PoolCounts};
-use hg_base::Pages;
+use hg_base::{FrameNo, PageId, Pages};
+use hg_clock::Clock;
 use hg_io::PageDevice;
 use std::alloc::Global;
 use std::marker::Model;
@@ -30,12 +31,11 @@ impl<M: PageDevice, T: PageDevice> Model for Pool<M, T> {
 }
 
 impl<M: PageDevice, T: PageDevice> Pool<M, T> {
-    ghost use Rattle.std.specs.Prelude.{◌≡◌, IfOk, IfErr};
+    ghost use Rattle.std.specs.Prelude.{◌≡◌, true, false, IfOk, IfErr, IfSome, IfNone};
     ghost use Rattle.hg_base.specs.Space.{NoPins};
     ghost use Rattle.hg_pool.specs.Disks.{disk_of};
-    ghost use Rattle.hg_pool.specs.Opening.{IsPossible, new_space, no_counts};
-    ghost use Rattle.hg_pool.specs.Shown.{state_of, main_device, temp_device, current_of, counts_of_pool, round_of, NoneIn};
-    ghost use Rattle.hg_pool.specs.Round.{first_round};
+    ghost use Rattle.hg_pool.specs.Opening.{IsPossible, new_space, no_counts, first_clock};
+    ghost use Rattle.hg_pool.specs.Shown.{state_of, main_device, temp_device, current_of, counts_of_pool, clock_of, max_of, in_frame, frame_of, NoneIn};
 
     /// Reserves the frames and the page maps, and opens a pool in which no page is taken. The only error
     /// is want of memory; the devices are then handed back. No device is called.
@@ -45,7 +45,8 @@ impl<M: PageDevice, T: PageDevice> Pool<M, T> {
             ≡ new_space config.now (record { main = disk_of M.PageDevice main; temp = disk_of T.PageDevice temp })) }
         ensures no_pins { IfOk result (λ pool. NoPins (state_of M.PageDevice T.PageDevice pool)) }
         ensures counts { IfOk result (λ pool. counts_of_pool pool ≡ no_counts) }
-        ensures round { IfOk result (λ pool. round_of pool ≡ first_round config.now.pool) }
+        ensures clock { IfOk result (λ pool. clock_of pool ≡ first_clock config.now.max) }
+        ensures max { IfOk result (λ pool. max_of pool ≡ config.now.max) }
         ensures none_in { IfOk result (λ pool. NoneIn pool) }
         ensures main { IfOk result (λ pool. main_device pool ≡ main) }
         ensures temp { IfOk result (λ pool. temp_device pool ≡ temp) }
@@ -66,7 +67,25 @@ impl<M: PageDevice, T: PageDevice> Pool<M, T> {
     pub fn current(&self) -> u32
         ensures { result ≡ current_of self.now }
     {
-        self.parts.store.frames.len() as u32
+        self.parts.store.frames.count() as u32
+    }
+
+    /// The clock over all frames that are reserved.
+    pub fn clock(&self) -> &Clock
+        ensures { result.now ≡ clock_of self.now }
+    {
+        &self.parts.store.clock
+    }
+
+    /// The frame that the page is in.
+    pub fn frame_of(&self, page: PageId) -> Option<FrameNo>
+        ensures some { IfSome result (λ frame. (in_frame self.now page ≡ true) × (frame.0 ≡ frame_of self.now page)) }
+        ensures none { IfNone result (in_frame self.now page ≡ false) }
+    {
+        match self.parts.store.find(page) {
+            Some(at) => Some(FrameNo(at as u32)),
+            None => None,
+        }
     }
 
     /// What the pool did so far.
@@ -76,7 +95,7 @@ impl<M: PageDevice, T: PageDevice> Pool<M, T> {
         self.parts.store.counts
     }
 
-    /// Gives the devices back as they are. No device is called: what was not written is lost.
+    /// Gives the devices back as they are, and all memory. No device is called: what was not written is lost.
     pub fn close(self) -> (M, T)
         requires { NoPins (state_of M.PageDevice T.PageDevice self) }
         ensures main { result.0 ≡ main_device self }
@@ -84,7 +103,7 @@ impl<M: PageDevice, T: PageDevice> Pool<M, T> {
     {
         let Pool { parts } = self;
         let Parts { devices, store } = parts;
-        drop(store);
+        store.close();
         let Devices { main, temp } = devices;
         (main, temp)
     }

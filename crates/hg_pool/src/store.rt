@@ -1,18 +1,20 @@
 //! What a pool keeps in memory.
 ghost use Rattle.std.specs.Prelude.{◌≡◌, ℕ, ◌+◌, ◌-◌, ◌<◌, ◌≤◌, ◌↔◌, true, false, None, Some, IsTrue, IfSome, IfNone, length};
+ghost use Rattle.hg_clock.specs.Clock.{Takes, IsSound, frame_count};
 ghost use Rattle.hg_base.specs.Space.{key};
-ghost use Rattle.hg_pool.specs.Picture.{frame_at, place_at, places_in, taken_at, is_pinned};
+ghost use Rattle.hg_pool.specs.Clocking.{is_busy, used, back, forgotten};
+ghost use Rattle.hg_pool.specs.Picture.{frame_at, place_at, places_in, taken_at, is_pinned, is_lent};
 ghost use Rattle.hg_pool.specs.Sound.{IsShaped};
 ghost use Rattle.hg_pool.specs.Keeping.{with_place, with_frame, IsFoundAt, IsFullIn, is_inside, new_frame};
-ghost use Rattle.hg_pool.specs.Passing.{IsClean};
-ghost use Rattle.hg_pool.specs.Round.{IsNext, round_in};
+ghost use Rattle.hg_pool.specs.Passing.{IsClean, HasRoom};
 ghost use Rattle.hg_io.specs.Count.{raised};
 
 use crate::PoolCounts;
-use crate::frames::Frame;
+use crate::frames::Frames;
 use crate::maps::Maps;
 use crate::places::Places;
-use hg_base::{File, PageFault, PageId};
+use hg_base::{File, FrameNo, PageFault, PageId};
+use hg_clock::Clock;
 
 /// How often a call was answered by a fault of each device, and by each file being full.
 #[derive(Drop)]
@@ -44,18 +46,17 @@ impl Answers {
 }
 
 /// Everything that a pool has beside its devices.
-#[derive(Drop)]
 pub(crate) struct Store {
     /// The frames in use.
-    pub(crate) frames: Vec<Frame>,
-    /// The frames that are reserved beside them.
-    pub(crate) spare: Vec<Frame>,
+    pub(crate) frames: Frames,
+    /// The clock over all frames.
+    pub(crate) clock: Clock,
     pub(crate) places: Places,
     pub(crate) maps: Maps,
-    /// The frame at which the search for the next victim begins.
-    pub(crate) hand: usize,
     /// How many pins are out.
     pub(crate) pins: u32,
+    /// How many frames are handed out: none yet, as no call does so.
+    pub(crate) lent: u32,
     pub(crate) answers: Answers,
     pub(crate) counts: PoolCounts,
 }
@@ -67,7 +68,7 @@ impl Store {
         ensures none { IfNone result (is_inside self.now (key page) ≡ false) }
     {
         let at = self.places.at(page);
-        if at < self.frames.len() && self.frames[at].page == Some(page) {
+        if at < self.frames.count() && self.frames.mark(at).page == Some(page) {
             Some(at)
         } else {
             None
@@ -79,7 +80,17 @@ impl Store {
         ensures { result ≡ is_pinned (frame_at self.now.frames.items) (place_at self.now.places) (key page) }
     {
         match self.find(page) {
-            Some(at) => self.frames[at].pinned,
+            Some(at) => self.frames.mark(at).pinned,
+            None => false,
+        }
+    }
+
+    /// Whether the page is handed out.
+    fn is_lent(&self, page: PageId) -> bool
+        ensures { result ≡ is_lent (frame_at self.now.frames.items) (place_at self.now.places) (key page) }
+    {
+        match self.find(page) {
+            Some(at) => self.frames.mark(at).lent,
             None => false,
         }
     }
@@ -88,9 +99,10 @@ impl Store {
     pub(crate) fn can_pin(&self, page: PageId) -> bool
         requires { IsShaped self.now }
         ensures { IsTrue result ↔ ((taken_at self.now.maps (key page) ≡ true)
-            × (is_pinned (frame_at self.now.frames.items) (place_at self.now.places) (key page) ≡ false)) }
+            × (is_pinned (frame_at self.now.frames.items) (place_at self.now.places) (key page) ≡ false)
+            × (is_lent (frame_at self.now.frames.items) (place_at self.now.places) (key page) ≡ false)) }
     {
-        self.maps.is_taken(page) && !self.is_pinned(page)
+        self.maps.is_taken(page) && !self.is_pinned(page) && !self.is_lent(page)
     }
 
     /// Whether all pages of the file are taken.
@@ -101,68 +113,28 @@ impl Store {
         self.maps.used(file) == self.maps.limit(file)
     }
 
-    /// The bytes of a page that is in a frame.
+    /// The bytes of a page that a pin holds.
     pub(crate) fn bytes(&self, page: PageId) -> &[u8]
-        requires { place_at self.now.places (key page) < length self.now.frames.items }
+        requires there { place_at self.now.places (key page) < length self.now.frames.items }
+        requires pinned { (frame_at self.now.frames.items (place_at self.now.places (key page))).pinned ≡ true }
         ensures value { result.now ≡ (frame_at self.now.frames.items (place_at self.now.places (key page))).bytes }
         ensures whole { length result.now ≡ 4096 }
     {
-        self.frames[self.places.at(page)].bytes.bytes()
+        self.frames.bytes(self.places.at(page))
     }
 
-    /// The first frame from `from` on that no pin holds.
-    fn unpinned_from(&self, from: usize) -> Option<usize>
-        ensures from { IfSome result (λ f. from ≤ f) }
-        ensures there { IfSome result (λ f. f < length self.now.frames.items) }
-        ensures free { IfSome result (λ f. (frame_at self.now.frames.items f).pinned ≡ false) }
-        ensures first { IfSome result (λ f. (k : ℕ) → from ≤ k → k < f → (frame_at self.now.frames.items k).pinned ≡ true) }
-        ensures none { IfNone result ((k : ℕ) → from ≤ k → k < length self.now.frames.items
-            → (frame_at self.now.frames.items k).pinned ≡ true) }
-    {
-        for at in from..self.frames.len() {
-            if !self.frames[at].pinned {
-                return Some(at);
-            }
-        }
-        None
-    }
-
-    /// The first frame that no pin holds.
-    fn first_unpinned(&self) -> usize
-        requires shaped { IsShaped self.now }
-        requires few { self.now.pins < 8 }
-        ensures there { result < length self.now.frames.items }
-        ensures free { (frame_at self.now.frames.items result).pinned ≡ false }
-        ensures first { (k : ℕ) → 0 ≤ k → k < result → (frame_at self.now.frames.items k).pinned ≡ true }
-    {
-        match self.unpinned_from(0) {
-            Some(at) => at,
-            None => unreachable!(),
-        }
-    }
-
-    /// The next frame in the round that no pin holds.
-    fn next_unpinned(&self) -> usize
-        requires shaped { IsShaped self.now }
-        requires few { self.now.pins < 8 }
-        ensures { IsNext (round_in self.now) result }
-    {
-        match self.unpinned_from(self.hand) {
-            Some(at) => at,
-            None => self.first_unpinned(),
-        }
-    }
-
-    /// The next frame in the round that no pin holds. The hand then stands behind it.
+    /// The frame that the clock gives. Its hand then stands behind it.
     pub(crate) fn victim(&mut self) -> usize
         requires shaped { IsShaped self.old }
-        requires few { self.old.pins < 8 }
-        ensures next { IsNext (round_in self.old) result }
-        ensures hand { self.new ≡ record self.old { hand = result + 1 } }
+        requires room { HasRoom self.old }
+        ensures takes { Takes (length self.old.frames.items) self.old.clock result self.new.clock }
+        ensures sound { IsSound self.new.clock }
+        ensures rest { self.new ≡ record self.old { clock = self.new.clock } }
     {
-        let at = self.next_unpinned();
-        self.hand = at + 1;
-        at
+        match self.clock.victim(self.frames.count() as u32) {
+            Some(frame) => frame.0 as usize,
+            None => unreachable!(),
+        }
     }
 
     /// The frame's page, if its bytes are newer than those on its device.
@@ -172,8 +144,8 @@ impl Store {
         ensures dirty { IfSome result (λ _. (frame_at self.now.frames.items at).dirty ≡ true) }
         ensures clean { IfNone result (IsClean (frame_at self.now.frames.items at)) }
     {
-        let frame = &self.frames[at];
-        if frame.dirty { frame.page } else { None }
+        let mark = self.frames.mark(at);
+        if mark.dirty { mark.page } else { None }
     }
 
     /// Counts a read of a device.
@@ -202,8 +174,7 @@ impl Store {
         requires { at < length self.old.frames.items }
         ensures { self.new ≡ with_frame self.old at (record (frame_at self.old.frames.items at) { dirty = false }) }
     {
-        let frame = &mut self.frames[at];
-        frame.dirty = false;
+        self.frames.set_dirty(at, false);
     }
 
     /// Makes the frame one of no page.
@@ -211,48 +182,96 @@ impl Store {
         requires { at < length self.old.frames.items }
         ensures { self.new ≡ with_frame self.old at (record (frame_at self.old.frames.items at) { page = None }) }
     {
-        let frame = &mut self.frames[at];
-        frame.page = None;
+        self.frames.set_page(at, None);
+    }
+
+    /// Makes the frame one of no page, which the hand takes when it comes to it.
+    pub(crate) fn forget(&mut self, at: usize)
+        requires there { at < length self.old.frames.items }
+        requires most { length self.old.frames.items ≤ 65536 }
+        requires clock { at < frame_count self.old.clock }
+        ensures { self.new ≡ record (with_frame self.old at (record (frame_at self.old.frames.items at) { page = None }))
+            { clock = forgotten self.old.clock at } }
+    {
+        self.frames.set_page(at, None);
+        self.clock.clear(FrameNo(at as u32));
+    }
+
+    /// Tells the clock that the frame was used and is out.
+    fn use_frame(&mut self, at: usize)
+        requires most { at < 65536 }
+        requires clock { at < frame_count self.old.clock }
+        ensures { self.new ≡ record self.old { clock = used self.old.clock at } }
+    {
+        let frame = FrameNo(at as u32);
+        self.clock.touch(frame);
+        self.clock.set_out(frame, true);
     }
 
     /// Makes the frame a new page, with zeros, and pins it.
     pub(crate) fn set_new(&mut self, at: usize, page: PageId)
         requires there { at < length self.old.frames.items }
+        requires free { is_busy (frame_at self.old.frames.items at) ≡ false }
         requires most { length self.old.frames.items ≤ 65536 }
+        requires clock { at < frame_count self.old.clock }
         requires in_range { page.no < places_in self.old.places page.file }
         requires few { self.old.pins < 8 }
         ensures { self.new ≡ record (with_frame self.old at (new_frame page))
-            { places = with_place self.old.places page at; pins = self.old.pins + 1 } }
+            { places = with_place self.old.places page at; pins = self.old.pins + 1; clock = used self.old.clock at } }
     {
-        let frame = &mut self.frames[at];
-        frame.bytes.clear();
-        frame.page = Some(page);
-        frame.dirty = true;
-        frame.pinned = true;
+        self.frames.renew(at, page);
         self.places.set(page, at);
         self.pins += 1;
+        self.use_frame(at);
     }
 
     /// Pins the frame.
     pub(crate) fn hold(&mut self, at: usize)
         requires there { at < length self.old.frames.items }
+        requires free { is_busy (frame_at self.old.frames.items at) ≡ false }
+        requires most { length self.old.frames.items ≤ 65536 }
+        requires clock { at < frame_count self.old.clock }
         requires few { self.old.pins < 8 }
         ensures { self.new ≡ record (with_frame self.old at (record (frame_at self.old.frames.items at) { pinned = true }))
-            { pins = self.old.pins + 1 } }
+            { pins = self.old.pins + 1; clock = used self.old.clock at } }
     {
-        let frame = &mut self.frames[at];
-        frame.pinned = true;
+        self.frames.hold(at);
         self.pins += 1;
+        self.use_frame(at);
     }
 
     /// Gives a pin of the frame back.
     pub(crate) fn let_go(&mut self, at: usize)
-        requires { at < length self.old.frames.items }
+        requires there { at < length self.old.frames.items }
+        requires pinned { (frame_at self.old.frames.items at).pinned ≡ true }
+        requires most { length self.old.frames.items ≤ 65536 }
+        requires clock { at < frame_count self.old.clock }
         ensures { self.new ≡ record (with_frame self.old at (record (frame_at self.old.frames.items at) { pinned = false }))
-            { pins = self.old.pins - 1 } }
+            { pins = self.old.pins - 1; clock = back self.old.clock at } }
     {
-        let frame = &mut self.frames[at];
-        frame.pinned = false;
+        self.frames.let_go(at);
         self.pins = self.pins.saturating_sub(1);
+        self.clock.set_out(FrameNo(at as u32), false);
+    }
+
+    /// Gives the memory back. No frame is out.
+    pub(crate) fn close(self)
+        requires { (f : ℕ) → is_busy (frame_at self.frames.items f) ≡ false }
+    {
+        let Store {
+            frames,
+            clock,
+            places,
+            maps,
+            pins: _,
+            lent: _,
+            answers,
+            counts: _,
+        } = self;
+        drop(clock);
+        drop(places);
+        drop(maps);
+        drop(answers);
+        frames.close();
     }
 }

@@ -12,7 +12,7 @@ refit-same xs ws e = subst (λ (n : ℕ). take n (ws ++ drop (length ws) xs) ≡
 pub numbers-with_page : (c : ChainSeen) (n : ℕ) (w : List ℕ) → numbers (with_page c n w).frames ≡ numbers c.frames
 numbers-with_page c n w = numbers-with c.frames n (refit (bytes_of c.frames n) w)
 
-bytes-with : (fs : List Frame) (n : ℕ) (w : List ℕ) → is_in n (numbers fs) ≡ true → bytes_of (with_bytes fs n w) n ≡ w
+pub bytes-with : (fs : List Frame) (n : ℕ) (w : List ℕ) → is_in n (numbers fs) ≡ true → bytes_of (with_bytes fs n w) n ≡ w
 bytes-with [] n w h = clash false h refl
 bytes-with (f ∷ fs) n w h =
     elim (f.0 == n) as (λ t. (f.0 == n) ≡ t → (t || is_in n (numbers fs)) ≡ true → bytes_of (if t then (f.0, w) ∷ fs else f ∷ with_bytes fs n w) n ≡ w) [

@@ -88,6 +88,7 @@ impl Region {
         ensures were_out { (n : ℕ) → Has c n → is_home self.old n ≡ false }
         ensures are_home { (n : ℕ) → is_home self.new n ≡ (is_home self.old n || is_in n (numbers c.frames)) }
         ensures bytes { (n : ℕ) → Has c n → home_bytes self.new n ≡ bytes_of c.frames n }
+        ensures sized { (n : ℕ) → Has c n → length (bytes_of c.frames n) ≡ 4096 }
     {
         c.mark(&mut self.home);
         let Chain {

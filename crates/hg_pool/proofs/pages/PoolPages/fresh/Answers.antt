@@ -4,12 +4,12 @@ use Rattle.hg_base.specs.Space.{IsSame, IsMade, IsFull}
 use Rattle.hg_base.specs.Causes.{FreshFault, full_fault}
 use Rattle.hg_base.specs.declared.PageId.{PageId}
 use Rattle.hg_base.specs.declared.pages.PageFault.{PageFault}
-use Rattle.hg_pool.specs.Round.{ComesIn, PassesNext}
-use Rattle.hg_pool.specs.Shown.{state_of, frame_of, counts_of_pool, round_of, main_device, temp_device}
+use Rattle.hg_pool.specs.Clocking.{ComesIn}
+use Rattle.hg_pool.specs.Shown.{state_of, frame_of, counts_of_pool, clock_of, current_of, SameStockOf, main_device, temp_device}
 use Rattle.hg_pool.specs.Work.{IsUnused, CallsNone}
 use Rattle.hg_pool.specs.declared.parts.Parts.{Parts}
 use Rattle.hg_pool.specs.declared.pages.PoolPin.{PoolPin}
-use Rattle.hg_pool.proofs.Rounds.{calls-none-ok, calls-none-err}
+use Rattle.hg_pool.proofs.Hands.{calls-none-ok, calls-none-err}
 use Rattle.std.proofs.Common.{◌<◌, ◌-◌, ◌^◌}
 use Rattle.hg_pool.specs.Shown.{page_in, SameFrames, KeepsFrames, StaysIn}
 use Rattle.hg_pool.specs.Work.{evicted}
@@ -42,18 +42,6 @@ returns-in_err-page-clause-full_work g c =
     let P : Parts g.row.M.Denot g.row.T.Denot → Type 0 = λ s. IsFull (state_of g.M.PageDevice g.T.PageDevice s) c.args.file → counts_of_pool c.fresh.new.self ≡ counts_of_pool s in
     subst P c.self.view_is c.in_err-page.ensures.full_work
 
-pub returns-in_err-page-clause-full_round : goal.returns-in_err-page-clause-full_round
-returns-in_err-page-clause-full_round g c =
-    let P : Parts g.row.M.Denot g.row.T.Denot → Type 0 = λ s. IsFull (state_of g.M.PageDevice g.T.PageDevice s) c.args.file → round_of c.fresh.new.self ≡ round_of s in
-    subst P c.self.view_is c.in_err-page.ensures.full_round
-
-pub returns-in_err-page-clause-passes_next : goal.returns-in_err-page-clause-passes_next
-returns-in_err-page-clause-passes_next g c =
-    let p = err_from_is_err_and c.from_residual.result c.from_residual.ensures.1 in
-    let P : Parts g.row.M.Denot g.row.T.Denot → Type 0 = λ s. (IsFull (state_of g.M.PageDevice g.T.PageDevice s) c.args.file → ⊥) → PassesNext (round_of s) (round_of c.fresh.new.self) in
-    let Q : Result PoolPin PageFault → Type 0 = λ r. OnErr r (P c.args.self.now) in
-    subst Q (sym p.1) (subst P c.self.view_is c.in_err-page.ensures.passes_next)
-
 pub returns-in_err-page-clause-unused : goal.returns-in_err-page-clause-unused
 returns-in_err-page-clause-unused g c =
     let new : Parts g.row.M.Denot g.row.T.Denot = c.fresh.new.self in
@@ -65,11 +53,6 @@ returns-in_err-page-clause-unused g c =
     let Q : Result PoolPin PageFault → Type 0 = λ r. CallsNone (main_device c.args.self.now) (main_device new) (temp_device c.args.self.now) (temp_device new) r (full_fault c.args.file) in
     λ unused. subst Q (sym is) (calls-none-err (main_device c.args.self.now) (main_device new) (temp_device c.args.self.now) (temp_device new) f (full_fault c.args.file)
     (subst P c.self.view_is c.in_err-page.ensures.unused unused))
-
-pub returns-clause-comes : goal.returns-clause-comes
-returns-clause-comes g c =
-    let P : Parts g.row.M.Denot g.row.T.Denot → Type 0 = λ s. ComesIn (round_of s) (round_of c.fresh.new.self) (frame_of c.fresh.new.self c.in_ok-page.page) in
-    subst P c.self.view_is c.in_ok-page.ensures.comes
 
 pub returns-clause-unused : goal.returns-clause-unused
 returns-clause-unused g c =
@@ -153,3 +136,21 @@ returns-in_err-page-clause-refused g c =
     let Q : Result PoolPin PageFault → Type 0 = λ r. IfErr r (λ fault. (IsFull (state_of g.M.PageDevice g.T.PageDevice c.args.self.now) c.args.file → ⊥)
     → StaysIn g.M.PageDevice g.T.PageDevice c.args.self.now new fault) in
     subst Q (sym is) (subst P c.self.view_is c.in_err-page.ensures.refused)
+
+pub returns-in_err-page-clause-full_clock : goal.returns-in_err-page-clause-full_clock
+returns-in_err-page-clause-full_clock g c =
+    let P : Parts g.row.M.Denot g.row.T.Denot → Type 0 = λ s. IsFull (state_of g.M.PageDevice g.T.PageDevice s) c.args.file → clock_of c.fresh.new.self ≡ clock_of s in
+    subst P c.self.view_is c.in_err-page.ensures.full_clock
+
+pub returns-clause-comes : goal.returns-clause-comes
+returns-clause-comes g c =
+    let P : Parts g.row.M.Denot g.row.T.Denot → Type 0 = λ s. ComesIn (current_of s) (clock_of s) (clock_of c.fresh.new.self) (frame_of c.fresh.new.self c.in_ok-page.page) in
+    subst P c.self.view_is c.in_ok-page.ensures.comes
+
+pub returns-clause-stock : goal.returns-clause-stock
+returns-clause-stock g c =
+    let P : Parts g.row.M.Denot g.row.T.Denot → Type 0 = λ s. SameStockOf s c.fresh.new.self in subst P c.self.view_is c.in_ok-page.ensures.stock
+
+pub returns-in_err-page-clause-stock : goal.returns-in_err-page-clause-stock
+returns-in_err-page-clause-stock g c =
+    let P : Parts g.row.M.Denot g.row.T.Denot → Type 0 = λ s. SameStockOf s c.fresh.new.self in subst P c.self.view_is c.in_err-page.ensures.stock

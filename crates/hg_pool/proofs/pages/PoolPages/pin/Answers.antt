@@ -2,8 +2,8 @@ use Rattle.std.proofs.Common.{◌≡◌, sym, subst, true, false, OnErr, Result}
 use Rattle.std.proofs.lemmas.Result.{err_from_is_err_and}
 use Rattle.hg_base.specs.Space.{key, IsSame, IsPinned}
 use Rattle.hg_base.specs.declared.pages.PageFault.{PageFault}
-use Rattle.hg_pool.specs.Round.{Stays, ComesIn, PassesNext}
-use Rattle.hg_pool.specs.Shown.{state_of, in_frame, frame_of, round_of}
+use Rattle.hg_pool.specs.Clocking.{ComesIn, used}
+use Rattle.hg_pool.specs.Shown.{state_of, in_frame, frame_of, clock_of, current_of, SameStockOf}
 use Rattle.hg_pool.specs.declared.parts.Parts.{Parts}
 use Rattle.hg_pool.specs.declared.pages.PoolPin.{PoolPin}
 use Rattle.std.proofs.Common.{◌<◌, ◌-◌, ◌^◌, ap}
@@ -22,25 +22,6 @@ pub returns-clause-ok : goal.returns-clause-ok
 returns-clause-ok g c =
     let P : Parts g.row.M.Denot g.row.T.Denot → Type 0 = λ s. IsPinned (state_of g.M.PageDevice g.T.PageDevice s) (state_of g.M.PageDevice g.T.PageDevice c.pin.new.self) (key c.args.page) in
     subst P c.self.view_is c.in_ok-pin.ensures.ok
-
-pub returns-in_err-pin-clause-passes_next : goal.returns-in_err-pin-clause-passes_next
-returns-in_err-pin-clause-passes_next g c =
-    let p = err_from_is_err_and c.from_residual.result c.from_residual.ensures.1 in
-    let P : Parts g.row.M.Denot g.row.T.Denot → Type 0 = λ s. PassesNext (round_of s) (round_of c.pin.new.self) in
-    let Q : Result PoolPin PageFault → Type 0 = λ r. OnErr r (P c.args.self.now) in
-    subst Q (sym p.1) (subst P c.self.view_is c.in_err-pin.ensures.passes_next)
-
-pub returns-clause-stays : goal.returns-clause-stays
-returns-clause-stays g c =
-    let page = c.args.page in
-    let P : Parts g.row.M.Denot g.row.T.Denot → Type 0 = λ s. in_frame s page ≡ true → Stays (round_of s) (round_of c.pin.new.self) (frame_of s page) (frame_of c.pin.new.self page) in
-    subst P c.self.view_is c.in_ok-pin.ensures.stays
-
-pub returns-clause-comes : goal.returns-clause-comes
-returns-clause-comes g c =
-    let page = c.args.page in
-    let P : Parts g.row.M.Denot g.row.T.Denot → Type 0 = λ s. in_frame s page ≡ false → ComesIn (round_of s) (round_of c.pin.new.self) (frame_of c.pin.new.self page) in
-    subst P c.self.view_is c.in_ok-pin.ensures.comes
 
 pub returns-clause-keeps_frames : goal.returns-clause-keeps_frames
 returns-clause-keeps_frames g c =
@@ -91,3 +72,23 @@ returns-in_err-pin-clause-uncounted g c =
       main = ap (λ d. d.main) devices;
       temp = ap (λ d. d.temp) devices;
     }
+
+pub returns-clause-used : goal.returns-clause-used
+returns-clause-used g c =
+    let page = c.args.page in
+    let P : Parts g.row.M.Denot g.row.T.Denot → Type 0 = λ s. in_frame s page ≡ true → clock_of c.pin.new.self ≡ used (clock_of s) (frame_of s page) in
+    subst P c.self.view_is c.in_ok-pin.ensures.used
+
+pub returns-clause-comes : goal.returns-clause-comes
+returns-clause-comes g c =
+    let page = c.args.page in
+    let P : Parts g.row.M.Denot g.row.T.Denot → Type 0 = λ s. in_frame s page ≡ false → ComesIn (current_of s) (clock_of s) (clock_of c.pin.new.self) (frame_of c.pin.new.self page) in
+    subst P c.self.view_is c.in_ok-pin.ensures.comes
+
+pub returns-clause-stock : goal.returns-clause-stock
+returns-clause-stock g c =
+    let P : Parts g.row.M.Denot g.row.T.Denot → Type 0 = λ s. SameStockOf s c.pin.new.self in subst P c.self.view_is c.in_ok-pin.ensures.stock
+
+pub returns-in_err-pin-clause-stock : goal.returns-in_err-pin-clause-stock
+returns-in_err-pin-clause-stock g c =
+    let P : Parts g.row.M.Denot g.row.T.Denot → Type 0 = λ s. SameStockOf s c.pin.new.self in subst P c.self.view_is c.in_err-pin.ensures.stock

@@ -1,7 +1,9 @@
 use Rattle.std.proofs.Common.{◌∙◌, ap}
 use Rattle.hg_base.specs.Space.{key, without_page}
 use Rattle.hg_pool.specs.Shown.{state_of}
-use Rattle.std.proofs.Common.{subst}
+use Rattle.std.proofs.Common.{◌≡◌, true, false, subst}
+use Rattle.hg_pool.specs.Clocking.{forgotten}
+use Rattle.hg_pool.specs.Shown.{in_frame, frame_of, clock_of, SameStockOf}
 use Rattle.hg_pool.specs.declared.parts.Parts.{Parts}
 use Rattle.hg_pool.specs.Shown.{SameFramesBut, counts_of_pool}
 use Rattle.hg_pool.proofs.pages.PoolPages.release.Goals as goal
@@ -16,3 +18,17 @@ returns-clause-frames g c =
 
 pub returns-clause-counts : goal.returns-clause-counts
 returns-clause-counts g c = c.release.ensures.counts ∙ ap (λ s. counts_of_pool s) c.self.view_is
+
+pub returns-clause-forgets : goal.returns-clause-forgets
+returns-clause-forgets g c =
+    let P : Parts g.row.M.Denot g.row.T.Denot → Type 0 = λ s. in_frame s c.args.page ≡ true → clock_of c.release.new.self ≡ forgotten (clock_of s) (frame_of s c.args.page) in
+    subst P c.self.view_is c.release.ensures.forgets
+
+pub returns-clause-keeps_clock : goal.returns-clause-keeps_clock
+returns-clause-keeps_clock g c =
+    let P : Parts g.row.M.Denot g.row.T.Denot → Type 0 = λ s. in_frame s c.args.page ≡ false → clock_of c.release.new.self ≡ clock_of s in
+    subst P c.self.view_is c.release.ensures.keeps_clock
+
+pub returns-clause-stock : goal.returns-clause-stock
+returns-clause-stock g c =
+    let P : Parts g.row.M.Denot g.row.T.Denot → Type 0 = λ s. SameStockOf s c.release.new.self in subst P c.self.view_is c.release.ensures.stock

@@ -2,6 +2,7 @@ use Rattle.std.proofs.Common.{◌∙◌, ap}
 use Rattle.hg_base.specs.Space.{key, with_next}
 use Rattle.hg_pool.specs.Shown.{state_of}
 use Rattle.std.proofs.Common.{subst}
+use Rattle.hg_pool.specs.Shown.{clock_of, SameStockOf}
 use Rattle.hg_pool.specs.declared.parts.Parts.{Parts}
 use Rattle.hg_pool.specs.Shown.{SameFrames, counts_of_pool}
 use Rattle.hg_pool.proofs.pages.PoolPages.set_next.Goals as goal
@@ -16,3 +17,10 @@ returns-clause-frames g c =
 
 pub returns-clause-counts : goal.returns-clause-counts
 returns-clause-counts g c = c.set_next.ensures.counts ∙ ap (λ s. counts_of_pool s) c.self.view_is
+
+pub returns-clause-stock : goal.returns-clause-stock
+returns-clause-stock g c =
+    let P : Parts g.row.M.Denot g.row.T.Denot → Type 0 = λ s. SameStockOf s c.set_next.new.self in subst P c.self.view_is c.set_next.ensures.stock
+
+pub returns-clause-clock : goal.returns-clause-clock
+returns-clause-clock g c = c.set_next.ensures.clock ∙ ap (λ s. clock_of s) c.self.view_is

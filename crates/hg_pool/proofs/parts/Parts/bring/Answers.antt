@@ -10,6 +10,8 @@ use Rattle.hg_pool.specs.declared.parts.Parts.{Parts}
 use Rattle.hg_pool.proofs.Staying.{keeps-then-same}
 use Rattle.hg_pool.proofs.Asking.{asks-then}
 use Rattle.hg_pool.specs.Shown.{owed, Leaves, IsRefused}
+use Rattle.std.proofs.Common.{length}
+use Rattle.hg_clock.specs.Clock.{ClockState, Takes}
 use Rattle.hg_pool.proofs.parts.Parts.bring.Goals as goal
 
 pub returns-in_err-load-clause-passes : goal.returns-in_err-load-clause-passes
@@ -51,7 +53,7 @@ returns-in_err-load-clause-refused g c =
     let is : c.from_residual-in_err-load.result ≡ Err fault = p.1 ∙ ap Err p.2 in
     let left : Leaves g.M.PageDevice g.T.PageDevice a b page fault = record {
       frame = f;
-      next = c.in_ok-at.ensures.reaches.next;
+      takes = subst (λ (k : ClockState). Takes (length a.store.frames.items) a.store.clock f k) (sym c.load.ensures.clock) c.in_ok-at.ensures.takes;
       fails = c.in_err-load.ensures.fails;
       asked = asks-then d e k a.store.counts m.store.counts b.store.counts (owed a f) (Some page.file) c.in_ok-at.ensures.asked c.in_err-load.ensures.asked;
       empty = c.in_err-load.ensures.page;
@@ -60,3 +62,8 @@ returns-in_err-load-clause-refused g c =
     } in
     let P : Result ℕ PageFault → Type 0 = λ r. IfErr r (IsRefused g.M.PageDevice g.T.PageDevice a b page) in
     subst P (sym is) (inr left)
+
+pub returns-clause-takes : goal.returns-clause-takes
+returns-clause-takes g c =
+    let a : Parts g.row.M.Denot g.row.T.Denot = c.args.self.now in
+    λ _. subst (λ (k : ClockState). Takes (length a.store.frames.items) a.store.clock c.in_ok-at.at k) (sym c.load.ensures.clock) c.in_ok-at.ensures.takes

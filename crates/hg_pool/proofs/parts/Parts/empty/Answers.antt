@@ -5,10 +5,9 @@ use Rattle.hg_pool.specs.Keeping.{with_frame}
 use Rattle.hg_pool.specs.Passing.{Passes}
 use Rattle.hg_pool.specs.declared.store.Store.{Store}
 use Rattle.hg_pool.proofs.Passing.{cleared, recounted}
-use Rattle.hg_pool.specs.Round.{round_in}
-use Rattle.hg_pool.specs.RoundLaws.{round-same}
+use Rattle.hg_pool.proofs.InFrames.{not-or}
 use Rattle.hg_pool.specs.declared.parts.Parts.{Parts}
-use Rattle.hg_pool.specs.declared.frames.Frame.{Frame}
+use Rattle.hg_pool.specs.Seen.{Frame}
 use Rattle.hg_pool.proofs.Staying.{frame-emptied}
 use Rattle.hg_pool.proofs.parts.Parts.empty.Goals as goal
 
@@ -21,14 +20,7 @@ returns-clause-passes g c =
     let after : z ≡ record (with_frame s i (record (frame_at s.frames.items i) { page = None })) { counts = z.counts } =
     recounted z c.set_empty.new.self _ c.count_eviction.ensures ∙ ap (λ (y : Store). record y { counts = z.counts }) c.set_empty.ensures in
     let P : Store → Type 0 = λ y. Passes {X = Unit {0}} d s d y (Ok tt) in
-    subst P (sym after) (cleared d s z.counts i tt c.requires.whole c.requires.there c.requires.clean c.requires.free)
-
-pub returns-clause-round : goal.returns-clause-round
-returns-clause-round g c =
-    let s : Store = c.args.self.now.store in
-    let i : ℕ = c.args.at in
-    ap round_in c.count_eviction.ensures ∙ ap round_in c.set_empty.ensures
-    ∙ round-same s i (record (frame_at s.frames.items i) { page = None }) c.requires.there refl
+    subst P (sym after) (let both = not-or (frame_at s.frames.items i).pinned (frame_at s.frames.items i).lent c.requires.free in cleared d s z.counts i tt c.requires.whole c.requires.there c.requires.clean both.0 both.1)
 
 pub returns-clause-keeps : goal.returns-clause-keeps
 returns-clause-keeps g c =

@@ -1,3 +1,7 @@
+use Rattle.std.proofs.Common.{None}
+use Rattle.hg_pool.specs.Shown.{owed}
+use Rattle.hg_pool.specs.Work.{Asks}
+use Rattle.hg_pool.specs.declared.PoolCounts.{PoolCounts}
 use Rattle.std.proofs.Common.{◌≡◌, ℕ, ◌+◌, ◌<◌, ◌∙◌, ap, sym, subst, refl, arith, Result, OnErr}
 use Rattle.hg_base.specs.Space.{at, key, IsMade, IsFull}
 use Rattle.hg_base.specs.declared.PageId.{PageId}
@@ -11,11 +15,14 @@ use Rattle.hg_pool.specs.declared.store.Store.{Store}
 use Rattle.std.proofs.lemmas.Bool.{false≢true}
 use Rattle.std.proofs.lemmas.Result.{err_from_is_err_and}
 use Rattle.hg_pool.proofs.Calling.{makes-page, made-behind}
-use Rattle.hg_pool.specs.Round.{PassesNext, with_out, round_in}
+use Rattle.std.proofs.Common.{◌||◌, length}
+use Rattle.hg_clock.specs.Clock.{score_of}
+use Rattle.hg_pool.specs.Clocking.{used}
+use Rattle.hg_pool.proofs.Passing.{ticks}
+use Rattle.hg_pool.proofs.Calling.{few-room}
 use Rattle.hg_pool.proofs.Ranges.{next-place, next-room}
 use Rattle.hg_pool.specs.declared.places.Places.{Places}
-use Rattle.hg_pool.specs.RoundLaws.{round-held}
-use Rattle.hg_pool.proofs.Rounds.{comes-in, noted-place, all-empty}
+use Rattle.hg_pool.proofs.Hands.{comes-in, used-seven, noted-place, all-empty}
 use Rattle.hg_pool.specs.Shown.{frame_of, page_in, KeepsFrames}
 use Rattle.hg_pool.specs.Work.{evicted}
 use Rattle.hg_pool.specs.declared.parts.Parts.{Parts}
@@ -39,7 +46,7 @@ returns-clause-whole g c =
     let few : z.pins < 8 = (let l = c.in_ok-at.ensures.clears.pins in let k = c.requires.few in omega arith) in
     let page : PageId = record { file = c.args.file; no = c.in-Some.no } in
     let makes = makes-page c.args.file e z c.take.new.self c.reach.new.self c.in_ok-at.at c.in-Some.no c.in_ok-at.ensures.passes.whole c.in_ok-at.ensures.room c.in-Some.ensures.some c.reach.ensures few in
-    let made : Store = record (with_frame z c.in_ok-at.at (new_frame page)) { places = with_place c.reach.new.self page c.in_ok-at.at; pins = z.pins + 1; maps = c.take.new.self } in
+    let made : Store = record (with_frame z c.in_ok-at.at (new_frame page)) { places = with_place c.reach.new.self page c.in_ok-at.at; pins = z.pins + 1; clock = used z.clock c.in_ok-at.at; maps = c.take.new.self } in
     let after : c.set_new.new.self ≡ made = c.set_new.ensures in
     let P : Store → Type 0 = λ y. IsSound e y in subst P (sym after) makes.whole
 
@@ -52,7 +59,7 @@ returns-clause-ok g c =
     let few : z.pins < 8 = (let l = c.in_ok-at.ensures.clears.pins in let k = c.requires.few in omega arith) in
     let page : PageId = record { file = c.args.file; no = c.in-Some.no } in
     let makes = makes-page c.args.file e z c.take.new.self c.reach.new.self c.in_ok-at.at c.in-Some.no c.in_ok-at.ensures.passes.whole c.in_ok-at.ensures.room c.in-Some.ensures.some c.reach.ensures few in
-    let made : Store = record (with_frame z c.in_ok-at.at (new_frame page)) { places = with_place c.reach.new.self page c.in_ok-at.at; pins = z.pins + 1; maps = c.take.new.self } in
+    let made : Store = record (with_frame z c.in_ok-at.at (new_frame page)) { places = with_place c.reach.new.self page c.in_ok-at.at; pins = z.pins + 1; clock = used z.clock c.in_ok-at.at; maps = c.take.new.self } in
     let after : c.set_new.new.self ≡ made = c.set_new.ensures in
     let P : Store → Type 0 = λ y. IsMade c.args.file (shown (picture_of d s)) (shown (picture_of e y)) page in
     subst P (sym after) (made-behind c.args.file (shown (picture_of d s)) (shown (picture_of e z)) _ page c.in_ok-at.ensures.passes.same makes.ok)
@@ -66,9 +73,18 @@ returns-clause-in_frame g c =
     let few : z.pins < 8 = (let l = c.in_ok-at.ensures.clears.pins in let k = c.requires.few in omega arith) in
     let page : PageId = record { file = c.args.file; no = c.in-Some.no } in
     let makes = makes-page c.args.file e z c.take.new.self c.reach.new.self c.in_ok-at.at c.in-Some.no c.in_ok-at.ensures.passes.whole c.in_ok-at.ensures.room c.in-Some.ensures.some c.reach.ensures few in
-    let made : Store = record (with_frame z c.in_ok-at.at (new_frame page)) { places = with_place c.reach.new.self page c.in_ok-at.at; pins = z.pins + 1; maps = c.take.new.self } in
+    let made : Store = record (with_frame z c.in_ok-at.at (new_frame page)) { places = with_place c.reach.new.self page c.in_ok-at.at; pins = z.pins + 1; clock = used z.clock c.in_ok-at.at; maps = c.take.new.self } in
     let after : c.set_new.new.self ≡ made = c.set_new.ensures in
     ap (λ (y : Store). is_inside y (key page)) after ∙ makes.inside
+
+pub room-requires-clause-room : goal.room-requires-clause-room
+room-requires-clause-room g c = few-room c.args.self.now.store c.requires.whole.shape c.requires.few
+
+pub set_new-requires-clause-free : goal.set_new-requires-clause-free
+set_new-requires-clause-free g c = λ i. c.in_ok-at.ensures.room.free i || c.in_ok-at.ensures.room.home i
+
+pub set_new-requires-clause-clock : goal.set_new-requires-clause-clock
+set_new-requires-clause-clock g c = ticks c.room.new.self.store c.in_ok-at.at c.in_ok-at.ensures.passes.whole.shape c.in_ok-at.ensures.room.there
 
 pub returns-clause-comes : goal.returns-clause-comes
 returns-clause-comes g c =
@@ -78,17 +94,27 @@ returns-clause-comes g c =
     let page : PageId = record { file = c.args.file; no = c.in-Some.no } in
     let w : Places = c.reach.new.self in
     let in_range : c.in-Some.no < places_in w c.args.file = c.reach.ensures.there in
-    let held : round_in c.set_new.new.self ≡ with_out (round_in z) i = ap round_in c.set_new.ensures ∙ round-held z i (new_frame page) c.in_ok-at.ensures.room.there refl in
     let place : place_at c.set_new.new.self.places (key page) ≡ i = ap (λ (y : Store). place_at y.places (key page)) c.set_new.ensures ∙ noted-place w page i in_range in
-    comes-in (round_in s) (round_in z) (round_in c.set_new.new.self) i _ c.in_ok-at.ensures.reaches held place
+    comes-in (length s.frames.items) s.clock z.clock c.set_new.new.self.clock i _ c.in_ok-at.ensures.takes (ap (λ (y : Store). y.clock) c.set_new.ensures) place
 
-pub returns-in_err-at-clause-passes_next : goal.returns-in_err-at-clause-passes_next
-returns-in_err-at-clause-passes_next g c =
-    let s : Store = c.args.self.now.store in
-    let d : Disks = disks_in g.M.PageDevice g.T.PageDevice c.args.self.now.devices in
-    let p = err_from_is_err_and c.from_residual.result c.from_residual.ensures.1 in
-    let P : Result PageId PageFault → Type 0 = λ r. OnErr r ((IsFull (shown (picture_of d s)) c.args.file → ⊥) → PassesNext (round_in s) (round_in c.room.new.self.store)) in
-    subst P (sym p.1) (λ _. c.in_err-at.ensures.passes_next)
+pub returns-clause-score : goal.returns-clause-score
+returns-clause-score g c =
+    let z : Store = c.room.new.self.store in
+    let i : ℕ = c.in_ok-at.at in
+    let page : PageId = record { file = c.args.file; no = c.in-Some.no } in
+    let w : Places = c.reach.new.self in
+    let in_range : c.in-Some.no < places_in w c.args.file = c.reach.ensures.there in
+    ap (λ (y : Store). score_of y.clock (place_at y.places (key page))) c.set_new.ensures
+    ∙ ap (λ (f : ℕ). score_of (used z.clock i) f) (noted-place w page i in_range)
+    ∙ used-seven z.clock i (ticks z i c.in_ok-at.ensures.passes.whole.shape c.in_ok-at.ensures.room.there)
+
+pub returns-clause-stock : goal.returns-clause-stock
+returns-clause-stock g c =
+    let k = c.in_ok-at.ensures.passes.stock in record {
+      lent = ap (λ (z : Store). z.lent) c.set_new.ensures ∙ k.lent;
+      max = ap (λ (z : Store). z.frames.max) c.set_new.ensures ∙ k.max;
+      region = ap (λ (z : Store). z.frames.region) c.set_new.ensures ∙ k.region;
+    }
 
 pub returns-clause-unused : goal.returns-clause-unused
 returns-clause-unused g c =
@@ -149,3 +175,17 @@ reach-requires-clause-near g c =
 pub reach-requires-clause-room : goal.reach-requires-clause-room
 reach-requires-clause-room g c =
     next-room c.room.new.self.store c.take.new.self c.args.file c.in-Some.no c.in_ok-at.ensures.passes.whole.shape c.in-Some.ensures.some
+
+pub returns-clause-asked : goal.returns-clause-asked
+returns-clause-asked g c =
+    let a : Parts g.row.M.Denot g.row.T.Denot = c.args.self.now in
+    let m : Parts g.row.M.Denot g.row.T.Denot = c.room.new.self in
+    let d : Disks = disks_in g.M.PageDevice g.T.PageDevice a.devices in
+    let e : Disks = disks_in g.M.PageDevice g.T.PageDevice m.devices in
+    let i : ℕ = c.in_ok-at.at in
+    let page : PageId = record { file = c.args.file; no = c.in-Some.no } in
+    let w : Places = c.reach.new.self in
+    let place : place_at c.set_new.new.self.places (key page) ≡ i = ap (λ (y : Store). place_at y.places (key page)) c.set_new.ensures ∙ noted-place w page i c.reach.ensures.there in
+    let P : PoolCounts → Type 0 = λ n. Asks d a.store.counts e n (owed a i) None in
+    let Q : ℕ → Type 0 = λ k. Asks d a.store.counts e c.set_new.new.self.counts (owed a k) None in
+    subst Q (sym place) (subst P (sym (ap (λ (y : Store). y.counts) c.set_new.ensures)) c.in_ok-at.ensures.asked)

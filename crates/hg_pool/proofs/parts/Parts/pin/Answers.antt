@@ -6,10 +6,12 @@ use Rattle.hg_pool.specs.Sound.{IsSound}
 use Rattle.hg_pool.specs.Keeping.{with_frame}
 use Rattle.hg_pool.specs.declared.store.Store.{Store}
 use Rattle.hg_pool.specs.Keeping.{is_inside}
-use Rattle.hg_pool.proofs.Calling.{holds-pin, still-free, pinned-behind}
-use Rattle.hg_pool.specs.Round.{with_out, round_in}
-use Rattle.hg_pool.specs.RoundLaws.{round-held}
-use Rattle.hg_pool.proofs.Rounds.{comes-in, stays-in}
+use Rattle.hg_pool.proofs.Calling.{holds-pin, still-free, still-home, few-room, pinned-behind}
+use Rattle.std.proofs.Common.{◌||◌}
+use Rattle.hg_clock.specs.Clock.{ClockState, score_of}
+use Rattle.hg_pool.specs.Clocking.{used}
+use Rattle.hg_pool.proofs.Hands.{comes-in, used-seven}
+use Rattle.hg_pool.proofs.Passing.{ticks}
 use Rattle.hg_pool.specs.Shown.{frame_of, page_in, SameFrames, KeepsFrames}
 use Rattle.hg_pool.specs.Work.{evicted}
 use Rattle.hg_pool.specs.declared.parts.Parts.{Parts}
@@ -25,9 +27,10 @@ returns-clause-whole g c =
     let z : Store = c.bring.new.self.store in
     let i : ℕ = c.in_ok-at.at in
     let free : (frame_at z.frames.items i).pinned ≡ false = still-free d e s z (Ok i) i c.args.page c.in_ok-at.ensures.passes c.in_ok-at.ensures.found c.requires.not_pinned in
+    let home : (frame_at z.frames.items i).lent ≡ false = still-home d e s z (Ok i) i c.args.page c.in_ok-at.ensures.passes c.in_ok-at.ensures.found c.requires.no_heap in
     let few : z.pins < 8 = (let l = c.in_ok-at.ensures.pins in let k = c.requires.few in omega arith) in
-    let holds = holds-pin e z i c.args.page c.in_ok-at.ensures.passes.whole c.in_ok-at.ensures.found free few in
-    let after : c.hold.new.self ≡ record (with_frame z i (record (frame_at z.frames.items i) { pinned = true })) { pins = z.pins + 1 } = c.hold.ensures in
+    let holds = holds-pin e z i c.args.page c.in_ok-at.ensures.passes.whole c.in_ok-at.ensures.found free home few in
+    let after : c.hold.new.self ≡ record (with_frame z i (record (frame_at z.frames.items i) { pinned = true })) { pins = z.pins + 1; clock = used z.clock i } = c.hold.ensures in
     let P : Store → Type 0 = λ y. IsSound e y in subst P (sym after) holds.whole
 
 pub returns-clause-ok : goal.returns-clause-ok
@@ -38,9 +41,10 @@ returns-clause-ok g c =
     let z : Store = c.bring.new.self.store in
     let i : ℕ = c.in_ok-at.at in
     let free : (frame_at z.frames.items i).pinned ≡ false = still-free d e s z (Ok i) i c.args.page c.in_ok-at.ensures.passes c.in_ok-at.ensures.found c.requires.not_pinned in
+    let home : (frame_at z.frames.items i).lent ≡ false = still-home d e s z (Ok i) i c.args.page c.in_ok-at.ensures.passes c.in_ok-at.ensures.found c.requires.no_heap in
     let few : z.pins < 8 = (let l = c.in_ok-at.ensures.pins in let k = c.requires.few in omega arith) in
-    let holds = holds-pin e z i c.args.page c.in_ok-at.ensures.passes.whole c.in_ok-at.ensures.found free few in
-    let after : c.hold.new.self ≡ record (with_frame z i (record (frame_at z.frames.items i) { pinned = true })) { pins = z.pins + 1 } = c.hold.ensures in
+    let holds = holds-pin e z i c.args.page c.in_ok-at.ensures.passes.whole c.in_ok-at.ensures.found free home few in
+    let after : c.hold.new.self ≡ record (with_frame z i (record (frame_at z.frames.items i) { pinned = true })) { pins = z.pins + 1; clock = used z.clock i } = c.hold.ensures in
     let P : Store → Type 0 = λ y. IsPinned (shown (picture_of d s)) (shown (picture_of e y)) (key c.args.page) in
     subst P (sym after) (pinned-behind (shown (picture_of d s)) (shown (picture_of e z)) _ (key c.args.page) c.in_ok-at.ensures.passes.same holds.ok)
 
@@ -52,35 +56,62 @@ returns-clause-in_frame g c =
     let z : Store = c.bring.new.self.store in
     let i : ℕ = c.in_ok-at.at in
     let free : (frame_at z.frames.items i).pinned ≡ false = still-free d e s z (Ok i) i c.args.page c.in_ok-at.ensures.passes c.in_ok-at.ensures.found c.requires.not_pinned in
+    let home : (frame_at z.frames.items i).lent ≡ false = still-home d e s z (Ok i) i c.args.page c.in_ok-at.ensures.passes c.in_ok-at.ensures.found c.requires.no_heap in
     let few : z.pins < 8 = (let l = c.in_ok-at.ensures.pins in let k = c.requires.few in omega arith) in
-    let holds = holds-pin e z i c.args.page c.in_ok-at.ensures.passes.whole c.in_ok-at.ensures.found free few in
-    let after : c.hold.new.self ≡ record (with_frame z i (record (frame_at z.frames.items i) { pinned = true })) { pins = z.pins + 1 } = c.hold.ensures in
+    let holds = holds-pin e z i c.args.page c.in_ok-at.ensures.passes.whole c.in_ok-at.ensures.found free home few in
+    let after : c.hold.new.self ≡ record (with_frame z i (record (frame_at z.frames.items i) { pinned = true })) { pins = z.pins + 1; clock = used z.clock i } = c.hold.ensures in
     ap (λ (y : Store). is_inside y (key c.args.page)) after ∙ holds.inside
 
-pub returns-clause-stays : goal.returns-clause-stays
-returns-clause-stays g c =
+pub bring-requires-clause-room : goal.bring-requires-clause-room
+bring-requires-clause-room g c = few-room c.args.self.now.store c.requires.whole.shape c.requires.few
+
+pub hold-requires-clause-free : goal.hold-requires-clause-free
+hold-requires-clause-free g c =
     let s : Store = c.args.self.now.store in
+    let d : Disks = disks_in g.M.PageDevice g.T.PageDevice c.args.self.now.devices in
+    let e : Disks = disks_in g.M.PageDevice g.T.PageDevice c.bring.new.self.devices in
     let z : Store = c.bring.new.self.store in
     let i : ℕ = c.in_ok-at.at in
-    let held : round_in c.hold.new.self ≡ with_out (round_in z) i =
-    ap round_in c.hold.ensures ∙ round-held z i (record (frame_at z.frames.items i) { pinned = true }) c.in_ok-at.ensures.found.there refl in
-    let place : place_at c.hold.new.self.places (key c.args.page) ≡ i = ap (λ (y : Store). place_at y.places (key c.args.page)) c.hold.ensures ∙ sym c.in_ok-at.ensures.found.place in
-    λ inside. stays-in (round_in s) (round_in z) (round_in c.hold.new.self) (place_at s.places (key c.args.page)) i _ (c.in_ok-at.ensures.stays inside)
-    (c.in_ok-at.ensures.keeps_round inside) held place
+    let free : (frame_at z.frames.items i).pinned ≡ false = still-free d e s z (Ok i) i c.args.page c.in_ok-at.ensures.passes c.in_ok-at.ensures.found c.requires.not_pinned in
+    let home : (frame_at z.frames.items i).lent ≡ false = still-home d e s z (Ok i) i c.args.page c.in_ok-at.ensures.passes c.in_ok-at.ensures.found c.requires.no_heap in
+    λ j. free j || home j
+
+pub hold-requires-clause-clock : goal.hold-requires-clause-clock
+hold-requires-clause-clock g c = ticks c.bring.new.self.store c.in_ok-at.at c.in_ok-at.ensures.passes.whole.shape c.in_ok-at.ensures.found.there
+
+pub returns-clause-used : goal.returns-clause-used
+returns-clause-used g c =
+    let s : Store = c.args.self.now.store in
+    let i : ℕ = c.in_ok-at.at in
+    λ inside. ap (λ (y : Store). y.clock) c.hold.ensures ∙ ap (λ (k : ClockState). used k i) (c.in_ok-at.ensures.keeps_clock inside) ∙ ap (λ (f : ℕ). used s.clock f) (c.in_ok-at.ensures.stays inside)
 
 pub returns-clause-comes : goal.returns-clause-comes
 returns-clause-comes g c =
     let s : Store = c.args.self.now.store in
     let z : Store = c.bring.new.self.store in
     let i : ℕ = c.in_ok-at.at in
-    let held : round_in c.hold.new.self ≡ with_out (round_in z) i =
-    ap round_in c.hold.ensures ∙ round-held z i (record (frame_at z.frames.items i) { pinned = true }) c.in_ok-at.ensures.found.there refl in
     let place : place_at c.hold.new.self.places (key c.args.page) ≡ i = ap (λ (y : Store). place_at y.places (key c.args.page)) c.hold.ensures ∙ sym c.in_ok-at.ensures.found.place in
-    λ outside. comes-in (round_in s) (round_in z) (round_in c.hold.new.self) i _ (c.in_ok-at.ensures.reaches outside) held place
+    λ outside. comes-in (length s.frames.items) s.clock z.clock c.hold.new.self.clock i _ (c.in_ok-at.ensures.takes outside) (ap (λ (y : Store). y.clock) c.hold.ensures) place
+
+pub returns-clause-score : goal.returns-clause-score
+returns-clause-score g c =
+    let z : Store = c.bring.new.self.store in
+    let i : ℕ = c.in_ok-at.at in
+    ap (λ (y : Store). score_of y.clock (place_at y.places (key c.args.page))) c.hold.ensures
+    ∙ ap (λ (f : ℕ). score_of (used z.clock i) f) (sym c.in_ok-at.ensures.found.place)
+    ∙ used-seven z.clock i (ticks z i c.in_ok-at.ensures.passes.whole.shape c.in_ok-at.ensures.found.there)
+
+pub returns-clause-stock : goal.returns-clause-stock
+returns-clause-stock g c =
+    let k = c.in_ok-at.ensures.passes.stock in record {
+      lent = ap (λ (z : Store). z.lent) c.hold.ensures ∙ k.lent;
+      max = ap (λ (z : Store). z.frames.max) c.hold.ensures ∙ k.max;
+      region = ap (λ (z : Store). z.frames.region) c.hold.ensures ∙ k.region;
+    }
 
 -- a pin of a frame leaves the pages in theirs
 held-stays : {M T : Type 0} (a : Parts M T) (z : Store) (i : ℕ) → i < length a.store.frames.items
-    → z ≡ record (with_frame a.store i (record (frame_at a.store.frames.items i) { pinned = true })) { pins = a.store.pins + 1 } → SameFrames a (record a { store = z })
+    → z ≡ record (with_frame a.store i (record (frame_at a.store.frames.items i) { pinned = true })) { pins = a.store.pins + 1; clock = used a.store.clock i } → SameFrames a (record a { store = z })
 held-stays a z i there e = frame-kept a (record a { store = z }) i (record (frame_at a.store.frames.items i) { pinned = true }) there refl
     (ap (λ (y : Store). y.frames.items) e) (ap (λ (y : Store). y.places) e)
 

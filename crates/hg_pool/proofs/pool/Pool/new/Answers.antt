@@ -1,6 +1,6 @@
 use Rattle.hg_pool.specs.Disks.{Disks, disk_of}
 use Rattle.hg_pool.specs.declared.parts.Parts.{Parts}
-use Rattle.hg_pool.proofs.NewPool.{new-sound, new-shown, new-no_pins, new-round, new-none_in}
+use Rattle.hg_pool.proofs.NewPool.{new-sound, new-shown, new-no_pins, new-none_in}
 use Rattle.hg_pool.proofs.pool.Pool.new.Goals as goal
 
 pub invariant_of-result : goal.invariant_of-result
@@ -17,9 +17,6 @@ pub returns-in-Ok-clause-no_pins : goal.returns-in-Ok-clause-no_pins
 returns-in-Ok-clause-no_pins g c =
     let d : Disks = record { main = disk_of g.M.PageDevice c.args.main; temp = disk_of g.T.PageDevice c.args.temp } in
     new-no_pins c.args.config.now d _ (new-shown c.args.config.now d c.in-Ok.store c.in-Ok.ensures)
-
-pub returns-in-Ok-clause-round : goal.returns-in-Ok-clause-round
-returns-in-Ok-clause-round g c = new-round c.args.config.now c.in-Ok.store c.in-Ok.ensures
 
 pub returns-in-Ok-clause-none_in : goal.returns-in-Ok-clause-none_in
 returns-in-Ok-clause-none_in g c =

@@ -1,6 +1,7 @@
 use Rattle.std.proofs.Common.{Bool, List, ◌∙◌, length, refl, sym, ap, subst}
 use Rattle.hg_raw.specs.declared.slots.Slots.{Slots}
-use Rattle.hg_raw.specs.Frames.{RegionId, RegionSeen, ChainSeen, numbers}
+use Rattle.hg_raw.specs.Frames.{RegionId, RegionSeen, ChainSeen, numbers, is_in, bytes_of}
+use Rattle.hg_raw.proofs.Lists.{sized-at}
 use Rattle.hg_raw.specs.Links.{Sized, marked}
 use Rattle.hg_raw.proofs.Chains.{words-sized}
 use Rattle.hg_raw.proofs.Regions.{count-home, back-is, seen-back, refitted, was-out, back-home, back-bytes}
@@ -35,3 +36,8 @@ returns-clause-are_home c = back-home c.self.inside c.c.inside c.self.invariant 
 
 pub returns-clause-bytes : goal.returns-clause-bytes
 returns-clause-bytes c = back-bytes c.self.inside c.c.inside c.args.c c.c.view_is c.append-2.ensures.apart _ (invariant_of-self c) c.append-2.ensures.all
+
+pub returns-clause-sized : goal.returns-clause-sized
+returns-clause-sized c = λ n has.
+    ap (λ (v : ChainSeen). length (bytes_of v.frames n)) (sym c.c.view_is)
+    ∙ sized-at 4096 c.c.inside.pages.held n c.c.invariant.sized (ap (λ (v : ChainSeen). is_in n (numbers v.frames)) c.c.view_is ∙ has)
