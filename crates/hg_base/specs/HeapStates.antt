@@ -343,12 +343,12 @@ ReadFault fault.TempFull = ⊥
 ReadFault (fault.Damaged page check) = IsHeapCheck check
 
 -- damage that is found is said of one of these pages
-abbrev pub NamesOneOf : List ℕ → PageFault → Type 0
-NamesOneOf pages fault.MainFault = ⊤
-NamesOneOf pages fault.TempFault = ⊤
-NamesOneOf pages fault.MainFull = ⊤
-NamesOneOf pages fault.TempFull = ⊤
-NamesOneOf pages (fault.Damaged page check) = has_page pages (key page) ≡ true
+abbrev pub NamesHeapPage : List ℕ → PageFault → Type 0
+NamesHeapPage pages fault.MainFault = ⊤
+NamesHeapPage pages fault.TempFault = ⊤
+NamesHeapPage pages fault.MainFull = ⊤
+NamesHeapPage pages fault.TempFull = ⊤
+NamesHeapPage pages (fault.Damaged page check) = has_page pages (key page) ≡ true
 
 -- the fault that a call tells which hands a grant back with it
 abbrev pub refused_fault : {T G : Type 0} → Result T (PageFault × G) → Option PageFault

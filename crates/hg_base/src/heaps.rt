@@ -23,7 +23,7 @@ pub trait Heaps: Pages {
     ghost use Rattle.hg_base.specs.Content.{row_object, directory, object_size};
     ghost use Rattle.hg_base.specs.HeapContent.{no_links};
     ghost use Rattle.hg_base.specs.HeapFacts.{AreHeaps};
-    ghost use Rattle.hg_base.specs.HeapStates.{MayGrow, CanLock, CanDrain, MakesHeap, AddsHeapPage, Locks, Drains, ReadFault, IsLocked, IsTarget, IsWordAt, HasWord, heap_count, payload_in, link_in, words_in, roots_in, room_in, next_in, after_row, after_directory, after_word, after_root, after_bytes, after_unlock, after_drop, pages_in, request_in, refused_fault, NamesOneOf, KeepsObjects};
+    ghost use Rattle.hg_base.specs.HeapStates.{MayGrow, CanLock, CanDrain, MakesHeap, AddsHeapPage, Locks, Drains, ReadFault, IsLocked, IsTarget, IsWordAt, HasWord, heap_count, payload_in, link_in, words_in, roots_in, room_in, next_in, after_row, after_directory, after_word, after_root, after_bytes, after_unlock, after_drop, pages_in, request_in, refused_fault, NamesHeapPage, KeepsObjects};
     ghost use Rattle.hg_base.specs.declared.File.TheVariants.{Temp};
 
     // the space once the last bytes behind a loan of a payload are known
@@ -152,7 +152,7 @@ pub trait Heaps: Pages {
         ensures ok { OnOk result (Locks (Self.state self.old) (Self.state self.new) h.0) }
         ensures err { OnErr result (IsSame (Self.state self.old) (Self.state self.new)) }
         ensures fault { IfErr result ReadFault }
-        ensures page { IfErr result (NamesOneOf (pages_in ((Self.state self.old).heaps.heap h.0))) }
+        ensures page { IfErr result (NamesHeapPage (pages_in ((Self.state self.old).heaps.heap h.0))) }
         ensures cause { HasCause (Self.state self.old) (Self.state self.new) (fault_of result) };
 
     /// Gives the frames of a heap back; its pages may leave them from now on.
@@ -173,7 +173,7 @@ pub trait Heaps: Pages {
         }) }
         ensures err { OnErr result (IsSame (Self.state self.old) (Self.state self.new)) }
         ensures fault { IfErr result ReadFault }
-        ensures page { IfErr result (NamesOneOf (take 1 (pages_in ((Self.state self.old).heaps.heap h.0)))) }
+        ensures page { IfErr result (NamesHeapPage (take 1 (pages_in ((Self.state self.old).heaps.heap h.0)))) }
         ensures cause { HasCause (Self.state self.old) (Self.state self.new) (fault_of result) };
 
     /// Releases all pages of a heap, wherever they are, and gives back its grant. No device is called.
