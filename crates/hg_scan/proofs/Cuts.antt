@@ -1,12 +1,11 @@
 -- What is cut off the front of a line.
-use Rattle.std.proofs.Common.{◌≡◌, ℕ, suc, ◌+◌, ◌<◌, ◌≤◌, Bool, true, false, not, List, [], ◌∷◌, length, drop, take, Option, None, Some, sym, ◌∙◌, ap, subst, refl, arith, one-add}
+use Rattle.std.proofs.Common.{◌≡◌, ℕ, suc, ◌+◌, true, false, not, List, [], ◌∷◌, drop, take, None, Some, sym, ◌∙◌, ap, subst, refl, arith, one-add}
 use Rattle.std.proofs.lemmas.Bool.{and_from, not_from_false}
 use Rattle.std.proofs.lemmas.List.{drop-drop}
-use Rattle.std.specs.List.{prefix_len, take_while, find, list_any}
+use Rattle.std.specs.List.{prefix_len, take_while}
 use Rattle.hg_model.specs.Name.{begins_word, is_in_word, is_digit}
-use Rattle.hg_model.specs.Tables.{same_name}
-use Rattle.hg_model.specs.Tokens.{Token, Word, Letters, begins, is_word, is_number, is_reserved, lower}
-use Rattle.hg_scan.specs.Cutting.{closing, undoubled, text_up_to, text_front, word_front, drop_while}
+use Rattle.hg_model.specs.Tokens.{Word, Letters, begins, is_word, is_number, is_reserved, lower}
+use Rattle.hg_scan.specs.Cutting.{closing, undoubled, text_up_to, text_front}
 use Rattle.hg_scan.specs.FrontLaws.{run-passes}
 use Rattle.hg_scan.specs.TokenLaws.{digits_are_number, in_word_first}
 use Rattle.hg_scan.specs.Pieces.{token_by, is_piece}
@@ -14,7 +13,6 @@ use Rattle.hg_scan.specs.Shown.{Cuts}
 use Rattle.hg_scan.specs.Words.{word_of, keyword_named}
 use Rattle.hg_scan.proofs.Packed.{is_that_word, is_no_word}
 use lib.Pointwise.{bytes_decides}
-use Rattle.hg_scan.specs.declared.piece.Kind.{Kind}
 use Rattle.hg_scan.specs.declared.piece.Kind.TheVariants as kind
 use Rattle.hg_scan.specs.declared.piece.Piece.{Piece}
 use Rattle.hg_scan.specs.declared.words.Keyword.{Keyword}

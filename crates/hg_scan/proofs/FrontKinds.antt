@@ -1,11 +1,11 @@
 -- What the kind of a byte says of the front of a line.
 use Rattle.std.proofs.Common.{◌≡◌, ℕ, zero, suc, ◌+◌, ◌<◌, ◌≤◌, Bool, true, false, List, [], ◌∷◌, length, drop, take, ◌-◌, get_or, ◌==◌, sym, ◌∙◌, ap, subst, refl, arith, inl, inr, cond}
 use Rattle.std.proofs.lemmas.List.{take_all, length-drop}
-use Rattle.std.proofs.lemmas.Bool.{cases_Bool, eqb-true, agree_below, agree_below_at}
+use Rattle.std.proofs.lemmas.Bool.{cases_Bool, eqb-true, agree_below_at}
 use Rattle.hg_model.specs.Name.{begins_word, is_in_word, is_digit}
 use Rattle.hg_model.specs.Value.{is_printable}
 use Rattle.hg_model.specs.Tokens.{Sign, begins}
-use Rattle.hg_scan.specs.Bytes.{kind_of, sign_kind}
+use Rattle.hg_scan.specs.Bytes.{kind_of}
 use Rattle.hg_scan.specs.Cutting.{Front, AtEnd, Wrong, Next, is_blank, word_front, number_front, text_front, sign_front, front_of}
 use Rattle.hg_scan.specs.FrontLaws.{word_is_no_minus, digit_is_no_minus, front-nil}
 use Rattle.hg_scan.specs.Pieces.{minus_front}

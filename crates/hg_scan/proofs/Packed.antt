@@ -1,13 +1,13 @@
 -- Words packed into numbers.
-use Rattle.std.proofs.Common.{◌≡◌, ℕ, zero, suc, ◌+◌, ◌*◌, ◌^◌, ◌<◌, ◌≤◌, Bool, true, false, not, ◌&&◌, ◌||◌, List, [], ◌∷◌, length, take, map, get_or, Option, None, Some, ◌==◌, sym, ◌∙◌, ap, subst, refl, arith, inl, inr, add-one, cond, nat_lt, Fits, w8}
+use Rattle.std.proofs.Common.{◌≡◌, ℕ, zero, suc, ◌+◌, ◌*◌, ◌^◌, ◌<◌, ◌≤◌, Bool, true, false, not, List, [], ◌∷◌, length, take, map, get_or, None, Some, ◌==◌, sym, ◌∙◌, ap, refl, arith, inl, inr, add-one, cond, nat_lt, Fits, w8}
 use Rattle.std.proofs.Math.Nat.{pow-suc, pow-le-pow_right}
 use Rattle.std.proofs.lemmas.Bool.{cases_Bool, eqb-true, eqb-false, eq-eqb, and_parts, ltb-true, or_from, not-true, ne_eqb}
 use Rattle.std.proofs.lemmas.List.Folds.{fold-map}
 use Rattle.std.proofs.lemmas.List.Sums.{fold_more}
-use Rattle.std.specs.List.{find, filter, fold, list_all, list_any}
-use lib.Pointwise.{bytes_decides, pointwise_long}
+use Rattle.std.specs.List.{find, fold, list_all, list_any}
+use lib.Pointwise.{bytes_decides}
 use Rattle.hg_model.specs.Tables.{same_name}
-use Rattle.hg_model.specs.Tokens.{lower, lower_byte, is_reserved, reserved_words}
+use Rattle.hg_model.specs.Tokens.{lower, lower_byte, is_reserved}
 use Rattle.hg_scan.specs.Packing.{packed, packed_among}
 use Rattle.hg_scan.specs.Words.{word_of, keywords, keyword_named}
 use Rattle.hg_scan.specs.declared.words.Keyword.{Keyword}

@@ -1,5 +1,5 @@
 -- The steps of looking for the end of a text.
-use Rattle.std.proofs.Common.{◌≡◌, ℕ, zero, suc, ◌+◌, ◌<◌, ◌≤◌, Bool, true, false, not, ◌&&◌, ◌||◌, List, [], ◌∷◌, length, drop, take, get_or, Option, None, Some, ◌==◌, IsTrue, sym, ◌∙◌, ap, subst, refl, arith, inl, inr, add-one, zero-add}
+use Rattle.std.proofs.Common.{◌≡◌, ℕ, zero, suc, ◌+◌, ◌<◌, ◌≤◌, Bool, true, false, not, ◌||◌, List, [], ◌∷◌, length, drop, take, get_or, Option, None, Some, ◌==◌, IsTrue, sym, ◌∙◌, ap, subst, refl, arith, inl, inr, add-one, zero-add}
 use Rattle.std.proofs.Math.Seq.{drop-cons}
 use Rattle.std.proofs.lemmas.Bool.{cases_lt, eqb-true, and_parts, and_from, or_cases, or_right, or_left}
 use Rattle.std.proofs.lemmas.List.{drop-drop}

@@ -1,6 +1,6 @@
 -- Texts without their doubled quotes.
-use Rattle.std.proofs.Common.{◌≡◌, ℕ, zero, suc, ◌+◌, ◌-◌, ◌<◌, ◌≤◌, Bool, true, false, not, ◌&&◌, ◌||◌, List, [], ◌∷◌, ◌++◌, length, take, drop, get_or, ◌==◌, sym, ◌∙◌, ap, subst, refl, arith, append_assoc, inl, inr, nat_le}
-use Rattle.std.proofs.lemmas.Bool.{cases_Bool, and_parts, leb-true, not-true, eq-eqb, ne_eqb, eqb-true}
+use Rattle.std.proofs.Common.{◌≡◌, ℕ, zero, suc, ◌-◌, ◌<◌, ◌≤◌, Bool, true, false, not, List, [], ◌∷◌, ◌++◌, length, take, drop, get_or, ◌==◌, sym, ◌∙◌, ap, subst, refl, arith, append_assoc, inl, inr, nat_le}
+use Rattle.std.proofs.lemmas.Bool.{cases_Bool, and_parts, leb-true, not-true, eq-eqb, eqb-true}
 use Rattle.std.proofs.lemmas.List.{take_all, length-drop}
 use Rattle.std.specs.List.{list_all}
 use Rattle.hg_model.specs.Value.{is_printable}

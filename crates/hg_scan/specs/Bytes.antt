@@ -1,5 +1,5 @@
 -- The kinds of bytes: what a byte does at the front of a line.
-use Rattle.std.specs.Prelude.{ℕ, Bool, ◌==◌, if◌then◌else◌}
+use Rattle.std.specs.Prelude.{ℕ, ◌==◌, if◌then◌else◌}
 use Rattle.hg_model.specs.Name.{begins_word, is_digit}
 use Rattle.hg_model.specs.Value.{is_printable}
 use Rattle.hg_scan.specs.Cutting.{is_blank}

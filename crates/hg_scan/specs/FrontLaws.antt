@@ -1,18 +1,18 @@
 -- Facts about the front of a line: which case applies, what it is where bytes spell a token, and what the
 -- bytes are where a token stands there.
-use Rattle.std.specs.Prelude.{◌≡◌, ℕ, zero, suc, ◌+◌, ◌<◌, ◌≤◌, Bool, true, false, not, List, [], ◌∷◌, ◌++◌, take, drop, length, Option, None, Some, ◌==◌, ◌&&◌, ◌||◌, ◌⊎◌, IsTrue, cond, ⊤}
+use Rattle.std.specs.Prelude.{◌≡◌, ℕ, suc, Bool, true, false, List, [], ◌∷◌, ◌++◌, take, drop, length, Some, ◌==◌, ◌&&◌, ⊤}
 use Rattle.std.specs.List.{prefix_len, take_while, list_all, list_any}
 use Rattle.std.specs.Option.{option_map}
 use Rattle.std.proofs.Common.{sym, ◌∙◌, ap, subst, refl, arith, inl, inr, one-add, add-one}
 use Rattle.std.proofs.Math.Seq.{take-append_seam, drop-append_seam, drop-append-add}
 use lib.Pointwise.{bytes_decides}
-use Rattle.std.proofs.lemmas.Bool.{cases_Bool, and_parts, or_parts, or_cases, and_from, or_left, or_right, eqb-true}
+use Rattle.std.proofs.lemmas.Bool.{cases_Bool, and_parts, or_parts, or_cases, and_from, or_left, eqb-true}
 use Rattle.std.proofs.lemmas.Bool.Decides.{nat_tests}
 use Rattle.hg_model.specs.Name.{begins_word, is_in_word, is_digit}
 use Rattle.hg_model.specs.Value.{is_printable}
 use Rattle.hg_model.specs.Tables.{same_name}
 use Rattle.hg_model.specs.Tokens.{Token, Word, Digits, Letters, Sign, begins, is_sign, signs, goes_on, lower, is_word, is_number, doubled}
-use Rattle.hg_scan.specs.Cutting.{Front, AtEnd, Wrong, Next, is_blank, drop_while, word_front, number_front, closing, undoubled, text_up_to, text_front, one_byte_sign, sign_front, begins_comment, front_of}
+use Rattle.hg_scan.specs.Cutting.{AtEnd, Next, is_blank, drop_while, word_front, number_front, closing, undoubled, text_front, sign_front, begins_comment, front_of}
 
 -- the case of `front_of` that applies to a line
 pub data Case (b : ℕ) (bs : List ℕ) : Type 0 where

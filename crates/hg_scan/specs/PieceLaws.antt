@@ -1,14 +1,14 @@
 -- What is known of the pieces of a line: of a name, of a text, and of the room that texts take.
-use Rattle.std.specs.Prelude.{◌≡◌, ℕ, suc, ◌+◌, ◌<◌, ◌≤◌, Bool, true, false, not, ◌&&◌, ◌||◌, ◌==◌, List, [], ◌∷◌, ◌++◌, length, take, drop, Option, Some, None}
+use Rattle.std.specs.Prelude.{◌≡◌, ℕ, suc, ◌+◌, ◌<◌, ◌≤◌, Bool, true, false, not, ◌||◌, ◌==◌, List, [], ◌∷◌, length, Option, Some, None}
 use Rattle.std.specs.List.{list_all, take_while}
-use Rattle.std.proofs.Common.{sym, ◌∙◌, ap, subst, refl, arith, inl, inr}
+use Rattle.std.proofs.Common.{sym, ◌∙◌, ap, refl, arith, inl, inr}
 use Rattle.std.proofs.lemmas.List.{length-append}
 use Rattle.std.proofs.lemmas.Bool.{cases_Bool, and_parts, and_from, not-true}
 use Rattle.hg_model.specs.Name.{is_in_word, is_digit}
 use Rattle.hg_model.specs.Value.{is_printable}
-use Rattle.hg_model.specs.Tokens.{Token, Word, Digits, Letters, Sign, begins, is_sign, is_word, is_reserved, lower, doubled}
-use Rattle.hg_scan.specs.Cutting.{Wrong, Next, closing, undoubled, text_up_to, text_front, one_byte_sign, sign_front, number_front, drop_while, front_of}
-use Rattle.hg_scan.specs.FrontLaws.{blank, comment, word, number, text, sign, case_of, front-nil, undoubled-more}
+use Rattle.hg_model.specs.Tokens.{Word, Digits, Letters, Sign, begins, is_sign, is_word, is_reserved, lower, doubled}
+use Rattle.hg_scan.specs.Cutting.{Wrong, Next, closing, undoubled, text_up_to, one_byte_sign, sign_front, number_front, drop_while, front_of}
+use Rattle.hg_scan.specs.FrontLaws.{blank, comment, word, number, text, sign, case_of, front-nil}
 use Rattle.hg_scan.specs.TokenLaws.{text_parts, no_end, no_wrong, same_token, same_rest}
 use Rattle.hg_scan.specs.Pieces.{is_piece}
 use Rattle.hg_scan.specs.declared.piece.Kind.TheVariants as kind

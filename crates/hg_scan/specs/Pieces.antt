@@ -1,5 +1,5 @@
 -- What a piece of a line stands for.
-use Rattle.std.specs.Prelude.{◌≡◌, ◌<◌, take, length, IsTrue, if◌then◌else◌, ◌∷◌, [], ℕ, Bool, true, not, ◌&&◌, ◌||◌, ◌==◌, List, Option, Some, None}
+use Rattle.std.specs.Prelude.{◌≡◌, ◌<◌, take, length, IsTrue, if◌then◌else◌, ℕ, Bool, true, not, ◌&&◌, ◌||◌, ◌==◌, List, Option, Some, None}
 use Rattle.std.specs.List.{list_all}
 use Rattle.hg_model.specs.Tables.{same_name}
 use Rattle.hg_model.specs.Tokens.{Token, Word, Digits, Letters, Sign, lower, is_word, is_number, is_reserved}

@@ -1,18 +1,17 @@
 -- The laws of cutting: a line has the tokens that its bytes spell, one after the other.
-use Rattle.std.specs.Prelude.{◌≡◌, ℕ, zero, suc, ◌-◌, ◌<◌, ◌≤◌, Bool, true, false, not, List, [], ◌∷◌, ◌++◌, take, drop, length, Option, None, Some, ◌==◌, ◌&&◌, ◌||◌, ◌↔◌, IsTrue, nat_lt}
+use Rattle.std.specs.Prelude.{◌≡◌, ℕ, zero, suc, ◌<◌, ◌≤◌, Bool, true, false, List, [], ◌∷◌, ◌++◌, take, drop, length, Option, None, Some, ◌==◌, ◌&&◌, ◌↔◌, nat_lt}
 use Rattle.std.specs.List.{prefix_len, take_while, list_all}
 use Rattle.std.specs.Option.{option_map}
 use Rattle.std.proofs.Common.{sym, ◌∙◌, ap, subst, refl, arith, inl, inr, one-add}
 use Rattle.std.proofs.lemmas.List.{length-drop, take-append-drop}
 use Rattle.std.proofs.Math.Bool.{and-false}
-use Rattle.std.proofs.lemmas.Bool.{cases_Bool, and_parts, or_parts, and_from, or_from, eqb-true, not-true, not_from_false, lt-ltb}
+use Rattle.std.proofs.lemmas.Bool.{cases_Bool, and_parts, and_from, or_from, eqb-true, not-true, not_from_false, lt-ltb}
 use Rattle.hg_model.specs.Name.{begins_word, is_in_word, is_digit}
 use Rattle.hg_model.specs.Value.{is_printable}
-use Rattle.hg_model.specs.Tables.{same_name}
 use Rattle.hg_model.specs.Tokens.{Token, Word, Digits, Letters, Sign, Spells, begins, is_sign, signs, goes_on, lower, is_word, is_number, doubled}
 use Rattle.hg_model.specs.Tokens.{at_end as by_end, comment as by_comment, blank as by_blank, word as by_word, number as by_number, text as by_text, sign as by_sign}
-use Rattle.hg_scan.specs.Cutting.{Front, AtEnd, Wrong, Next, is_blank, drop_while, word_front, number_front, closing, undoubled, text_up_to, text_front, one_byte_sign, sign_front, begins_comment, front_of, tokens_by, tokens_within, tokens_of}
-use Rattle.hg_scan.specs.FrontLaws.{Case, blank, comment, word, number, text, sign, case_of, front-nil, run-passes, run-stops, undoubled-more, front-blank, front-comment, front-word, front-number, front-text, front-sign, of_any, Each}
+use Rattle.hg_scan.specs.Cutting.{Front, AtEnd, Wrong, Next, drop_while, number_front, closing, undoubled, text_up_to, one_byte_sign, sign_front, begins_comment, front_of, tokens_by, tokens_within, tokens_of}
+use Rattle.hg_scan.specs.FrontLaws.{blank, comment, word, number, text, sign, case_of, front-nil, run-passes, run-stops, undoubled-more, front-blank, front-comment, front-word, front-number, front-text, front-sign, of_any}
 
 -- A front is one of three.
 

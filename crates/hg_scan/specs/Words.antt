@@ -1,5 +1,5 @@
 -- How reserved words and signs are spelled.
-use Rattle.std.specs.Prelude.{ℕ, Bool, List, [], ◌∷◌, Option, codes}
+use Rattle.std.specs.Prelude.{ℕ, List, [], ◌∷◌, Option, codes}
 use Rattle.std.specs.List.{find}
 use Rattle.hg_model.specs.Tables.{same_name}
 use Rattle.hg_scan.specs.declared.words.Keyword.{Keyword}

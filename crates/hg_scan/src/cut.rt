@@ -135,7 +135,7 @@ fn sign(sign: Sign, behind: &[u8]) -> Cut<'_>
     }
 }
 
-#[inline(never)]
+#[inline(always)]
 fn word(rest: &[u8]) -> Cut<'_>
     requires { IsTrue (begins begins_word rest.now) }
     ensures { Cuts (word_front rest.now) result.piece rest.now result.rest.now }
@@ -175,7 +175,7 @@ fn number<'a>(line: &'a [u8], rest: &'a [u8]) -> Cut<'a>
 }
 
 /// A text, whose first quote stands before `behind`.
-#[inline(never)]
+#[inline(always)]
 fn text<'a>(line: &'a [u8], behind: &'a [u8]) -> Cut<'a>
     ensures { Cuts (text_front behind.now) result.piece line.now result.rest.now }
 {

@@ -1,4 +1,4 @@
-use Rattle.std.proofs.Common.{sym, ◌∙◌, ap, refl, drop}
+use Rattle.std.proofs.Common.{◌∙◌, ap, refl, drop}
 use Rattle.hg_scan.proofs.Cuts.{cuts_text}
 use Rattle.hg_scan.proofs.cut.text.Goals as goal
 

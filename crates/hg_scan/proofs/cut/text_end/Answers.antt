@@ -1,4 +1,4 @@
-use Rattle.std.proofs.Common.{sym, ◌∙◌, ap, arith, get_or, ◌==◌, true, false, ◌≡◌}
+use Rattle.std.proofs.Common.{sym, ◌∙◌, arith}
 use Rattle.std.proofs.lemmas.Bool.{eq-eqb, ne_eqb}
 use Rattle.hg_scan.proofs.Texts.{closes_here, quote_is_doubled, byte_is_text, byte_is_wrong, byte_passes, quotes_pass, inside_of}
 use Rattle.hg_scan.proofs.cut.text_end.Goals as goal

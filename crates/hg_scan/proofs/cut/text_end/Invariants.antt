@@ -1,4 +1,4 @@
-use Rattle.std.proofs.Common.{◌≡◌, ◌-◌, ◌+◌, ◌≤◌, ℕ, length, take, drop, true, IsTrue}
+use Rattle.std.proofs.Common.{◌≡◌, ◌-◌, ◌+◌, ◌≤◌, length, take, drop, IsTrue}
 use Rattle.std.specs.Option.{option_map}
 use Rattle.hg_scan.specs.Cutting.{closing}
 use Rattle.hg_scan.specs.Pieces.{is_piece}

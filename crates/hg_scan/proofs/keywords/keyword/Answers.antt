@@ -1,6 +1,5 @@
-use Rattle.std.proofs.Common.{◌≡◌, sym, ◌∙◌, ap, refl, arith, length, subst}
-use Rattle.hg_model.specs.Tokens.{lower}
-use Rattle.hg_scan.specs.Packing.{packed, packed_among, words_of_two, words_of_three, words_of_four, words_of_five, words_of_six, words_of_seven, words_of_eight}
+use Rattle.std.proofs.Common.{sym, ◌∙◌, ap, refl, arith}
+use Rattle.hg_scan.specs.Packing.{packed_among, words_of_two, words_of_three, words_of_four, words_of_five, words_of_six, words_of_seven, words_of_eight}
 use Rattle.hg_scan.proofs.Packed.{named_among, named_by_none, fits_byte}
 use Rattle.hg_scan.proofs.keywords.keyword.Goals as goal
 

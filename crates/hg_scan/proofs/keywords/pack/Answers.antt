@@ -1,5 +1,5 @@
-use Rattle.std.proofs.Common.{◌≡◌, ◌<◌, ◌≤◌, ◌+◌, ◌^◌, ◌*◌, sym, ◌∙◌, ap, subst, arith, get_or, take}
-use Rattle.hg_model.specs.Tokens.{lower, lower_byte}
+use Rattle.std.proofs.Common.{◌<◌, ◌≤◌, ◌+◌, ◌^◌, ◌*◌, sym, ◌∙◌, ap, subst, arith, take}
+use Rattle.hg_model.specs.Tokens.{lower}
 use Rattle.hg_scan.specs.Packing.{packed}
 use Rattle.hg_scan.proofs.Packed.{step_up, at_most, packed-more, lower_byte_small, fits_byte}
 use Rattle.hg_scan.proofs.keywords.pack.Goals as goal

@@ -1,4 +1,4 @@
-use Rattle.std.proofs.Common.{◌≡◌, ◌<◌, ◌≤◌, ◌+◌, ◌-◌, ◌^◌, ◌*◌, sym, ◌∙◌, ap, arith, get_or}
+use Rattle.std.proofs.Common.{◌<◌, ◌≤◌, ◌+◌, ◌-◌, ◌^◌, ◌*◌, sym, ◌∙◌, ap, arith, get_or}
 use Rattle.hg_scan.proofs.Digits.{step_up, at_most, number-more, digit_at}
 use Rattle.hg_scan.proofs.number.short_value.Goals as goal
 

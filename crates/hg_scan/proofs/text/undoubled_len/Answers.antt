@@ -1,4 +1,4 @@
-use Rattle.std.proofs.Common.{◌≡◌, ◌≤◌, ◌+◌, suc, length, ap, sym, ◌∙◌, arith}
+use Rattle.std.proofs.Common.{◌≡◌, ◌≤◌, ◌+◌, length, ap, arith}
 use Rattle.hg_scan.specs.Cutting.{undoubled}
 use Rattle.hg_scan.proofs.Undoubling.{some_left, no_longer, step}
 use Rattle.hg_scan.proofs.text.undoubled_len.Goals as goal

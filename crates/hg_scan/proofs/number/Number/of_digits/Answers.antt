@@ -1,5 +1,4 @@
-use Rattle.std.proofs.Common.{◌≤◌, ◌^◌, ◌≡◌, subst, arith}
-use Rattle.hg_model.specs.Tokens.{number_of}
+use Rattle.std.proofs.Common.{◌≤◌, ◌^◌, subst, arith}
 use Rattle.hg_scan.proofs.Digits.{long_number}
 use Rattle.hg_scan.proofs.number.Number.of_digits.Goals as goal
 

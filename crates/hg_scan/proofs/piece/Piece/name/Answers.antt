@@ -1,4 +1,4 @@
-use Rattle.std.proofs.Common.{◌≡◌, ◌≤◌, ◌<◌, ◌++◌, ◌∷◌, [], length, ap, sym, ◌∙◌, arith, take}
+use Rattle.std.proofs.Common.{◌++◌, ◌∷◌, [], length, ap, sym, ◌∙◌, arith, take}
 use Rattle.hg_model.specs.Tokens.{lower}
 use Rattle.std.proofs.lemmas.Bool.{MatchBool-at_true}
 use Rattle.hg_scan.proofs.Spellings.{name-more, name_length, whole_name}

@@ -1,4 +1,4 @@
-use Rattle.std.proofs.Common.{◌≡◌, ◌≤◌, ◌++◌, length, ap, sym, ◌∙◌, arith, subst, ◌+◌}
+use Rattle.std.proofs.Common.{◌++◌, length, ap, sym, ◌∙◌, arith}
 use Rattle.hg_scan.proofs.Undoubling.{plain_text}
 use Rattle.hg_scan.proofs.piece.Piece.push_text.Goals as goal
 
