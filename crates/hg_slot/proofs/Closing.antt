@@ -1,11 +1,11 @@
 -- Closing up: the records of a page are put into an empty one, slot by slot.
-use Rattle.std.specs.Prelude.{◌≡◌, ℕ, ◌+◌, ◌-◌, ◌*◌, ◌<◌, ◌≤◌, max, List, length, None, Some}
+use Rattle.std.specs.Prelude.{◌≡◌, ℕ, ◌+◌, ◌-◌, ◌*◌, ◌<◌, ◌≤◌, max, List, None}
 use Rattle.std.proofs.Common.{sym, ◌∙◌, ap, refl, arith, inl, inr}
 use Rattle.std.proofs.lemmas.Bool.{cases_lt, cases_eq}
-use Rattle.hg_slot.specs.Slotted.{slots, lowest, size, record_at, length_of, lengths, used, Fits, IsSlotted}
+use Rattle.hg_slot.specs.Slotted.{slots, lowest, record_at, length_of, lengths, used, Fits, IsSlotted}
 use Rattle.hg_slot.specs.Changing.{Starts, AddsSlot, Rebuilds, ClosesUp, MakesRoom, IsFirstEmpty}
 use Rattle.hg_slot.proofs.Slots.{shown-out}
-use Rattle.hg_slot.proofs.Finding.{lengths-next, lengths-none, lengths-up, length-shown}
+use Rattle.hg_slot.proofs.Finding.{lengths-next, lengths-none, lengths-up}
 
 -- the slots up to this one have no more bytes than all
 pub up_to : (page : List ℕ) (k : ℕ) → k < slots page → lengths page k + length_of (record_at page k) ≤ lengths page (slots page)

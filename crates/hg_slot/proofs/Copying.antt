@@ -1,8 +1,8 @@
 -- A record copied into a page that is built.
-use Rattle.std.specs.Prelude.{◌≡◌, ℕ, ◌+◌, ◌*◌, ◌<◌, ◌≤◌, max, List, length, Some, None, []}
+use Rattle.std.specs.Prelude.{◌≡◌, ℕ, ◌+◌, ◌<◌, ◌≤◌, List, length, Some}
 use Rattle.std.proofs.Common.{sym, ◌∙◌, ap, arith, inl, inr}
 use Rattle.std.proofs.lemmas.Bool.{cases_eq}
-use Rattle.hg_slot.specs.Slotted.{slots, lowest, size, record_at, length_of, lengths, used, IsSlotted, IsUsable, IsRecord}
+use Rattle.hg_slot.specs.Slotted.{slots, lowest, record_at, length_of, used, IsSlotted, IsUsable, IsRecord}
 use Rattle.hg_slot.specs.Changing.{Rebuilds, Lands, slots_end}
 use Rattle.hg_slot.proofs.Slots.{shown-out}
 use Rattle.hg_slot.proofs.Finding.{lengths-next, length-shown}

@@ -1,10 +1,9 @@
 -- No byte is of two records: together they have no more bytes than there are from the lowest on.
-use Rattle.std.specs.Prelude.{◌≡◌, ◌≢◌, ℕ, ◌+◌, ◌-◌, ◌*◌, ◌<◌, ◌≤◌, ◌&&◌, ◌||◌, nat_lt, not, zero, suc, min, Bool, true, false, List, if◌then◌else◌}
+use Rattle.std.specs.Prelude.{◌≡◌, ℕ, ◌+◌, ◌-◌, ◌<◌, ◌≤◌, ◌&&◌, ◌||◌, nat_lt, not, zero, suc, min, Bool, true, false, List}
 use Rattle.std.proofs.Common.{sym, ◌∙◌, ap, refl, arith, inl, inr, lt-ltb}
 use Rattle.std.proofs.lemmas.Bool.{cases_lt, le-ltb, false≢true}
-use Rattle.hg_slot.specs.Slotted.{slots, lowest, offset, size, lengths, length_of, record_at, used, Fits, HasGap, IsOf, IsSlotted}
-use Rattle.hg_slot.proofs.Finding.{lengths-next, lengths-none, length-shown, inside}
-use Rattle.hg_slot.proofs.Steps.{stands-of}
+use Rattle.hg_slot.specs.Slotted.{slots, lowest, offset, size, lengths, length_of, record_at, Fits, HasGap, IsOf, IsSlotted}
+use Rattle.hg_slot.proofs.Finding.{lengths-next, lengths-none, length-shown}
 
 -- how many of m places from `low` on pass a test
 abbrev one : Bool → ℕ

@@ -1,8 +1,8 @@
 -- The lowest byte of the records, once one was taken away.
-use Rattle.std.specs.Prelude.{◌≡◌, ◌≢◌, ℕ, ◌+◌, ◌*◌, ◌<◌, ◌≤◌, ◌⊎◌, min, List, length, take, drop, slice_index}
+use Rattle.std.specs.Prelude.{◌≡◌, ℕ, ◌+◌, ◌*◌, ◌<◌, ◌≤◌, min, List, take, drop}
 use Rattle.std.proofs.Common.{sym, ◌∙◌, ap, refl, arith, inl, inr}
 use Rattle.std.proofs.lemmas.Bool.{cases_lt, cases_eq}
-use Rattle.hg_slot.specs.Slotted.{slots, lowest, offset, size, body, record_at, BeginsAt, HasExactLowest, IsOf, IsUnused, IsClean, IsPlaced, IsSlotted, IsLowestRecord}
+use Rattle.hg_slot.specs.Slotted.{slots, lowest, offset, size, record_at, IsOf, IsLowestRecord}
 use Rattle.hg_slot.specs.Writing.{WritesNumber}
 use Rattle.hg_slot.specs.Changing.{Empties, Erases}
 use Rattle.hg_slot.proofs.Numbers.{number-before, number-behind, first-kept}

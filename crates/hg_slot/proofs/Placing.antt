@@ -2,12 +2,12 @@
 -- slotted page.
 use Rattle.std.specs.Prelude.{◌≡◌, ◌≢◌, ℕ, ◌+◌, ◌*◌, ◌<◌, ◌≤◌, ◌⊎◌, max, List, length, take, drop, slice_index, Some, None, ◌++◌}
 use Rattle.std.specs.Int.{w16, from_le_bytes}
-use Rattle.std.proofs.Common.{sym, ◌∙◌, ap, subst, refl, arith, inl, inr, length-append, append-nil}
+use Rattle.std.proofs.Common.{sym, ◌∙◌, ap, subst, refl, arith, inl, inr, length-append}
 use Rattle.std.proofs.lemmas.Bool.{cases_lt}
 use Rattle.hg_base.specs.Parts.{parts}
-use Rattle.hg_slot.specs.Slotted.{number, slots, lowest, offset, size, record_at, HasExactLowest, HasGap, HasRightHead, Fits, IsOf, IsClean, IsSlotted, IsUsable}
+use Rattle.hg_slot.specs.Slotted.{number, slots, lowest, offset, size, record_at, HasExactLowest, HasGap, Fits, IsOf, IsClean, IsSlotted, IsUsable}
 use Rattle.hg_slot.specs.Writing.{Written, WritesNumber, WritesSlot, WritesBytes}
-use Rattle.hg_slot.specs.Changing.{KeepsOthers, Lands, IsPut, IsInserted, IsFullFor, IsFirstEmpty, MakesRoom, slots_end}
+use Rattle.hg_slot.specs.Changing.{KeepsOthers, Lands, IsPut, IsFullFor, IsFirstEmpty, MakesRoom, slots_end}
 use Rattle.hg_slot.proofs.Numbers.{number-before, number-behind}
 use Rattle.hg_slot.proofs.Clean.{byte-of, slot_beside, outside, clean_after, empty-size}
 use Rattle.hg_slot.proofs.Slots.{shown-here, shown-out, shows-none, Changes, others-kept, slotted-after}

@@ -1,5 +1,5 @@
 -- What a reader of a page finds, and what it says of the page.
-use Rattle.std.specs.Prelude.{◌≡◌, ℕ, ◌+◌, ◌<◌, ◌≤◌, List, length, slice_index}
+use Rattle.std.specs.Prelude.{◌≡◌, ℕ, ◌+◌, ◌≤◌, List, length, slice_index}
 use Rattle.std.proofs.Common.{sym, ◌∙◌, arith, inl, inr}
 use Rattle.std.proofs.lemmas.Bool.{cases_order, cases_eq}
 use Rattle.hg_slot.specs.Slotted.{slots, offset, size, IsOf, IsPlaced, IsApart, AreRight, AreFrom, HasRightHead, IsSlotted}

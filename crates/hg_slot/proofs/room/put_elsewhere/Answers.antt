@@ -1,4 +1,4 @@
-use Rattle.std.proofs.Common.{ap, ◌+◌, length, arith, rules}
+use Rattle.std.proofs.Common.{ap, ◌+◌, length, rules}
 use Rattle.hg_slot.proofs.Placing.{put_there}
 use Rattle.hg_slot.proofs.room.put_elsewhere.Goals as goal
 

@@ -1,5 +1,5 @@
-use Rattle.std.proofs.Common.{◌-◌, arith, rules}
-use Rattle.hg_slot.specs.Slotted.{AreRight, IsPlaced}
+use Rattle.std.proofs.Common.{arith, rules}
+use Rattle.hg_slot.specs.Slotted.{IsPlaced}
 use Rattle.hg_slot.proofs.Verifying.{none_right, next_right}
 use Rattle.hg_slot.proofs.Marking.{marked_none, apart_marked, marked_more, not_apart}
 use Rattle.hg_slot.proofs.verify.are_apart.Goals as goal

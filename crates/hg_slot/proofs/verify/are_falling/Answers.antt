@@ -1,5 +1,5 @@
 use Rattle.std.proofs.Common.{◌+◌, sym, subst, arith, rules}
-use Rattle.hg_slot.specs.Slotted.{AreFrom, AreRight, IsPlaced}
+use Rattle.hg_slot.specs.Slotted.{AreFrom, IsPlaced}
 use Rattle.hg_slot.proofs.Verifying.{falls, falls_full, falls_empty}
 use Rattle.hg_slot.proofs.verify.are_falling.Goals as goal
 use Rattle.hg_slot.proofs.verify.are_falling.Goals.{then-entry-gt0, else-entry-gt0}
