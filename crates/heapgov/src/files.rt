@@ -3,7 +3,7 @@ ghost use Rattle.std.specs.Prelude.{◌≡◌, ◌≤◌, ◌<◌, ◌*◌, ◌�
 ghost use Rattle.hg_io.specs.Count.{Ends, HasCause};
 
 use hg_io::{Failed, PAGE_BYTES, PAGE_LIMIT, PageDevice};
-use std::fs::OpenOptions;
+use std::fs::{File, OpenFile, OpenOptions};
 use std::io::ErrorKind;
 use std::os::unix::fs::FileExt;
 use std::rt::Files;
@@ -79,9 +79,41 @@ fn place_of(no: u32) -> u64
     PAGE_BYTES as u64 * u64::from(no)
 }
 
+/// A file that is held by one opening of it at a time.
+pub trait Held {
+    /// Holds the file from now on, until it is closed. False where another opening holds it, in this
+    /// program or in another one.
+    fn hold(&self) -> bool;
+}
+
+impl Held for File {
+    fn hold(&self) -> bool {
+        self.try_lock().is_ok()
+    }
+}
+
+/// Opens the file of that name, holds it and makes it empty. None where that fails; a file that another
+/// opening holds is left as it is.
+fn open_alone<R: Files>(files: &R, name: &str) -> Option<R::File>
+where
+    R::File: Held,
+{
+    let file = OpenOptions::new()
+        .read(true)
+        .write(true)
+        .create(true)
+        .open(files, name)
+        .ok()?;
+    if !file.hold() {
+        return None;
+    }
+    file.set_len(0).ok()?;
+    Some(file)
+}
+
 /// A file of the file system `R` as a device: page n is the 4,096 bytes from 4,096 * n on, and what
-/// lies beyond the end of the file is zeros. The file is made at the first call; what stood in it is
-/// lost.
+/// lies beyond the end of the file is zeros. The file is opened and locked at the first call; what stood
+/// in it is lost. Where another program holds it, that call fails, and the file stays as it is.
 #[derive(Drop)]
 pub struct FileDevice<R: Files + Drop> {
     files: R,
@@ -95,7 +127,10 @@ pub struct FileDevice<R: Files + Drop> {
     ghost faults_end: { Ends faults },
 }
 
-impl<R: Files + Drop> FileDevice<R> {
+impl<R: Files + Drop> FileDevice<R>
+where
+    R::File: Held,
+{
     /// A device over the file of that name, of which nothing is asked yet.
     pub fn new(files: R, name: &'static str) -> FileDevice<R>
         ensures reads { result.reads ≡ 0 }
@@ -119,13 +154,7 @@ impl<R: Files + Drop> FileDevice<R> {
         ensures faults { self.new.faults ≡ self.old.faults }
     {
         if self.file.is_none() {
-            self.file = OpenOptions::new()
-                .read(true)
-                .write(true)
-                .create(true)
-                .truncate(true)
-                .open(&self.files, self.name)
-                .ok();
+            self.file = open_alone(&self.files, self.name);
         }
     }
 
@@ -146,7 +175,7 @@ impl<R: Files + Drop> FileDevice<R> {
 
 impl<R: Files + Drop> PageDevice for FileDevice<R>
 where
-    R::File: FileExt,
+    R::File: FileExt + Held,
 {
     ghost pages = { λ _. 1048576 };
 

@@ -46,3 +46,21 @@ fn a_file_is_a_device(rt: HostRuntime) -> Result<(), Fail> {
     assert_eq!(rt; failed, (Err(Failed), Err(Failed)));
     Ok(())
 }
+
+#[test]
+fn a_file_is_held_by_one_device(rt: HostRuntime) -> Result<(), Fail> {
+    let mut first = FileDevice::new(&rt, "held.test");
+    let mut second = FileDevice::new(&rt, "held.test");
+    let mut buf = [9; 4096];
+    let made = first.write(0, &[5; 4096]);
+    let refused = (second.read(0, &mut buf), second.write(0, &[6; 4096]));
+    let kept = first.read(0, &mut buf);
+    assert_eq!(rt; (made, kept), (Ok(()), Ok(())));
+    assert_eq!(rt; refused, (Err(Failed), Err(Failed)));
+    assert_eq!(rt; buf, [5; 4096], "the second device left it alone");
+    drop(first);
+    assert_eq!(rt; second.read(0, &mut buf), Ok(()));
+    assert_eq!(rt; buf, [0; 4096], "it begins with an empty file");
+    fs::remove_file(&rt, "held.test")?;
+    Ok(())
+}

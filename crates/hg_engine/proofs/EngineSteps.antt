@@ -1,16 +1,19 @@
 -- Steps of the tables of an engine are steps of the engine.
-use Rattle.std.specs.Prelude.{List}
-use Rattle.std.proofs.Common.{ap}
+use Rattle.std.specs.Prelude.{◌≡◌, List}
+use Rattle.std.proofs.Common.{ap, sym, subst}
 use Rattle.hg_base.specs.declared.File.TheVariants.{Main, Temp}
 use Rattle.hg_base.specs.Space.{Space}
-use Rattle.hg_machine.specs.Reply.{Reply as Line}
-use Rattle.hg_reply.specs.Steps.{Says}
+use Rattle.hg_machine.specs.Reply.{Reply as ReplyOf}
+use Rattle.hg_reply.specs.Steps.{Says, HasLines}
 use Rattle.hg_reply.specs.declared.reply.Reply.{Reply}
-use Rattle.hg_engine.specs.Shown.{faults_in, IsLater}
-use Rattle.hg_engine.specs.Stepping.{Tells, Counted, IsSameSpace}
+use Rattle.hg_io.specs.declared.device.PageDevice.{Ghosts}
+use Rattle.hg_machine.specs.State.{State}
+use Rattle.hg_engine.specs.declared.kept.Kept.{Kept}
+use Rattle.hg_engine.specs.Shown.{IsLater, EngineSteps}
+use Rattle.hg_engine.specs.Stepping.{faults_in, CountedIn, IsSameSpace}
 
-pub says-so : (a b : Space) (reply : Reply) (lines : List Line) → Tells reply lines → Counted a b lines → Says reply (faults_in a) (faults_in b) lines
-says-so a b reply lines tells counted = record { text = tells.text; errors = tells.errors; main_faults = counted.main; temp_faults = counted.temp }
+pub says-so : (a b : Space) (reply : Reply) (lines : List ReplyOf) → HasLines reply lines → CountedIn a b lines → Says reply (faults_in a) (faults_in b) lines
+says-so a b reply lines tells counted = record { said = tells; counted = counted.devices }
 
 pub is-later : (a b : Space) → IsSameSpace a b → IsLater a b
 is-later a b same = record {
@@ -22,3 +25,16 @@ is-later a b same = record {
   };
   full = same.later.main_full;
 }
+
+-- that bytes were counted makes no difference
+pub counted-steps : {M T : Type 0} (m : Ghosts M) (t : Ghosts T) (old mid new : Kept M T) (reply : Reply) (Step : State → List ReplyOf → State → Type 0)
+    → EngineSteps m t old mid reply Step → new.tables ≡ mid.tables → new.pool ≡ mid.pool → EngineSteps m t old new reply Step
+counted-steps {M = M} {T = T} m t old mid new reply Step steps tables pool =
+    let counted : Kept M T = record { tables = mid.tables; pool = mid.pool; said = new.said } in
+    let same : counted ≡ new = λ i. record { tables = sym tables i; pool = sym pool i; said = new.said } in
+    subst (λ e. EngineSteps m t old e reply Step) same (record {
+      lines = steps.lines;
+      says = steps.says;
+      full = steps.full;
+      moves = record { to = λ before st. let there = steps.moves.to before st in (there.0, there.1, there.2) };
+    })

@@ -14,7 +14,7 @@ use Rattle.hg_table.specs.Places.{behind, first_place, version_at, sees}
 use Rattle.hg_table.specs.Versions.{Placed, IsTable, RowVersion}
 use Rattle.hg_table.specs.TableLaws.{table_stays, on_pages, version_at-here, behind-here}
 use Rattle.hg_engine.specs.Seen.{is_seen, row_of}
-use Rattle.hg_engine.specs.Scanning.{Position, IsSomewhere, Passes}
+use Rattle.hg_engine.specs.Scanning.{Position, IsSomewhere, GoesPast}
 use Rattle.hg_engine.proofs.PutLaws.{none-mine}
 
 -- what the call for the next place says
@@ -49,7 +49,7 @@ ended a t columns pages done rest at next p = none-left rest (next columns pages
 -- the scan stands behind the version that comes next
 pub passed : (a b : Space) (t : Table) (columns : ℕ) (pages : List ℕ) (done rest : List Placed) (at : Option Place) (place : Place)
     → Next a t at (Some place) → Steady none_mine a b → Position a t columns pages done rest at
-    → (v : Placed) × Passes b t columns pages done rest place v × (v.place ≡ place)
+    → (v : Placed) × GoesPast b t columns pages done rest place v × (v.place ≡ place)
 passed a b t columns pages done rest at place next steady p =
     let first = place-first rest place (next columns pages (done ++ rest) p.table ∙ ap first_place p.behind) in
     let v : Placed = first.0 in
@@ -66,7 +66,7 @@ passed a b t columns pages done rest at place next steady p =
 
 -- the version that comes next is at its place
 pub there : (b : Space) (t : Table) (columns : ℕ) (pages : List ℕ) (done rest : List Placed) (place : Place) (v : Placed)
-    → (p : Passes b t columns pages done rest place v) → v.place ≡ place → version_at ((done ++ v ∷ []) ++ p.left) place ≡ Some v.version
+    → (p : GoesPast b t columns pages done rest place v) → v.place ≡ place → version_at ((done ++ v ∷ []) ++ p.left) place ≡ Some v.version
 there b t columns pages done rest place v p same =
     let split : (done ++ v ∷ []) ++ p.left ≡ done ++ v ∷ p.left = append_assoc done (v ∷ []) p.left in
     ap (λ vs. version_at vs place) split
@@ -88,7 +88,7 @@ position-stays a b t columns pages done rest at steady p = record {
 }
 
 passes-stay : (a b : Space) (t : Table) (columns : ℕ) (pages : List ℕ) (done rest : List Placed) (place : Place) (v : Placed) → Steady none_mine a b
-    → Passes a t columns pages done rest place v → Passes b t columns pages done rest place v
+    → GoesPast a t columns pages done rest place v → GoesPast b t columns pages done rest place v
 passes-stay a b t columns pages done rest place v steady p = record {
   left = p.left;
   first = p.first;
@@ -101,7 +101,7 @@ pub found-seen : (a b c : Space) (t : Table) (columns : ℕ) (pages : List ℕ) 
     → ((versions : List Placed) → IsTable b t columns pages versions → true ≡ sees committed snapshot (version_at versions place))
     → ((versions : List Placed) → IsTable b t columns pages versions → IfSome (version_at versions place) (λ v. row ≡ v.row))
     → Position a t columns pages done rest at
-    → (v : Placed) × Passes c t columns pages done rest place v × (is_seen committed snapshot v ≡ true) × (row ≡ row_of v)
+    → (v : Placed) × GoesPast c t columns pages done rest place v × (is_seen committed snapshot v ≡ true) × (row ≡ row_of v)
 found-seen a b c t columns pages done rest at place committed snapshot row next ab bc sees_it has_row p =
     let before = passed a b t columns pages done rest at place next ab p in
     let v : Placed = before.0 in
@@ -118,7 +118,7 @@ pub found-unseen : (a b c : Space) (t : Table) (columns : ℕ) (pages : List ℕ
     (committed : ℕ → Bool) (snapshot : ℕ) → Next a t at (Some place) → Steady none_mine a b → Steady none_mine b c
     → ((versions : List Placed) → IsTable b t columns pages versions → false ≡ sees committed snapshot (version_at versions place))
     → Position a t columns pages done rest at
-    → (v : Placed) × Passes c t columns pages done rest place v × (is_seen committed snapshot v ≡ false)
+    → (v : Placed) × GoesPast c t columns pages done rest place v × (is_seen committed snapshot v ≡ false)
 found-unseen a b c t columns pages done rest at place committed snapshot next ab bc sees_it p =
     let before = passed a b t columns pages done rest at place next ab p in
     let v : Placed = before.0 in

@@ -14,7 +14,7 @@ use Rattle.hg_model.specs.declared.values.Value.{Value}
 use Rattle.hg_table.specs.Calls.{none_mine, TakesNone, LookFault}
 use Rattle.hg_table.specs.Versions.{Placed}
 use Rattle.hg_engine.specs.Seen.{is_seen, row_of, seen_rows}
-use Rattle.hg_engine.specs.Scanning.{Position, IsScan, Passes, Finds, ScanFault}
+use Rattle.hg_engine.specs.Scanning.{Position, IsScan, GoesPast, Finds, ScanFault}
 use Rattle.hg_engine.proofs.SeenLaws.{seen_rows-cons}
 
 pub TakesNone_same : (a : Space) → TakesNone a a
@@ -59,7 +59,7 @@ length-first rest v left e = ap length e ∙ omega arith
 pub scan-passes : (a b d : Space) (t : Table) (columns : ℕ) (from at : Option Place) (place : Place) (most budget : ℕ) (c : ℕ → Bool) (n : ℕ)
     → Scanned a b t columns from at most (budget + 1) c n → Steady none_mine b d → TakesNone b d
     → ((pages : List ℕ) (done rest : List Placed) → Position b t columns pages done rest at
-    → (v : Placed) × Passes d t columns pages done rest place v × (is_seen c n v ≡ false))
+    → (v : Placed) × GoesPast d t columns pages done rest place v × (is_seen c n v ≡ false))
     → Scanned a d t columns from (Some place) most budget c n
 scan-passes a b d t columns from at place most budget c n s steady none looks = record {
   somewhere = λ told.
@@ -92,7 +92,7 @@ scan-passes a b d t columns from at place most budget c n s steady none looks = 
 pub scan-finds : (a b d : Space) (t : Table) (columns : ℕ) (from at : Option Place) (place : Place) (most budget : ℕ) (c : ℕ → Bool) (n : ℕ) (row : List Value)
     (pages : List ℕ) (done rest : List Placed) → Scanned a b t columns from at most (budget + 1) c n
     → ((pages : List ℕ) (done rest : List Placed) → Position b t columns pages done rest at
-    → (v : Placed) × Passes d t columns pages done rest place v × (is_seen c n v ≡ true) × (row ≡ row_of v))
+    → (v : Placed) × GoesPast d t columns pages done rest place v × (is_seen c n v ≡ true) × (row ≡ row_of v))
     → Position a t columns pages done rest from → length rest < most
     → Finds d t columns pages rest c n row (record { place = place; budget = budget })
 scan-finds a b d t columns from at place most budget c n row pages done rest s looks position few =

@@ -37,18 +37,18 @@ pub record IsScan (s : Space) (t : Table) (columns : ℕ) (at : Option Place) (b
   pub few : length rest < budget
 
 -- the scan stands behind one version more, which is the one at this place
-pub record Passes (s : Space) (t : Table) (columns : ℕ) (pages : List ℕ) (done rest : List Placed) (place : Place) (v : Placed) : Type 0 where
+pub record GoesPast (s : Space) (t : Table) (columns : ℕ) (pages : List ℕ) (done rest : List Placed) (place : Place) (v : Placed) : Type 0 where
   pub left : List Placed
   pub first : rest ≡ v ∷ left
   pub position : Position s t columns pages (done ++ v ∷ []) left (Some place)
 
 -- what one look finds: nothing is left; or a version that is seen, with its row; or one that is not
-abbrev pub Looks : Space → Table → ℕ → List ℕ → List Placed → List Placed → (ℕ → Bool) → ℕ → List Value → Look → Type 0
-Looks s t columns pages done rest committed snapshot row look.End = rest ≡ []
-Looks s t columns pages done rest committed snapshot row (look.Seen place) =
-    (v : Placed) × Passes s t columns pages done rest place v × (is_seen committed snapshot v ≡ true) × (row ≡ row_of v)
-Looks s t columns pages done rest committed snapshot row (look.Unseen place) =
-    (v : Placed) × Passes s t columns pages done rest place v × (is_seen committed snapshot v ≡ false)
+abbrev pub LookFinds : Space → Table → ℕ → List ℕ → List Placed → List Placed → (ℕ → Bool) → ℕ → List Value → Look → Type 0
+LookFinds s t columns pages done rest committed snapshot row look.End = rest ≡ []
+LookFinds s t columns pages done rest committed snapshot row (look.Seen place) =
+    (v : Placed) × GoesPast s t columns pages done rest place v × (is_seen committed snapshot v ≡ true) × (row ≡ row_of v)
+LookFinds s t columns pages done rest committed snapshot row (look.Unseen place) =
+    (v : Placed) × GoesPast s t columns pages done rest place v × (is_seen committed snapshot v ≡ false)
 
 -- the next row that is seen was found, and the scan stands behind it
 pub record Finds (s : Space) (t : Table) (columns : ℕ) (pages : List ℕ) (rest : List Placed) (committed : ℕ → Bool) (snapshot : ℕ) (row : List Value) (f : Found) : Type 0 where

@@ -1,58 +1,57 @@
--- What contracts see of an engine: the space of its pages, and which state of the plain machine it
--- stands for.
+-- What contracts see of an engine, which is what it keeps: the space of its pages, and which state of
+-- the plain machine it stands for.
 use Rattle.std.specs.Prelude.{◌≤◌, ℕ, Bool, List, is_some}
 use Rattle.hg_base.specs.Space.{Space}
-use Rattle.hg_base.specs.declared.File.TheVariants.{Main, Temp}
 use Rattle.hg_io.specs.declared.device.PageDevice.{Ghosts}
 use Rattle.hg_machine.specs.State.{State}
 use Rattle.hg_pool.specs.Shown.{state_of, main_device, temp_device}
-use Rattle.hg_machine.specs.Reply.{Reply as Line}
+use Rattle.hg_machine.specs.Reply.{Reply as ReplyOf}
 use Rattle.hg_reply.specs.Steps.{DeviceFacts, NoneFell, Says, FullOnlyWhereFull, Moves}
 use Rattle.hg_reply.specs.declared.reply.Reply.{Reply}
-use Rattle.hg_engine.specs.Stepping.{TablesAre, looks_left}
-use Rattle.hg_engine.specs.declared.engine.Engine.{Engine}
-
-abbrev pub faults_in : Space → DeviceFacts
-faults_in s = record {
-  main = s.counts.main_device;
-  temp = s.counts.temp_device;
-  main_pages = s.device_limit Main;
-  temp_pages = s.device_limit Temp;
-}
+use Rattle.hg_engine.specs.Stepping.{TablesAre, faults_in, looks_left}
+use Rattle.hg_engine.specs.declared.kept.Kept.{Kept}
 
 module _ {M T : Type 0} where
   -- the pages of an engine
-  abbrev pub space_of : Ghosts M → Ghosts T → Engine M T → Space
+  abbrev pub space_of : Ghosts M → Ghosts T → Kept M T → Space
   space_of m t e = state_of m t e.pool
 
   -- its devices
-  abbrev pub main_of : Engine M T → M
+  abbrev pub main_of : Kept M T → M
   main_of e = main_device e.pool
 
-  abbrev pub temp_of : Engine M T → T
+  abbrev pub temp_of : Kept M T → T
   temp_of e = temp_device e.pool
 
   -- the engine stands for this state
-  abbrev pub IsEngineOf : Ghosts M → Ghosts T → Engine M T → State → Type 0
+  abbrev pub IsEngineOf : Ghosts M → Ghosts T → Kept M T → State → Type 0
   IsEngineOf m t e state = TablesAre (space_of m t e) e.tables state
 
-  abbrev pub faults_of : Ghosts M → Ghosts T → Engine M T → DeviceFacts
+  abbrev pub faults_of : Ghosts M → Ghosts T → Kept M T → DeviceFacts
   faults_of m t e = faults_in (space_of m t e)
 
   -- how often all pages of the main file were taken when one more was asked for
-  abbrev pub fulls_of : Ghosts M → Ghosts T → Engine M T → ℕ
+  abbrev pub fulls_of : Ghosts M → Ghosts T → Kept M T → ℕ
   fulls_of m t e = (space_of m t e).counts.main_full
 
+  -- how many bytes its replies had
+  abbrev pub said_by_engine : Kept M T → ℕ
+  said_by_engine e = e.said
+
   -- a SELECT is at work
-  abbrev pub is_pending : Engine M T → Bool
+  abbrev pub is_pending : Kept M T → Bool
   is_pending e = is_some e.tables.scan
 
-  abbrev pub turns_left : Engine M T → ℕ
+  abbrev pub turns_left : Kept M T → ℕ
   turns_left e = looks_left e.tables.scan
 
+  -- some state stands for what an engine keeps
+  abbrev pub IsSomeEngine : Ghosts M → Ghosts T → Kept M T → Type 0
+  IsSomeEngine m t e = (state : State) × IsEngineOf m t e state
+
   -- one step of an engine: the lines that it says, and the step of the machine that they are
-  pub record EngineSteps (m : Ghosts M) (t : Ghosts T) (old new : Engine M T) (reply : Reply) (Step : State → List Line → State → Type 0) : Type 0 where
-    pub lines : List Line
+  pub record EngineSteps (m : Ghosts M) (t : Ghosts T) (old new : Kept M T) (reply : Reply) (Step : State → List ReplyOf → State → Type 0) : Type 0 where
+    pub lines : List ReplyOf
     pub says : Says reply (faults_of m t old) (faults_of m t new) lines
     pub full : FullOnlyWhereFull (fulls_of m t old) (fulls_of m t new) lines
     pub moves : Moves (IsEngineOf m t) old new Step lines

@@ -6,7 +6,7 @@ use Rattle.hg_machine.specs.State.{State}
 use Rattle.hg_model.specs.declared.values.Value.{Value}
 use Rattle.hg_engine.specs.Standing.{LeftStands}
 use Rattle.hg_engine.specs.Shown.{IsEngineOf, is_pending}
-use Rattle.hg_engine.specs.declared.engine.Engine.{Engine}
+use Rattle.hg_engine.specs.declared.kept.Kept.{Kept}
 use Rattle.hg_engine.specs.declared.entries.Entry.{Entry}
 use Rattle.hg_engine.specs.declared.scan.Scan.{Scan}
 
@@ -17,5 +17,5 @@ pends-left s marks entries pages None (Some l) h = absurd h
 pends-left s marks entries pages (Some x) None h = absurd h
 pends-left s marks entries pages (Some x) (Some l) h = refl
 
-pub pends_of : {M T : Type 0} (m : Ghosts M) (t : Ghosts T) (e : Engine M T) (s : State) → IsEngineOf m t e s → is_pending e ≡ is_some s.left
+pub pends_of : {M T : Type 0} (m : Ghosts M) (t : Ghosts T) (e : Kept M T) (s : State) → IsEngineOf m t e s → is_pending e ≡ is_some s.left
 pends_of m t e s st = pends-left _ e.tables.stamps e.tables.entries.items st.pages e.tables.scan s.left st.left

@@ -3,12 +3,10 @@ use Rattle.std.specs.Prelude.{◌≡◌, ◌≢◌, ℕ, ◌<◌, ◌≤◌, Lis
 use Rattle.hg_base.specs.Space.{Space, NoPins}
 use Rattle.hg_base.specs.Causes.{Later}
 use Rattle.hg_base.specs.declared.File.TheVariants.{Main, Temp}
-use Rattle.hg_io.specs.Count.{raised}
 use Rattle.hg_machine.specs.CreateTable.{AllDifferent}
-use Rattle.hg_machine.specs.Reply.{Reply as Line, text_of, has_error, fault_lines, device_fault, main_full, damaged}
+use Rattle.hg_machine.specs.Reply.{Reply as ReplyOf, device_fault, main_full, damaged}
 use Rattle.hg_machine.specs.State.{State}
-use Rattle.hg_reply.specs.Steps.{FullOnlyWhereFull}
-use Rattle.hg_reply.specs.declared.reply.Reply.{Reply}
+use Rattle.hg_reply.specs.Steps.{DeviceFacts, Counted, FullOnlyWhereFull}
 use Rattle.hg_base.specs.declared.Table.{Table}
 use Rattle.hg_base.specs.declared.pages.PageFault.{PageFault}
 use Rattle.hg_base.specs.declared.pages.PageFault.TheVariants as fault
@@ -24,20 +22,23 @@ use Rattle.hg_engine.specs.declared.tables.Tables.{Tables}
 abbrev pub TablesAre : Space → Tables → State → Type 0
 TablesAre s x state = Stands s x.entries.items x.stamps x.scan state
 
--- these are the lines of the reply
-pub record Tells (reply : Reply) (lines : List Line) : Type 0 where
-  pub text : reply.text.items ≡ text_of lines
-  pub errors : reply.has_error ≡ has_error lines
+-- what a space says of its devices
+abbrev pub faults_in : Space → DeviceFacts
+faults_in s = record {
+  main = s.counts.main_device;
+  temp = s.counts.temp_device;
+  main_pages = s.device_limit Main;
+  temp_pages = s.device_limit Temp;
+}
 
 -- no more lines say that a device failed than that device's count rose, and a line says that the main
 -- file is full only where the count of its full answers rose
-pub record Counted (a b : Space) (lines : List Line) : Type 0 where
-  pub main : raised a.counts.main_device (fault_lines Main lines) ≤ b.counts.main_device
-  pub temp : raised a.counts.temp_device (fault_lines Temp lines) ≤ b.counts.temp_device
+pub record CountedIn (a b : Space) (lines : List ReplyOf) : Type 0 where
+  pub devices : Counted (faults_in a) (faults_in b) lines
   pub full : FullOnlyWhereFull a.counts.main_full b.counts.main_full lines
 
 -- it is a step of the machine
-pub record StepsTo (a b : Space) (old new : Tables) (Step : State → List Line → State → Type 0) (lines : List Line) : Type 0 where
+pub record StepsTo (a b : Space) (old new : Tables) (Step : State → List ReplyOf → State → Type 0) (lines : List ReplyOf) : Type 0 where
   pub to : (before : State) → TablesAre a old before → (after : State) × TablesAre b new after × Step before lines after
 
 -- a table of that name and these columns may be made
@@ -47,7 +48,7 @@ pub record MayCreate (entries : List Entry) (name : List ℕ) (columns : List (L
   pub few : length entries < 64
 
 -- the line of a fault; a full temporary file has none, since nothing is put there
-abbrev pub line_of : PageFault → Line
+abbrev pub line_of : PageFault → ReplyOf
 line_of fault.MainFault = device_fault Main
 line_of fault.TempFault = device_fault Temp
 line_of fault.MainFull = main_full

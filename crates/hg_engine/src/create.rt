@@ -1,5 +1,5 @@
 //! Tables are made.
-ghost use Rattle.std.specs.Prelude.{MatchBool};
+ghost use Rattle.std.specs.Prelude.{◌≡◌, ◌≤◌, length, MatchBool};
 ghost use Rattle.hg_engine.specs.Stepping.{MayCreate};
 
 use crate::entries::{Entry, all_different, place_of};
@@ -31,12 +31,25 @@ fn may_create(entries: &[Entry], name: &Name, columns: &[Name]) -> bool
     }
 }
 
+/// The same names.
+fn copies(names: &[Name]) -> ArrayVec<Name, 16>
+    requires { length names.now ≤ 16 }
+    ensures { result.items ≡ names.now }
+{
+    let mut copies = ArrayVec::new();
+    for name in names {
+        copies.push(name.copy());
+    }
+    copies
+}
+
 impl Tables {
-    ghost use Rattle.std.specs.Prelude.{◌≡◌, ◌<◌, false, [], List, MatchBool, None, IfOk};
+    ghost use Rattle.std.specs.Prelude.{◌≡◌, ◌<◌, ◌≤◌, false, [], List, length, MatchBool, None, IfOk};
     ghost use Rattle.hg_machine.specs.CreateTable.{CreatesTable};
-    ghost use Rattle.hg_machine.specs.Reply.{Reply as Line};
+    ghost use Rattle.hg_machine.specs.Reply.{Reply as ReplyOf};
     ghost use Rattle.hg_base.specs.Space.{Space};
-    ghost use Rattle.hg_engine.specs.Stepping.{Tells, Counted, StepsTo};
+    ghost use Rattle.hg_reply.specs.Steps.{HasLines};
+    ghost use Rattle.hg_engine.specs.Stepping.{CountedIn, StepsTo};
 
     /// No table, no stamp and no SELECT. All memory that is ever needed is taken here.
     pub fn new(alloc: Global) -> Result<Tables, NoMemory>
@@ -56,21 +69,22 @@ impl Tables {
     }
 
     /// CREATE TABLE.
-    pub fn create_table(&mut self, name: Name, columns: ArrayVec<Name, 16>, reply: &mut Reply)
+    pub fn create_table(&mut self, name: &Name, columns: &[Name], reply: &mut Reply)
         requires idle { self.old.scan ≡ None }
+        requires few { length columns.now ≤ 16 }
         requires empty { reply.old.text.items ≡ [] }
         requires no_error { reply.old.has_error ≡ false }
-        ensures step { (lines : List Line) × Tells reply.new lines × ((s : Space) → Counted s s lines)
-            × ((s : Space) → StepsTo s s self.old self.new (λ before lines after. CreatesTable before name columns.items lines after) lines) }
+        ensures step { (lines : List ReplyOf) × HasLines reply.new lines × ((s : Space) → CountedIn s s lines)
+            × ((s : Space) → StepsTo s s self.old self.new (λ before lines after. CreatesTable before name.now columns.now lines after) lines) }
         ensures idle { self.new.scan ≡ None }
     {
-        if !may_create(&self.entries, &name, &columns) {
+        if !may_create(&self.entries, name, columns) {
             reply.say(&ReplyLine::SyntaxError);
             return;
         }
         self.entries.push_reserved(Entry {
-            name,
-            columns,
+            name: name.copy(),
+            columns: copies(columns),
             data: Table {
                 first: None,
                 last: None,

@@ -1,13 +1,12 @@
 //! The engine over two devices.
 use crate::first::take_first;
+use crate::kept::Kept;
 use crate::tables::Tables;
-use arrayvec::ArrayVec;
 use hg_io::PageDevice;
-use hg_machine::{Row, Statement};
-use hg_model::Name;
 use hg_pool::{Config, Pool};
-use hg_reply::{Machine, Next, Reply};
+use hg_reply::{Machine, Next, Reply, StatementRoom};
 use std::alloc::Global;
+use std::marker::Model;
 
 /// The two devices of an engine.
 #[derive(Drop)]
@@ -17,22 +16,29 @@ pub struct Devices<M, T> {
 }
 
 /// An engine: tables on pages of the main file, behind a pool of frames. It takes memory only when it is
-/// made, and must be spent by `close`.
+/// made, and must be spent by `close`. Contracts see it as what it keeps; that this stands for some state
+/// of the plain machine is its invariant.
 pub struct Engine<M: PageDevice, T: PageDevice> {
-    pub(crate) tables: Tables,
-    pub(crate) pool: Pool<M, T>,
+    pub(crate) kept: Kept<M, T>,
+}
+
+impl<M: PageDevice, T: PageDevice> Model for Engine<M, T> {
+    ghost use Rattle.hg_engine.specs.declared.kept.Kept.{Kept};
+
+    ghost Value = { Kept M T };
+
+    ghost use Rattle.hg_engine.specs.Shown.{IsSomeEngine};
+
+    ghost view = { λ e. e.kept };
+
+    ghost invariant = { λ e. IsSomeEngine M.PageDevice T.PageDevice e.kept };
 }
 
 impl<M: PageDevice, T: PageDevice> Engine<M, T> {
-    ghost use Rattle.std.specs.Prelude.{◌≡◌, ◌<◌, ◌↔◌, ◌&&◌, true, false, IfOk, IfErr};
+    ghost use Rattle.std.specs.Prelude.{◌≡◌, ◌&&◌, false, IfOk, IfErr};
     ghost use Rattle.hg_machine.specs.State.{first_state};
     ghost use Rattle.hg_pool.specs.Opening.{IsPossible};
-    ghost use Rattle.hg_machine.specs.CreateTable.{CreatesTable};
-    ghost use Rattle.hg_machine.specs.Insert.{Inserts};
-    ghost use Rattle.hg_machine.specs.Run.{Turn};
-    ghost use Rattle.hg_machine.specs.Select.{Selects};
-    ghost use Rattle.hg_machine.specs.State.{State};
-    ghost use Rattle.hg_engine.specs.Shown.{space_of, main_of, temp_of, IsEngineOf, is_pending, turns_left, EngineSteps, IsLater};
+    ghost use Rattle.hg_engine.specs.Shown.{main_of, temp_of, IsEngineOf, IsSomeEngine, is_pending};
 
     /// An engine of no table over these devices. Page 0 of the main file is kept for the catalog. The only
     /// error is want of memory; the devices are then handed back. No device is called.
@@ -57,75 +63,34 @@ impl<M: PageDevice, T: PageDevice> Engine<M, T> {
             Err((main, temp)) => return Err(Devices { main, temp }),
         };
         take_first(&mut pool);
-        Ok(Engine { tables, pool })
+        Ok(Engine {
+            kept: Kept {
+                tables,
+                pool,
+                said: 0,
+            },
+        })
     }
 
-    /// Whether a SELECT is at work.
-    fn next(&self) -> Next
-        ensures { (result ≡ Next.More) ↔ (is_pending self.now ≡ true) }
+    /// There is a state of the plain machine that the engine stands for. It computes nothing: its
+    /// contract is the law.
+    pub fn stands_for_a_state(&self)
+        ensures { IsSomeEngine M.PageDevice T.PageDevice self.now }
     {
-        if self.tables.scan.is_some() {
-            Next::More
-        } else {
-            Next::Done
-        }
-    }
-
-    /// CREATE TABLE.
-    fn create(&mut self, name: Name, columns: ArrayVec<Name, 16>, reply: &mut Reply)
-        requires idle { is_pending self.old ≡ false }
-        ensures step { EngineSteps M.PageDevice T.PageDevice self.old self.new reply.new
-            (λ before lines after. CreatesTable before name columns.items lines after) }
-        ensures idle { is_pending self.new ≡ false }
-        ensures later { IsLater (space_of M.PageDevice T.PageDevice self.old) (space_of M.PageDevice T.PageDevice self.new) }
-    {
-        reply.clear();
-        self.tables.create_table(name, columns, reply);
-    }
-
-    /// INSERT.
-    fn insert(&mut self, table: &Name, rows: &[Row], reply: &mut Reply)
-        requires idle { is_pending self.old ≡ false }
-        requires stands { (state : State) × IsEngineOf M.PageDevice T.PageDevice self.old state }
-        ensures step { EngineSteps M.PageDevice T.PageDevice self.old self.new reply.new
-            (λ before lines after. Inserts before table.now rows.now lines after) }
-        ensures idle { is_pending self.new ≡ false }
-        ensures later { IsLater (space_of M.PageDevice T.PageDevice self.old) (space_of M.PageDevice T.PageDevice self.new) }
-    {
-        reply.clear();
-        self.tables.insert(&mut self.pool, table, rows, reply);
-    }
-
-    /// SELECT.
-    fn select(&mut self, table: &Name, reply: &mut Reply)
-        requires idle { is_pending self.old ≡ false }
-        ensures step { EngineSteps M.PageDevice T.PageDevice self.old self.new reply.new
-            (λ before lines after. Selects before table.now lines after) }
-        ensures later { IsLater (space_of M.PageDevice T.PageDevice self.old) (space_of M.PageDevice T.PageDevice self.new) }
-    {
-        reply.clear();
-        self.tables.select(&self.pool, table, reply);
-    }
-
-    /// One turn of the SELECT at work.
-    fn turn(&mut self, reply: &mut Reply)
-        requires pending { is_pending self.old ≡ true }
-        requires stands { (state : State) × IsEngineOf M.PageDevice T.PageDevice self.old state }
-        ensures step { EngineSteps M.PageDevice T.PageDevice self.old self.new reply.new Turn }
-        ensures nearer { turns_left self.new < turns_left self.old }
-        ensures later { IsLater (space_of M.PageDevice T.PageDevice self.old) (space_of M.PageDevice T.PageDevice self.new) }
-    {
-        reply.clear();
-        self.tables.turn(&mut self.pool, reply);
+        let _ = &self.kept;
     }
 
     /// Gives the devices back as they are: no device is called, and pages that were not written are lost.
     pub fn close(self) -> Devices<M, T>
-        requires { (state : State) × IsEngineOf M.PageDevice T.PageDevice self state }
         ensures main { result.main ≡ main_of self }
         ensures temp { result.temp ≡ temp_of self }
     {
-        let Engine { tables, pool } = self;
+        let Engine { kept } = self;
+        let Kept {
+            tables,
+            pool,
+            said: _,
+        } = kept;
         drop(tables);
         let (main, temp) = pool.close();
         Devices { main, temp }
@@ -133,7 +98,7 @@ impl<M: PageDevice, T: PageDevice> Engine<M, T> {
 }
 
 impl<M: PageDevice, T: PageDevice> Machine for Engine<M, T> {
-    ghost use Rattle.hg_engine.specs.Shown.{IsEngineOf, faults_of, fulls_of, is_pending, turns_left};
+    ghost use Rattle.hg_engine.specs.Shown.{IsEngineOf, faults_of, fulls_of, said_by_engine, is_pending, turns_left};
     ghost use Rattle.hg_engine.specs.ShownLaws.{pends_of};
 
     ghost stands = { IsEngineOf M.PageDevice T.PageDevice };
@@ -142,30 +107,22 @@ impl<M: PageDevice, T: PageDevice> Machine for Engine<M, T> {
 
     ghost fulls = { fulls_of M.PageDevice T.PageDevice };
 
+    ghost said = { said_by_engine };
+
     ghost pending = { is_pending };
 
     ghost turns = { turns_left };
 
-    fn command(&mut self, statement: Statement, reply: &mut Reply) -> Next {
-        match statement {
-            Statement::CreateTable { name, columns } => {
-                self.create(name, columns, reply);
-                self.next()
-            }
-            Statement::Insert { table, rows } => {
-                self.insert(&table, &rows, reply);
-                self.next()
-            }
-            Statement::Select { table } => {
-                self.select(&table, reply);
-                self.next()
-            }
-        }
+    fn command(&mut self, statement: &StatementRoom, reply: &mut Reply) -> Next {
+        self.kept.command(statement, reply)
     }
 
     fn more(&mut self, reply: &mut Reply) -> Next {
-        self.turn(reply);
-        self.next()
+        self.kept.more(reply)
+    }
+
+    fn drop_command(&mut self) {
+        self.kept.drop_command();
     }
 
     ghost pends = { pends_of

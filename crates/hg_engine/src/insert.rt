@@ -14,12 +14,13 @@ impl Tables {
     ghost use Rattle.std.specs.Prelude.{◌≡◌, ◌<◌, ◌^◌, false, [], List, length, MatchBool, MatchOption, None, Some, slice_get};
     ghost use Rattle.hg_base.specs.Space.{NoPins};
     ghost use Rattle.hg_machine.specs.Insert.{Inserts};
-    ghost use Rattle.hg_machine.specs.Reply.{Reply as Line};
+    ghost use Rattle.hg_machine.specs.Reply.{Reply as ReplyOf};
     ghost use Rattle.hg_machine.specs.State.{State};
     ghost use Rattle.hg_table.specs.Marks.{last, Draws};
     ghost use Rattle.hg_engine.specs.Putting.{HaveColumns};
     ghost use Rattle.hg_engine.specs.declared.entries.Entry.{Entry as EntryOf};
-    ghost use Rattle.hg_engine.specs.Stepping.{TablesAre, Tells, Counted, IsSameSpace, StepsTo, CanPutAt, PutsInto};
+    ghost use Rattle.hg_reply.specs.Steps.{HasLines};
+    ghost use Rattle.hg_engine.specs.Stepping.{TablesAre, CountedIn, IsSameSpace, StepsTo, CanPutAt, PutsInto};
 
     /// Whether each row has a value for each column of the table.
     fn fit(&self, at: usize, rows: &[Tuple]) -> bool
@@ -74,7 +75,7 @@ impl Tables {
         requires stands { (state : State) × TablesAre (S.state space.old) self.old state }
         requires empty { reply.old.text.items ≡ [] }
         requires no_error { reply.old.has_error ≡ false }
-        ensures step { (lines : List Line) × Tells reply.new lines × Counted (S.state space.old) (S.state space.new) lines
+        ensures step { (lines : List ReplyOf) × HasLines reply.new lines × CountedIn (S.state space.old) (S.state space.new) lines
             × StepsTo (S.state space.old) (S.state space.new) self.old self.new (λ before lines after. Inserts before name.now rows.now lines after) lines }
         ensures idle { self.new.scan ≡ None }
         ensures same { IsSameSpace (S.state space.old) (S.state space.new) }

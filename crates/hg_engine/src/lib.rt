@@ -12,6 +12,7 @@ mod faults;
 mod fill;
 mod first;
 mod insert;
+mod kept;
 mod next;
 mod putting;
 mod scan;
@@ -19,4 +20,7 @@ mod select;
 mod tables;
 
 pub use engine::{Devices, Engine};
+pub use hg_machine::{Cell, Content, Row};
+pub use hg_model::Name;
 pub use hg_pool::Config;
+pub use hg_reply::{Kind, Machine, Next, Reply, StatementRoom};

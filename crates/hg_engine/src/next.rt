@@ -7,7 +7,7 @@ ghost use Rattle.hg_table.specs.Calls.{none_mine, TakesNone};
 ghost use Rattle.hg_table.specs.Marks.{committed};
 ghost use Rattle.hg_table.specs.Versions.{Placed};
 ghost use Rattle.hg_engine.specs.Seen.{seen_rows};
-ghost use Rattle.hg_engine.specs.Scanning.{Position, IsSomewhere, IsScan, Looks, Finds, ScanFault};
+ghost use Rattle.hg_engine.specs.Scanning.{Position, IsSomewhere, IsScan, LookFinds, Finds, ScanFault};
 
 use crate::scan::Scan;
 use hg_base::{Check, File, PageFault, PageId, Pages, Place, Stamp};
@@ -32,7 +32,7 @@ pub struct Found {
     pub budget: u64,
 }
 
-/// Looks for the next version behind a place. The row of one that the snapshot sees is put into `row`.
+/// LookFinds for the next version behind a place. The row of one that the snapshot sees is put into `row`.
 pub fn look_behind<S: Pages, D: TableCalls>(
     space: &mut S,
     table: &D,
@@ -46,7 +46,7 @@ pub fn look_behind<S: Pages, D: TableCalls>(
     requires start { (S.state space.old).told ≡ true → IsSomewhere (S.state space.old) (D.ends table.now) columns at }
     ensures looks { IfOk result (λ look. (pages : List ℕ) (done rest : List Placed)
         → Position (S.state space.old) (D.ends table.now) columns pages done rest at
-        → Looks (S.state space.new) (D.ends table.now) columns pages done rest (committed stamps.now) snapshot.0 row.new look) }
+        → LookFinds (S.state space.new) (D.ends table.now) columns pages done rest (committed stamps.now) snapshot.0 row.new look) }
     ensures steady { Steady none_mine (S.state space.old) (S.state space.new) }
     ensures takes_none { TakesNone (S.state space.old) (S.state space.new) }
     ensures fault { IfErr result (ScanFault (S.state space.old) (S.state space.new)) }
@@ -78,7 +78,7 @@ fn endless(at: Option<Place>) -> PageFault
     }
 }
 
-/// Looks for the next row behind a place that the snapshot sees, at most `budget` times; it is put into
+/// LookFinds for the next row behind a place that the snapshot sees, at most `budget` times; it is put into
 /// `row`. None where no row is left. Where the space tells, the looks suffice if they are more than the
 /// versions behind the place.
 pub fn next_row<S: Pages, D: TableCalls>(

@@ -15,7 +15,7 @@ impl Tables {
     ghost use Rattle.std.specs.Prelude.{◌≡◌, ◌<◌, ◌+◌, ℕ, false, true, [], List, length, MatchOption, None, Some, IsSome, IfErr, IfOk, IfSome, slice_get};
     ghost use Rattle.hg_base.specs.Space.{NoPins};
     ghost use Rattle.hg_base.specs.Steadiness.{Steady};
-    ghost use Rattle.hg_machine.specs.Reply.{Reply as Line};
+    ghost use Rattle.hg_machine.specs.Reply.{Reply as ReplyOf};
     ghost use Rattle.hg_machine.specs.Run.{Turn};
     ghost use Rattle.hg_machine.specs.Select.{Selects};
     ghost use Rattle.hg_machine.specs.State.{State};
@@ -25,14 +25,15 @@ impl Tables {
     ghost use Rattle.hg_engine.specs.Seen.{seen_rows};
     ghost use Rattle.hg_engine.specs.Scanning.{Position, IsScan, Finds, ScanFault};
     ghost use Rattle.hg_engine.specs.declared.entries.Entry.{Entry as EntryOf};
-    ghost use Rattle.hg_engine.specs.Stepping.{TablesAre, Tells, Counted, IsSameSpace, StepsTo, looks_left};
+    ghost use Rattle.hg_reply.specs.Steps.{HasLines};
+    ghost use Rattle.hg_engine.specs.Stepping.{TablesAre, CountedIn, IsSameSpace, StepsTo, looks_left};
 
     /// SELECT of all rows: they are left to give from the next turn on.
     pub fn select<S: Pages>(&mut self, space: &S, name: &Name, reply: &mut Reply)
         requires idle { self.old.scan ≡ None }
         requires empty { reply.old.text.items ≡ [] }
         requires no_error { reply.old.has_error ≡ false }
-        ensures step { (lines : List Line) × Tells reply.new lines × Counted (S.state space.now) (S.state space.now) lines
+        ensures step { (lines : List ReplyOf) × HasLines reply.new lines × CountedIn (S.state space.now) (S.state space.now) lines
             × StepsTo (S.state space.now) (S.state space.now) self.old self.new (λ before lines after. Selects before name.now lines after) lines }
     {
         let Some(table) = place_of(&self.entries, name) else {
@@ -96,7 +97,7 @@ impl Tables {
         requires stands { (state : State) × TablesAre (S.state space.old) self.old state }
         requires empty { reply.old.text.items ≡ [] }
         requires no_error { reply.old.has_error ≡ false }
-        ensures step { (lines : List Line) × Tells reply.new lines × Counted (S.state space.old) (S.state space.new) lines
+        ensures step { (lines : List ReplyOf) × HasLines reply.new lines × CountedIn (S.state space.old) (S.state space.new) lines
             × StepsTo (S.state space.old) (S.state space.new) self.old self.new Turn lines }
         ensures nearer { looks_left self.new.scan < looks_left self.old.scan }
         ensures same { IsSameSpace (S.state space.old) (S.state space.new) }

@@ -1,12 +1,27 @@
 -- What one small step of an engine promises, in the words of the plain machine. Our own rule.
-use Rattle.std.specs.Prelude.{◌≡◌, ℕ, ◌≤◌, true, List}
+use Rattle.std.specs.Prelude.{◌≡◌, ℕ, ◌≤◌, true, List, None}
 use Rattle.std.specs.List.{list_any}
 use Rattle.hg_base.specs.declared.File.TheVariants.{Main, Temp}
 use Rattle.hg_base.specs.Causes.{Rose}
 use Rattle.hg_io.specs.Count.{raised}
-use Rattle.hg_machine.specs.Reply.{Reply as Line, text_of, has_error, fault_lines, is_main_full}
+use Rattle.hg_machine.specs.declared.statements.Statement.{Statement}
+use Rattle.hg_machine.specs.declared.statements.Statement.TheVariants as statement
+use Rattle.hg_machine.specs.Reply.{Reply as ReplyOf, text_of, has_error, fault_lines, is_main_full}
 use Rattle.hg_machine.specs.State.{State}
+use Rattle.hg_reply.specs.declared.machine.Kind.{Kind}
+use Rattle.hg_reply.specs.declared.machine.Kind.TheVariants as kind
+use Rattle.hg_reply.specs.declared.machine.StatementRoom.{StatementRoom}
 use Rattle.hg_reply.specs.declared.reply.Reply.{Reply}
+
+-- the statement of this kind that stands in a room
+abbrev pub statement_as : StatementRoom → Kind → Statement
+statement_as room kind.CreateTable = statement.CreateTable room.table room.columns
+statement_as room kind.Insert = statement.Insert room.table room.rows
+statement_as room kind.Select = statement.Select room.table
+
+-- the statement that stands in a room
+abbrev pub statement_in : StatementRoom → Statement
+statement_in room = statement_as room room.kind
 
 -- what a run says of the two devices: how often each failed, by its own count, and how many pages it has
 pub record DeviceFacts : Type 0 where
@@ -22,19 +37,34 @@ pub record NoneFell (before after : DeviceFacts) : Type 0 where
   pub main_pages : after.main_pages ≡ before.main_pages
   pub temp_pages : after.temp_pages ≡ before.temp_pages
 
--- these reply lines are what the step said, and no more of them say that a device failed than that
--- device's count rose in the step
-pub record Says (reply : Reply) (before after : DeviceFacts) (lines : List Line) : Type 0 where
+-- these are the lines of a reply
+pub record HasLines (reply : Reply) (lines : List ReplyOf) : Type 0 where
   pub text : reply.text.items ≡ text_of lines
   pub errors : reply.has_error ≡ has_error lines
-  pub main_faults : raised before.main (fault_lines Main lines) ≤ after.main
-  pub temp_faults : raised before.temp (fault_lines Temp lines) ≤ after.temp
+
+-- no more of these lines say that a device failed than that device's count rose
+pub record Counted (before after : DeviceFacts) (lines : List ReplyOf) : Type 0 where
+  pub main : raised before.main (fault_lines Main lines) ≤ after.main
+  pub temp : raised before.temp (fault_lines Temp lines) ≤ after.temp
+
+-- these reply lines are what a step said, with the faults that they speak of
+pub record Says (reply : Reply) (before after : DeviceFacts) (lines : List ReplyOf) : Type 0 where
+  pub said : HasLines reply lines
+  pub counted : Counted before after lines
 
 -- a line says that the main file is full only where the count of these answers rose in the step
-pub record FullOnlyWhereFull (before after : ℕ) (lines : List Line) : Type 0 where
+pub record FullOnlyWhereFull (before after : ℕ) (lines : List ReplyOf) : Type 0 where
   pub rose : list_any is_main_full lines ≡ true → Rose before after
 
 -- The step is one of the machine: whatever state the engine stood for, it stands for a state that the
 -- machine reaches with these lines.
-pub record Moves {E : Type 0} (Stands : E → State → Type 0) (old new : E) (Step : State → List Line → State → Type 0) (lines : List Line) : Type 0 where
+pub record Moves {E : Type 0} (Stands : E → State → Type 0) (old new : E) (Step : State → List ReplyOf → State → Type 0) (lines : List ReplyOf) : Type 0 where
   pub to : (before : State) → Stands old before → (after : State) × Stands new after × Step before lines after
+
+-- the state with no SELECT at work
+abbrev pub without_command : State → State
+without_command s = record s { left = None }
+
+-- the SELECT at work, if there is one, is at work no longer, and nothing else has changed
+pub record DropsCommand {E : Type 0} (Stands : E → State → Type 0) (old new : E) : Type 0 where
+  pub to : (before : State) → Stands old before → Stands new (without_command before)

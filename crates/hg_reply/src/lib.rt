@@ -10,7 +10,7 @@ mod machine;
 mod reply;
 mod row;
 
-pub use machine::{Machine, Next};
+pub use machine::{Kind, Machine, Next, StatementRoom};
 pub use reply::{REPLY_BYTES, Reply, ReplyLine};
 
 #[cfg(test)]

@@ -101,14 +101,6 @@ no-command tokens (statement.Insert table rows) creates inserts selects (body, e
 no-command tokens (statement.Select table) creates inserts selects (body, end, is, ends, parts) =
     (selects table).none body end is ends parts
 
-pub last-command : (tokens : List Token) (answer : Option Statement)
-    → ((name : List ℕ) (columns : List (List ℕ)) → NoCommand (IsCreateTable name columns) tokens)
-    → ((table : List ℕ) (rows : List (List Value)) → NoCommand (IsInsert table rows) tokens)
-    → IfSome answer (λ s. StandsFor s tokens) → IfNone answer ((table : List ℕ) → NoCommand (IsSelect table) tokens)
-    → MatchOption answer ((s : Statement) → ¬ StandsFor s tokens) (λ s. StandsFor s tokens)
-last-command tokens None creates inserts sound complete = λ s. no-command tokens s creates inserts complete
-last-command tokens (Some s) creates inserts sound complete = sound
-
 -- whatever is said of none
 pub on_none : {T : Type 0} {P : Type 0} (answer : Option T) → P → IfNone answer P
 on_none None p = p

@@ -11,7 +11,8 @@ use Rattle.hg_reply.specs.Steps.{Moves, DeviceFacts}
 use Rattle.hg_serve.specs.declared.session.Session.{Session}
 use Rattle.hg_serve.specs.declared.statuses.Status.{Status}
 use Rattle.hg_serve.specs.declared.statuses.Status.TheVariants as status
-use Rattle.hg_serve.specs.Output.{Seen, seen}
+use Rattle.hg_serve.specs.Output.{Moment, moment, Stops}
+use Rattle.hg_serve.specs.Session.{TellsFront}
 use Rattle.hg_serve.specs.Serving.{Serves, Halts, AllAnswered, Closes, Running}
 use Rattle.hg_serve.specs.Ending.{Ends, TakesSoMany, outside}
 use Rattle.hg_serve.specs.Run.{Reaches}
@@ -96,9 +97,18 @@ module _ {E : Type 0} (Stands : E → State → Type 0) (first now : E) (start :
         temp_faults = temp;
       }
 
-  module _ (left0 left1 : Option (List ℕ)) (given0 given1 : ℕ) (w0 w1 : Option (List ℕ)) (f0 f1 : DeviceFacts) (taken : List ℕ)
+  module _ (left0 left1 : Option (List ℕ)) (given0 given1 : ℕ) (w0 w1 : Option (List ℕ)) (f0 f1 : DeviceFacts) (n0 n1 : ℕ) (taken : List ℕ)
       (stood : Stands first start) (took : Took (outside left0 given0 w0 f0) (outside left1 given1 w1 f1) taken) where
-    pub breaks-off : length taken ≤ 2 ^ 32 → Halts Stands first now (seen w0 f0) (seen w1 f1) (whole_lines taken)
+    -- the lines of which a front was written
+    front-replies : (lines : List Line) (t : TellsFront Stands now (moment w0 f0 n0) (moment w1 f1 n1) [] (Running lines start))
+        → Replies (Reaches Stands now start) (outside left0 given0 w0 f0) (outside left1 given1 w1 f1) lines t.replies
+    front-replies lines t = record {
+      run = record { last = t.after; stands = t.stands; runs = t.step };
+      main_faults = t.tells.counted.main;
+      temp_faults = t.tells.counted.temp;
+    }
+
+    pub breaks-off : length taken ≤ 2 ^ 32 → Halts Stands first now (moment w0 f0 n0) (moment w1 f1 n1) (whole_lines taken)
         → AnswersInPart (Reaches Stands now start) (outside left0 given0 w0 f0) (outside left1 given1 w1 f1)
     breaks-off few h = record {
       taken = taken;
@@ -107,16 +117,16 @@ module _ {E : Type 0} (Stands : E → State → Type 0) (first now : E) (start :
       lines = h.front;
       later = h.later;
       first = inl h.parts;
-      replies = h.replies;
-      of_run = the-replies _ _ h.front h.replies stood h.moves h.tells.counted.main h.tells.counted.temp;
-      front = h.tells.breaks.front;
-      rest = h.tells.breaks.rest;
-      parts = h.tells.breaks.parts;
-      text = h.tells.breaks.written;
+      replies = (h.breaks.from start stood).replies;
+      of_run = front-replies h.front (h.breaks.from start stood);
+      front = (h.breaks.from start stood).tells.breaks.front;
+      rest = (h.breaks.from start stood).tells.breaks.rest;
+      parts = (h.breaks.from start stood).tells.breaks.parts;
+      text = (h.breaks.from start stood).tells.breaks.written;
     }
 
     answers-all : (errors : Bool) → length taken < 2 ^ 32 → AtEnd left1
-        → AllAnswered Stands first now (seen w0 f0) (seen w1 f1) (lines_of taken) errors
+        → AllAnswered Stands first now (moment w0 f0 n0) (moment w1 f1 n1) (lines_of taken) errors
         → AnswersAll (Reaches Stands now start) (outside left0 given0 w0 f0) (outside left1 given1 w1 f1) errors
     answers-all errors few last a = record {
       taken = taken;
@@ -129,7 +139,7 @@ module _ {E : Type 0} (Stands : E → State → Type 0) (first now : E) (start :
     }
 
     pub closes : (s : Status) → length taken < 2 ^ 32 → AtEnd left1
-        → Closes Stands first now (seen w0 f0) (seen w1 f1) (lines_of taken) s
+        → Closes Stands first now (moment w0 f0 n0) (moment w1 f1 n1) (lines_of taken) s
         → Ends (Reaches Stands now start) (outside left0 given0 w0 f0) (outside left1 given1 w1 f1) s
     closes status.Clean few last a = answers-all _ few last a
     closes status.Errors few last a = answers-all _ few last a
@@ -142,17 +152,17 @@ module _ {E : Type 0} (Stands : E → State → Type 0) (first now : E) (start :
       lines = h.front;
       later = h.later;
       first = inr (last, h.parts);
-      replies = h.replies;
-      of_run = the-replies _ _ h.front h.replies stood h.moves h.tells.counted.main h.tells.counted.temp;
-      front = h.tells.breaks.front;
-      rest = h.tells.breaks.rest;
-      parts = h.tells.breaks.parts;
-      text = h.tells.breaks.written;
+      replies = (h.breaks.from start stood).replies;
+      of_run = front-replies h.front (h.breaks.from start stood);
+      front = (h.breaks.from start stood).tells.breaks.front;
+      rest = (h.breaks.from start stood).tells.breaks.rest;
+      parts = (h.breaks.from start stood).tells.breaks.parts;
+      text = (h.breaks.from start stood).tells.breaks.written;
     }
     closes status.NoMemory few last never = absurd never
     closes status.TooLong few last never = absurd never
 
-    module _ (s : Session) (serves : Serves Stands first now (seen w0 f0) (seen w1 f1) s taken) (empty : s.output.bytes.items ≡ []) where
+    module _ (s : Session) (serves : Serves Stands first now (moment w0 f0 n0) (moment w1 f1 n1) s taken) (empty : s.output.bytes.items ≡ []) where
       all_text : w1 ≡ then w0 (text_of serves.replies)
       all_text =
           serves.passes.written
@@ -177,7 +187,7 @@ module _ {E : Type 0} (Stands : E → State → Type 0) (first now : E) (start :
       }
 
 -- how a session that was closed took its bytes
-pub closes-so_many : {E : Type 0} (Stands : E → State → Type 0) (first now : E) (old new : Seen) (lines : List Line) (n : ℕ) (s : Status)
+pub closes-so_many : {E : Type 0} (Stands : E → State → Type 0) (first now : E) (old new : Moment) (lines : List Line) (n : ℕ) (s : Status)
     → n < 2 ^ 32 → Closes Stands first now old new lines s → TakesSoMany s n
 closes-so_many Stands first now old new lines n status.Clean few a = few
 closes-so_many Stands first now old new lines n status.Errors few a = few
@@ -186,3 +196,14 @@ closes-so_many Stands first now old new lines n status.SourceFault few never = a
 closes-so_many Stands first now old new lines n status.SinkFault few h = omega arith
 closes-so_many Stands first now old new lines n status.NoMemory few never = never
 closes-so_many Stands first now old new lines n status.TooLong few never = absurd never
+
+-- nothing more was run where the sink failed
+pub closes-stops : {E : Type 0} (Stands : E → State → Type 0) (first now : E) (old new : Moment) (lines : List Line) (s : Status)
+    → Closes Stands first now old new lines s → s ≡ status.SinkFault → Stops old new []
+closes-stops Stands first now old new lines status.Clean a is = absurd (let h : status.Clean ≡ status.SinkFault = is in cc)
+closes-stops Stands first now old new lines status.Errors a is = absurd (let h : status.Errors ≡ status.SinkFault = is in cc)
+closes-stops Stands first now old new lines status.Usage never is = absurd never
+closes-stops Stands first now old new lines status.SourceFault never is = absurd never
+closes-stops Stands first now old new lines status.SinkFault h is = h.breaks.stops
+closes-stops Stands first now old new lines status.NoMemory never is = absurd never
+closes-stops Stands first now old new lines status.TooLong never is = absurd never

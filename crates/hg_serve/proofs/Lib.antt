@@ -12,3 +12,5 @@ pub mod ServeLemmas
 pub mod Closing
 pub mod Endings
 pub mod Outcomes
+pub mod Finishing
+pub mod Breaking

@@ -27,24 +27,24 @@ short-whole kept whole is short =
 pub long-whole : (kept whole : List ℕ) → kept ≡ take 4097 whole → 4096 < length kept → 4096 < length whole
 long-whole kept whole is long = omega (arith, ap length is, length-take 4097 whole)
 
-pub asks-long : (kept whole : List ℕ) (ended : Bool) → kept ≡ take 4097 whole → 4096 < length kept
-    → AsksFor (record { bytes = whole; ended = ended }) asked.TooLong
-asks-long kept whole ended is long = long-whole kept whole is long
+pub asks-long : (kept whole : List ℕ) (ended : Bool) (s : Statement) → kept ≡ take 4097 whole → 4096 < length kept
+    → AsksFor (record { bytes = whole; ended = ended }) s asked.TooLong
+asks-long kept whole ended s is long = long-whole kept whole is long
 
-asks-short : (line : Line) (a : Asked) → length line.bytes ≤ 4096 → TextAsksFor (said_by line) a → AsksFor line a
-asks-short line asked.Nothing short blank = record { short = short; blank = blank }
-asks-short line asked.SyntaxError short (not_blank, none) =
-    record { short = short; not_blank = λ blank. not_blank blank.blank; none = λ s reading. none s reading.stands }
-asks-short line asked.TooLong short never = absurd never
-asks-short line (asked.Statement s) short stands = record { short = short; stands = stands }
+asks-short : (line : Line) (s : Statement) (a : Asked) → length line.bytes ≤ 4096 → TextAsksFor (said_by line) s a → AsksFor line s a
+asks-short line s asked.Nothing short blank = record { short = short; blank = blank }
+asks-short line s asked.SyntaxError short (not_blank, none) =
+    record { short = short; not_blank = λ blank. not_blank blank.blank; none = λ other reading. none other reading.stands }
+asks-short line s asked.TooLong short never = absurd never
+asks-short line s asked.Statement short stands = record { short = short; stands = stands }
 
-pub asks-kept : (kept whole text : List ℕ) (ended : Bool) (a : Asked) → kept ≡ take 4097 whole → length kept ≤ 4096
-    → text ≡ said_by (record { bytes = kept; ended = ended }) → TextAsksFor text a
-    → AsksFor (record { bytes = whole; ended = ended }) a
-asks-kept kept whole text ended a is short same asks =
+pub asks-kept : (kept whole text : List ℕ) (ended : Bool) (s : Statement) (a : Asked) → kept ≡ take 4097 whole → length kept ≤ 4096
+    → text ≡ said_by (record { bytes = kept; ended = ended }) → TextAsksFor text s a
+    → AsksFor (record { bytes = whole; ended = ended }) s a
+asks-kept kept whole text ended s a is short same asks =
     let bytes : kept ≡ whole = sym (short-whole kept whole is short) in
-    subst (λ b. AsksFor (record { bytes = b; ended = ended }) a) bytes
-    (asks-short (record { bytes = kept; ended = ended }) a short (subst (λ t. TextAsksFor t a) same asks))
+    subst (λ b. AsksFor (record { bytes = b; ended = ended }) s a) bytes
+    (asks-short (record { bytes = kept; ended = ended }) s a short (subst (λ t. TextAsksFor t s a) same asks))
 
 pub text-cut : (line front : List ℕ) (last : ℕ) (ended : Bool) → ended ≡ true → line ≡ front ++ last ∷ [] → last ≡ 13
     → front ≡ text_of_line (record { bytes = line; ended = ended })
@@ -56,9 +56,9 @@ text-kept line front last ended is parts other =
     let test : (last == 13) ≡ false = grind (arith, nat_tests) in
     rw (is, parts, without_return-last, test)
 
-pub no-reading : (text : List ℕ) (tokens made : List Token) (blank : Bool) → blank ≡ is_all_blank text → blank ≡ false
-    → tokens_of text ≡ Some made → tokens ≡ made → ((s : Statement) → ¬ StandsFor s tokens) → TextAsksFor text asked.SyntaxError
-no-reading text tokens made blank is not_blank reads same none = (
+pub no-reading : (text : List ℕ) (tokens made : List Token) (asked_for : Statement) (blank : Bool) → blank ≡ is_all_blank text → blank ≡ false
+    → tokens_of text ≡ Some made → tokens ≡ made → ((s : Statement) → ¬ StandsFor s tokens) → TextAsksFor text asked_for asked.SyntaxError
+no-reading text tokens made asked_for blank is not_blank reads same none = (
   λ all. let h : true ≡ false = sym all ∙ sym is ∙ not_blank in cc,
   λ s stands. by_tokens s stands.0 stands.1 stands.2,
 )

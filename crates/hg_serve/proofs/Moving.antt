@@ -1,6 +1,7 @@
 -- how the moves of an engine add up to turns, lines and scripts
 use Rattle.std.proofs.Common.{◌≡◌, Bool, true, false, List, [], ◌∷◌, ◌++◌, Option, None, Some, refl, sym, ◌∙◌}
 use Rattle.std.specs.Option.{is_some}
+use Rattle.hg_machine.specs.declared.statements.Statement.{Statement}
 use Rattle.hg_machine.specs.Script.{Line}
 use Rattle.hg_machine.specs.State.{State}
 use Rattle.hg_machine.specs.Reply.{Reply}
@@ -10,7 +11,7 @@ use Rattle.hg_serve.specs.declared.lines.Asked.{Asked}
 use Rattle.hg_serve.specs.Lines.{AsksFor}
 use Rattle.hg_serve.specs.Session.{BeginsAsked, Answering}
 use Rattle.hg_serve.specs.Serving.{Running}
-use Rattle.hg_serve.proofs.Running.{SomeTurns, some-none, some-push, some-then, some-ends, line-begins, runs-line}
+use Rattle.hg_serve.proofs.Running.{SomeTurns, some-none, some-push, some-ends, line-begins, runs-line}
 use Rattle.hg_serve.proofs.Scripts.{runs-push, runs-none}
 
 none-left : {A : Type 0} (o : Option A) → false ≡ is_some o → o ≡ None
@@ -23,11 +24,6 @@ at-rest true P back never = absurd (never (back refl))
 at-rest false P back never = refl
 
 module _ {E : Type 0} (Stands : E → State → Type 0) where
-  -- an engine that stood for a state stands for one after the step
-  pub stands-on : (old new : E) (Step : State → List Reply → State → Type 0) (lines : List Reply) → ((s : State) × Stands old s)
-      → Moves Stands old new Step lines → (s : State) × Stands new s
-  stands-on old new Step lines stood p = let there = p.to stood.0 stood.1 in (there.0, there.1)
-
   -- the engine stays as it is
   pub moves-stay : (e : E) (Step : State → List Reply → State → Type 0) (lines : List Reply) → ((s : State) → Step s lines s)
       → Moves Stands e e Step lines
@@ -49,11 +45,6 @@ module _ {E : Type 0} (Stands : E → State → Type 0) where
   moves-turn e0 e1 e2 rs turn =
       moves-then e0 e1 e2 SomeTurns Turn SomeTurns rs turn (rs ++ turn) (λ a b c. some-push a b c rs turn)
 
-  pub moves-turns : (e0 e1 e2 : E) (rs ss : List Reply) → Moves Stands e0 e1 SomeTurns rs
-      → Moves Stands e1 e2 Turns ss → Moves Stands e0 e2 Turns (rs ++ ss)
-  moves-turns e0 e1 e2 rs ss =
-      moves-then e0 e1 e2 SomeTurns Turns Turns rs ss (rs ++ ss) (λ a b c. some-then a b c rs ss)
-
   -- no turn is left
   pub moves-ends : (e0 e1 : E) (rs : List Reply) (pending : Bool) → pending ≡ false
       → ((s : State) → Stands e1 s → pending ≡ is_some s.left) → Moves Stands e0 e1 SomeTurns rs → Moves Stands e0 e1 Turns rs
@@ -63,12 +54,12 @@ module _ {E : Type 0} (Stands : E → State → Type 0) where
         (m.0, m.1, some-ends before m.0 rs m.2 (none-left m.0.left (sym idle ∙ pends m.0 m.1)));
   }
 
-  pub moves-line : (e0 e1 e2 : E) (line : Line) (asked : Asked) (rs ss : List Reply) → AsksFor line asked
-      → Moves Stands e0 e1 (BeginsAsked asked) rs → Moves Stands e1 e2 Turns ss
+  pub moves-line : (e0 e1 e2 : E) (line : Line) (s : Statement) (asked : Asked) (rs ss : List Reply) → AsksFor line s asked
+      → Moves Stands e0 e1 (BeginsAsked asked s) rs → Moves Stands e1 e2 Turns ss
       → Moves Stands e0 e2 (Answering line) (rs ++ ss)
-  moves-line e0 e1 e2 line asked rs ss asks =
-      moves-then e0 e1 e2 (BeginsAsked asked) Turns (Answering line) rs ss (rs ++ ss)
-      (λ a b c begins turns. runs-line a b c line rs ss (line-begins a b line asked rs asks begins) turns)
+  moves-line e0 e1 e2 line s asked rs ss asks =
+      moves-then e0 e1 e2 (BeginsAsked asked s) Turns (Answering line) rs ss (rs ++ ss)
+      (λ a b c begins turns. runs-line a b c line rs ss (line-begins a b line s asked rs asks begins) turns)
 
   pub moves-lines : (e0 e1 e2 : E) (lines : List Line) (line : Line) (rs ss : List Reply)
       → Moves Stands e0 e1 (Running lines) rs → Moves Stands e1 e2 (Answering line) ss

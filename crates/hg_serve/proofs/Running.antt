@@ -2,6 +2,7 @@
 use Rattle.std.proofs.Common.{◌≡◌, List, [], ◌∷◌, ◌++◌, None, refl, sym, ap, ◌∙◌, subst, append-nil}
 use Rattle.std.specs.List.{flat_map}
 use Rattle.std.proofs.lemmas.Grind.{flat_map-append}
+use Rattle.hg_machine.specs.declared.statements.Statement.{Statement}
 use Rattle.hg_machine.specs.State.{State}
 use Rattle.hg_machine.specs.Reply.{Reply}
 use Rattle.hg_machine.specs.Script.{Line}
@@ -64,12 +65,12 @@ some-then old mid new rs ss p q = record {
 pub some-ends : (old now : State) (rs : List Reply) → SomeTurns old rs now → now.left ≡ None → Turns old rs now
 some-ends old now rs p idle = record { turns = p.turns; given = gives-ends old now p.turns p.given idle; joined = p.joined }
 
-pub line-begins : (old new : State) (line : Line) (a : Asked) (replies : List Reply) → AsksFor line a → BeginsAsked a old replies new
-    → LineBegins old line replies new
-line-begins old new line asked.Nothing replies blank (none, same) = is_blank_line blank none same
-line-begins old new line asked.SyntaxError replies none (one, same) = has_no_reading none.short none.not_blank none.none one same
-line-begins old new line asked.TooLong replies long (one, same) = too_long long one same
-line-begins old new line (asked.Statement s) replies reading begins = asks s reading begins
+pub line-begins : (old new : State) (line : Line) (s : Statement) (a : Asked) (replies : List Reply) → AsksFor line s a
+    → BeginsAsked a s old replies new → LineBegins old line replies new
+line-begins old new line s asked.Nothing replies blank (none, same) = is_blank_line blank none same
+line-begins old new line s asked.SyntaxError replies none (one, same) = has_no_reading none.short none.not_blank none.none one same
+line-begins old new line s asked.TooLong replies long (one, same) = too_long long one same
+line-begins old new line s asked.Statement replies reading begins = asks s reading begins
 
 pub runs-line : (old between new : State) (line : Line) (first others : List Reply) → LineBegins old line first between
     → Turns between others new → RunsLine old line (first ++ others) new

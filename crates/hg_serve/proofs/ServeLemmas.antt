@@ -7,10 +7,11 @@ use Rattle.hg_machine.specs.State.{State}
 use Rattle.hg_machine.specs.Reply.{text_of, has_error}
 use Rattle.hg_reply.specs.Steps.{DeviceFacts}
 use Rattle.hg_serve.specs.declared.session.Session.{Session}
-use Rattle.hg_serve.specs.Output.{Seen, seen, Passes}
-use Rattle.hg_serve.specs.Session.{AnswersLine, BreaksInLine}
+use Rattle.hg_serve.specs.Output.{Moment, moment, Passes}
+use Rattle.hg_serve.specs.Session.{AnswersLine, Answering, BreaksOff}
 use Rattle.hg_serve.specs.Serving.{Serves, Halts}
-use Rattle.hg_serve.proofs.Telling.{passes-then, breaks-then, text_of-append, has_error-append, text_of-nil, has_error-nil, passes-none, counted-none, counted-then}
+use Rattle.hg_serve.proofs.Telling.{passes-then, said-then, text_of-append, has_error-append, text_of-nil, has_error-nil, passes-none, counted-none, counted-then}
+use Rattle.hg_serve.proofs.Breaking.{breaks-lines}
 use Rattle.hg_serve.proofs.Moving.{moves-lines, moves-no_line}
 use Rattle.hg_serve.proofs.Scripts.{whole_lines-append, whole_lines-feed, whole_lines-other, last_part-feed, last_part-other, whole_lines-nil, last_part-nil}
 
@@ -26,7 +27,7 @@ keeps-same kept part b is full =
     is ∙ sym (take-append-le 4097 part (b ∷ []) long)
 
 module _ {E : Type 0} (Stands : E → State → Type 0) where
-  module _ (first now : E) (old new : Seen) (s t : Session) (taken : List ℕ) (b : ℕ) (serves : Serves Stands first now old new s taken)
+  module _ (first now : E) (old new : Moment) (s t : Session) (taken : List ℕ) (b : ℕ) (serves : Serves Stands first now old new s taken)
       (other : b ≢ 10) (output : t.output ≡ s.output) where
     no_feed : (b == 10) ≡ false
     no_feed = grind (arith, nat_tests)
@@ -38,6 +39,7 @@ module _ {E : Type 0} (Stands : E → State → Type 0) where
       passes = rw output serves.passes;
       errors = rw output serves.errors;
       counted = serves.counted;
+      said = serves.said;
       part = rw (last_part-other taken b no_feed) kept;
     }
 
@@ -47,7 +49,7 @@ module _ {E : Type 0} (Stands : E → State → Type 0) where
     pub serves-full : t.line.items ≡ s.line.items → 4097 ≤ length s.line.items → Serves Stands first now old new t (taken ++ b ∷ [])
     serves-full kept full = goes_on (kept ∙ keeps-same s.line.items (last_part [] taken) b serves.part full)
 
-  module _ (first now after : E) (old new later : Seen) (s t : Session) (taken : List ℕ) (b : ℕ)
+  module _ (first now after : E) (old new later : Moment) (s t : Session) (taken : List ℕ) (b : ℕ)
       (serves : Serves Stands first now old new s taken) (feed : b ≡ 10) where
     pub serves-line : AnswersLine Stands now after new later s.output t.output (record { bytes = last_part [] taken; ended = true })
         → t.line.items ≡ [] → Serves Stands first after old later t (taken ++ b ∷ [])
@@ -57,24 +59,23 @@ module _ {E : Type 0} (Stands : E → State → Type 0) where
       passes = rw (text_of-append serves.replies a.replies) (passes-then _ _ _ _ _ _ _ _ serves.passes a.tells.passes);
       errors = a.tells.errors ∙ ap (λ e. e || has_error a.replies) serves.errors ∙ sym (has_error-append serves.replies a.replies);
       counted = counted-then _ _ _ serves.replies a.replies serves.counted a.tells.counted;
+      said = said-then _ _ _ serves.replies a.replies serves.said a.tells.said;
       part = empty ∙ rw (last_part-feed taken b feed);
     }
 
-    pub halts-line : BreaksInLine Stands now after new later s.output.bytes.items (record { bytes = last_part [] taken; ended = true })
+    pub halts-line : BreaksOff Stands now after new later s.output.bytes.items (Answering (record { bytes = last_part [] taken; ended = true }))
         → Halts Stands first after old later (whole_lines (taken ++ b ∷ []))
-    halts-line a = record {
+    halts-line broke = record {
       front = whole_lines (taken ++ b ∷ []);
       later = [];
       parts = sym (append-nil (whole_lines (taken ++ b ∷ [])));
-      replies = serves.replies ++ a.replies;
-      moves = rw (whole_lines-feed taken b feed) (moves-lines Stands first now after (whole_lines taken) (record { bytes = last_part [] taken; ended = true }) serves.replies a.replies serves.moves a.moves);
-      tells = record {
-        breaks = rw (text_of-append serves.replies a.replies) (breaks-then _ _ _ _ _ _ _ serves.passes a.tells.breaks);
-        counted = counted-then _ _ _ serves.replies a.replies serves.counted a.tells.counted;
-      };
+      breaks =
+          rw (whole_lines-feed taken b feed)
+          (breaks-lines Stands first now after old new later [] s.output.bytes.items (whole_lines taken) (record { bytes = last_part [] taken; ended = true }) serves.replies
+          serves.moves serves.passes serves.counted serves.said broke);
     }
 
-  pub serves-start : (e : E) (w : Seen) (s : Session) → s.output.bytes.items ≡ [] → s.output.errors ≡ false
+  pub serves-start : (e : E) (w : Moment) (s : Session) → s.output.bytes.items ≡ [] → s.output.errors ≡ false
       → s.line.items ≡ [] → Serves Stands e e w w s []
   serves-start e w s bytes errors line = record {
     replies = [];
@@ -82,14 +83,15 @@ module _ {E : Type 0} (Stands : E → State → Type 0) where
     passes = rw (text_of-nil, bytes) (passes-none w.written []);
     errors = errors ∙ sym has_error-nil;
     counted = counted-none w.faults;
+    said = omega arith;
     part = line ∙ rw last_part-nil;
   }
 
-  pub serves-flushed : (first now : E) (old : Seen) (w1 w2 : Option (List ℕ)) (f : DeviceFacts) (s t : Session) (taken : List ℕ)
-      → Serves Stands first now old (seen w1 f) s taken
+  pub serves-flushed : (first now : E) (old : Moment) (w1 w2 : Option (List ℕ)) (f : DeviceFacts) (n : ℕ) (s t : Session) (taken : List ℕ)
+      → Serves Stands first now old (moment w1 f n) s taken
       → t.line ≡ s.line → Passes w1 w2 s.output.bytes.items [] [] → t.output.bytes.items ≡ []
-      → t.output.errors ≡ s.output.errors → Serves Stands first now old (seen w2 f) t taken
-  serves-flushed first now old w1 w2 f s t taken serves line passes empty errors = record {
+      → t.output.errors ≡ s.output.errors → Serves Stands first now old (moment w2 f n) t taken
+  serves-flushed first now old w1 w2 f n s t taken serves line passes empty errors = record {
     replies = serves.replies;
     moves = serves.moves;
     passes =
@@ -98,10 +100,11 @@ module _ {E : Type 0} (Stands : E → State → Type 0) where
         (passes-then old.written w1 w2 [] s.output.bytes.items [] (text_of serves.replies) [] serves.passes passes));
     errors = errors ∙ serves.errors;
     counted = serves.counted;
+    said = serves.said;
     part = rw line serves.part;
   }
 
-  pub halts-later : (first now : E) (old new : Seen) (taken more : List ℕ) → Halts Stands first now old new (whole_lines taken)
+  pub halts-later : (first now : E) (old new : Moment) (taken more : List ℕ) → Halts Stands first now old new (whole_lines taken)
       → Halts Stands first now old new (whole_lines (taken ++ more))
   halts-later first now old new taken more h = record {
     front = h.front;
@@ -109,9 +112,7 @@ module _ {E : Type 0} (Stands : E → State → Type 0) where
     parts =
         whole_lines-append taken more ∙ ap (λ l. l ++ ended_lines (last_part [] taken) more) h.parts
         ∙ append_assoc h.front h.later (ended_lines (last_part [] taken) more);
-    replies = h.replies;
-    moves = h.moves;
-    tells = h.tells;
+    breaks = h.breaks;
   }
 
 pub parts-at : (taken bytes : List ℕ) (i : ℕ) → i < length bytes
@@ -127,7 +128,7 @@ pub parts-more : (taken bytes : List ℕ) (i : ℕ) → i < length bytes
 parts-more taken bytes i inside =
     append_assoc taken (take i bytes) (get_or bytes i 0 ∷ []) ∙ ap (λ l. taken ++ l) (sym (take_more bytes i 0 inside))
 
-module _ {E : Type 0} (Stands : E → State → Type 0) (first now : E) (old new : Seen) where
+module _ {E : Type 0} (Stands : E → State → Type 0) (first now : E) (old new : Moment) where
   pub serves-as : (s : Session) (taken taken' : List ℕ) → taken ≡ taken' → Serves Stands first now old new s taken
       → Serves Stands first now old new s taken'
   serves-as s taken taken' is serves = subst (λ l. Serves Stands first now old new s l) is serves

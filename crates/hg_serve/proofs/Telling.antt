@@ -1,15 +1,14 @@
 -- how what goes to the sink, the error lines and the fault lines add up
-use Rattle.std.proofs.Common.{◌≡◌, ℕ, ◌+◌, List, [], ◌∷◌, ◌++◌, ◌||◌, Bool, true, false, Option, None, Some, Result, Ok, Err, OnErr, refl, sym, ap, ◌∙◌, subst, arith, append_assoc, append-nil}
+use Rattle.std.proofs.Common.{◌≡◌, ℕ, ◌+◌, ◌≤◌, length, length-append, List, [], ◌∷◌, ◌++◌, ◌||◌, Bool, true, false, Option, None, Some, Result, Ok, Err, OnErr, refl, sym, ap, ◌∙◌, subst, arith, append_assoc, append-nil}
 use Rattle.std.proofs.lemmas.Grind.{flat_map-append}
 use Rattle.hg_base.specs.declared.File.{File}
 use Rattle.hg_base.specs.declared.File.TheVariants.{Main, Temp}
 use Rattle.hg_io.specs.Bytes.{then, then-then}
 use Rattle.hg_machine.specs.Reply.{Reply, reply_text, is_error, is_fault_of, text_of, has_error, fault_lines}
 use Rattle.hg_reply.specs.declared.reply.Reply.{Reply as Said}
-use Rattle.hg_reply.specs.Steps.{DeviceFacts, Says}
+use Rattle.hg_reply.specs.Steps.{DeviceFacts, NoneFell, Counted, Says}
 use Rattle.hg_serve.specs.declared.output.Output.{Output}
-use Rattle.hg_serve.specs.Output.{Passes, Breaks, Seen, seen, Counted, Tells, TellsInPart}
-use Rattle.hg_reply.specs.Steps.{NoneFell}
+use Rattle.hg_serve.specs.Output.{Passes, Breaks, Moment, moment, Tells, TellsInPart, Stops}
 
 pub or-false : (b : Bool) → (b || false) ≡ b
 or-false true = refl
@@ -117,9 +116,6 @@ counted-then f g h rs ss p q = record {
   temp = omega (arith, fault_lines-append Temp rs ss, p.temp, q.temp);
 }
 
-pub counted-says : (r : Said) (f g : DeviceFacts) (rs : List Reply) → Says r f g rs → Counted f g rs
-counted-says r f g rs s = record { main = s.main_faults; temp = s.temp_faults }
-
 pub fell-none : (f : DeviceFacts) → NoneFell f f
 fell-none f = record { main = omega arith; temp = omega arith; main_pages = refl; temp_pages = refl }
 
@@ -135,64 +131,77 @@ fell-then f g h p q = record {
 pub says-one : (s : Said) (f : DeviceFacts) (r : Reply) → s.text.items ≡ reply_text r → s.has_error ≡ is_error r
     → is_fault_of Main r ≡ false → is_fault_of Temp r ≡ false → Says s f f (r ∷ [])
 says-one s f r text errors main temp = record {
-  text = text ∙ text_of-one r;
-  errors = errors ∙ has_error-one r;
-  main_faults = omega (arith, fault_lines-one Main r main);
-  temp_faults = omega (arith, fault_lines-one Temp r temp);
+  said = record { text = text ∙ text_of-one r; errors = errors ∙ has_error-one r };
+  counted = record { main = omega (arith, fault_lines-one Main r main); temp = omega (arith, fault_lines-one Temp r temp) };
 }
 
 pub says-none : (s : Said) (f : DeviceFacts) → s.text.items ≡ [] → s.has_error ≡ false → Says s f f []
 says-none s f text errors = record {
-  text = text ∙ sym text_of-nil;
-  errors = errors ∙ sym has_error-nil;
-  main_faults = omega (arith, fault_lines-nil Main);
-  temp_faults = omega (arith, fault_lines-nil Temp);
+  said = record { text = text ∙ sym text_of-nil; errors = errors ∙ sym has_error-nil };
+  counted = counted-none f;
 }
 
 -- lines that were told
 
-pub tells-none : (s : Seen) (output : Output) → Tells s s output output []
+pub tells-none : (m : Moment) (output : Output) → Tells m m output output []
 unfolding text_of has_error
-tells-none s output =
-    record { passes = passes-none s.written output.bytes.items; errors = sym (or-false output.errors); counted = counted-none s.faults }
+tells-none m output = record {
+  passes = passes-none m.written output.bytes.items;
+  errors = sym (or-false output.errors);
+  counted = counted-none m.faults;
+  said = omega arith;
+}
 
-pub tells-then : (s0 s1 s2 : Seen) (a b c : Output) (rs ss : List Reply) → Tells s0 s1 a b rs → Tells s1 s2 b c ss
-    → Tells s0 s2 a c (rs ++ ss)
-tells-then s0 s1 s2 a b c rs ss p q = record {
+-- the engine said no more than two lists of lines, one after the other
+pub said-then : (n0 n1 n2 : ℕ) (rs ss : List Reply) → n1 ≤ n0 + length (text_of rs) → n2 ≤ n1 + length (text_of ss) → n2 ≤ n0 + length (text_of (rs ++ ss))
+said-then n0 n1 n2 rs ss p q = omega (arith, ap length (text_of-append rs ss), length-append (text_of rs) (text_of ss), p, q)
+
+pub tells-then : (m0 m1 m2 : Moment) (a b c : Output) (rs ss : List Reply) → Tells m0 m1 a b rs → Tells m1 m2 b c ss
+    → Tells m0 m2 a c (rs ++ ss)
+tells-then m0 m1 m2 a b c rs ss p q = record {
   passes = rw (text_of-append rs ss) (passes-then _ _ _ a.bytes.items b.bytes.items c.bytes.items (text_of rs) (text_of ss) p.passes q.passes);
   errors = q.errors ∙ ap (λ e. e || has_error ss) p.errors ∙ or-assoc a.errors (has_error rs) (has_error ss)
       ∙ ap (λ e. a.errors || e) (sym (has_error-append rs ss));
-  counted = counted-then s0.faults s1.faults s2.faults rs ss p.counted q.counted;
+  counted = counted-then m0.faults m1.faults m2.faults rs ss p.counted q.counted;
+  said = said-then m0.said m1.said m2.said rs ss p.said q.said;
 }
 
 -- a step of the engine, and its reply put behind the others
-pub tells-put : (w0 w1 : Option (List ℕ)) (f0 f1 : DeviceFacts) (a b : Output) (r : Said) (rs : List Reply) → Says r f0 f1 rs
-    → Passes w0 w1 a.bytes.items b.bytes.items r.text.items → b.errors ≡ (a.errors || r.has_error)
-    → Tells (seen w0 f0) (seen w1 f1) a b rs
-tells-put w0 w1 f0 f1 a b r rs s passes errors = record {
-  passes = subst (λ t. Passes w0 w1 a.bytes.items b.bytes.items t) s.text passes;
-  errors = errors ∙ ap (λ e. a.errors || e) s.errors;
-  counted = counted-says r f0 f1 rs s;
+pub tells-put : (w0 w1 : Option (List ℕ)) (f0 f1 : DeviceFacts) (n0 n1 : ℕ) (a b : Output) (r : Said) (rs : List Reply) → Says r f0 f1 rs
+    → Passes w0 w1 a.bytes.items b.bytes.items r.text.items → b.errors ≡ (a.errors || r.has_error) → n1 ≤ n0 + length r.text.items
+    → Tells (moment w0 f0 n0) (moment w1 f1 n1) a b rs
+tells-put w0 w1 f0 f1 n0 n1 a b r rs s passes errors said = record {
+  passes = subst (λ t. Passes w0 w1 a.bytes.items b.bytes.items t) s.said.text passes;
+  errors = errors ∙ ap (λ e. a.errors || e) s.said.errors;
+  counted = s.counted;
+  said = omega (arith, ap length s.said.text, said);
 }
 
-pub part-put : (w0 w1 : Option (List ℕ)) (f0 f1 : DeviceFacts) (waiting : List ℕ) (r : Said) (rs : List Reply) → Says r f0 f1 rs
-    → Breaks w0 w1 waiting r.text.items → TellsInPart (seen w0 f0) (seen w1 f1) waiting rs
-part-put w0 w1 f0 f1 waiting r rs s breaks = record {
-  breaks = subst (λ t. Breaks w0 w1 waiting t) s.text breaks;
-  counted = counted-says r f0 f1 rs s;
+-- a step of the engine, in whose reply the sink failed
+pub part-put : (w0 w1 : Option (List ℕ)) (f0 f1 : DeviceFacts) (n0 n1 : ℕ) (waiting : List ℕ) (r : Said) (rs : List Reply) → Says r f0 f1 rs
+    → Breaks w0 w1 waiting r.text.items → TellsInPart (moment w0 f0 n0) (moment w1 f1 n1) waiting rs
+part-put w0 w1 f0 f1 n0 n1 waiting r rs s breaks =
+    record { breaks = subst (λ t. Breaks w0 w1 waiting t) s.said.text breaks; counted = s.counted }
+
+-- lines of no fault that are not given
+pub part-more : (old new : Moment) (waiting : List ℕ) (rs ss : List Reply) → TellsInPart old new waiting rs → fault_lines Main ss ≡ 0
+    → fault_lines Temp ss ≡ 0 → TellsInPart old new waiting (rs ++ ss)
+part-more old new waiting rs ss p main temp = record {
+  breaks = rw (text_of-append rs ss) (breaks-more old.written new.written waiting (text_of rs) (text_of ss) p.breaks);
+  counted = counted-then old.faults new.faults new.faults rs ss p.counted (record { main = omega (arith, main); temp = omega (arith, temp) });
 }
 
--- lines that are dropped
-pub part-more : (w0 w1 : Option (List ℕ)) (f0 f1 f2 : DeviceFacts) (waiting : List ℕ) (rs ss : List Reply)
-    → TellsInPart (seen w0 f0) (seen w1 f1) waiting rs → Counted f1 f2 ss → TellsInPart (seen w0 f0) (seen w1 f2) waiting (rs ++ ss)
-part-more w0 w1 f0 f1 f2 waiting rs ss p c = record {
-  breaks = rw (text_of-append rs ss) (breaks-more w0 w1 waiting (text_of rs) (text_of ss) p.breaks);
-  counted = counted-then f0 f1 f2 rs ss p.counted c;
-}
+-- what was said and not written, at the sink's fault and in the lines before it
 
-pub part-then : (s0 s1 s2 : Seen) (a b : Output) (rs ss : List Reply) → Tells s0 s1 a b rs → TellsInPart s1 s2 b.bytes.items ss
-    → TellsInPart s0 s2 a.bytes.items (rs ++ ss)
-part-then s0 s1 s2 a b rs ss p q = record {
-  breaks = rw (text_of-append rs ss) (breaks-then _ _ _ _ _ (text_of rs) (text_of ss) p.passes q.breaks);
-  counted = counted-then s0.faults s1.faults s2.faults rs ss p.counted q.counted;
+pub stops-put : (w0 w1 : Option (List ℕ)) (f0 f1 : DeviceFacts) (n0 n1 : ℕ) (waiting text : List ℕ) → Breaks w0 w1 waiting text
+    → n1 ≤ n0 + length text → length waiting + length text ≤ 49152 → Stops (moment w0 f0 n0) (moment w1 f1 n1) waiting
+stops-put w0 w1 f0 f1 n0 n1 waiting text breaks said few =
+    record { front = breaks.front; written = breaks.written; few = omega (arith, said, few) }
+
+pub stops-later : (m0 m1 m2 : Moment) (b0 b1 text : List ℕ) → Passes m0.written m1.written b0 b1 text → m1.said ≤ m0.said + length text
+    → Stops m1 m2 b1 → Stops m0 m2 b0
+stops-later m0 m1 m2 b0 b1 text p said s = record {
+  front = p.passed ++ s.front;
+  written = s.written ∙ ap (λ w. then w s.front) p.written ∙ then-then m0.written p.passed s.front;
+  few = omega (arith, ap length p.parts, length-append b0 text, length-append p.passed b1, length-append p.passed s.front, said, s.few);
 }

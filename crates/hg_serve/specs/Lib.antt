@@ -6,3 +6,4 @@ pub mod Serving
 pub mod Ending
 pub mod Number
 pub mod Run
+pub mod Finishing

@@ -13,12 +13,12 @@ use Rattle.hg_serve.specs.declared.lines.Asked.TheVariants as asked
 abbrev pub TextStandsFor : List ℕ → Statement → Type 0
 TextStandsFor text s = (tokens : List Token) × (tokens_of text ≡ Some tokens) × StandsFor s tokens
 
--- what a text that is not too long asks for
-abbrev pub TextAsksFor : List ℕ → Asked → Type 0
-TextAsksFor text asked.Nothing = is_all_blank text ≡ true
-TextAsksFor text asked.SyntaxError = (¬ (is_all_blank text ≡ true)) × ((s : Statement) → ¬ TextStandsFor text s)
-TextAsksFor text asked.TooLong = ⊥
-TextAsksFor text (asked.Statement s) = TextStandsFor text s
+-- what a text that is not too long asks for; where it is a statement, for which one
+abbrev pub TextAsksFor : List ℕ → Statement → Asked → Type 0
+TextAsksFor text s asked.Nothing = is_all_blank text ≡ true
+TextAsksFor text s asked.SyntaxError = (¬ (is_all_blank text ≡ true)) × ((other : Statement) → ¬ TextStandsFor text other)
+TextAsksFor text s asked.TooLong = ⊥
+TextAsksFor text s asked.Statement = TextStandsFor text s
 
 -- a line that is not too long, is not blank and has no reading
 pub record HasNoReading (line : Line) : Type 0 where
@@ -26,8 +26,9 @@ pub record HasNoReading (line : Line) : Type 0 where
   pub not_blank : ¬ IsBlankLine line
   pub none : (s : Statement) → ¬ IsReading line s
 
-abbrev pub AsksFor : Line → Asked → Type 0
-AsksFor line asked.Nothing = IsBlankLine line
-AsksFor line asked.SyntaxError = HasNoReading line
-AsksFor line asked.TooLong = IsTooLong line
-AsksFor line (asked.Statement s) = IsReading line s
+-- what a line asks for; where it is a statement, for which one
+abbrev pub AsksFor : Line → Statement → Asked → Type 0
+AsksFor line s asked.Nothing = IsBlankLine line
+AsksFor line s asked.SyntaxError = HasNoReading line
+AsksFor line s asked.TooLong = IsTooLong line
+AsksFor line s asked.Statement = IsReading line s

@@ -1,10 +1,8 @@
 -- What waits for the sink, what went there, and what the reply lines among it say. Our own rule.
-use Rattle.std.specs.Prelude.{◌≡◌, ℕ, ◌≤◌, List, ◌++◌, ◌||◌, Option}
-use Rattle.hg_base.specs.declared.File.TheVariants.{Main, Temp}
+use Rattle.std.specs.Prelude.{◌≡◌, ℕ, ◌≤◌, ◌+◌, List, ◌++◌, ◌||◌, length, Option}
 use Rattle.hg_io.specs.Bytes.{then}
-use Rattle.hg_io.specs.Count.{raised}
-use Rattle.hg_machine.specs.Reply.{Reply, text_of, has_error, fault_lines}
-use Rattle.hg_reply.specs.Steps.{DeviceFacts}
+use Rattle.hg_machine.specs.Reply.{Reply, text_of, has_error}
+use Rattle.hg_reply.specs.Steps.{DeviceFacts, Counted}
 use Rattle.hg_serve.specs.declared.output.Output.{Output}
 
 -- a front of the bytes was written
@@ -27,26 +25,32 @@ pub record Breaks (written_before written_after : Option (List ℕ)) (waiting te
   pub parts : waiting ++ text ≡ front ++ rest
   pub written : written_after ≡ then written_before front
 
--- what is seen outside of a session at one moment: the bytes written, and the devices' counts of faults
-pub record Seen : Type 0 where
+-- the outside of a session at one moment: the bytes written, the devices' counts of faults, and how many
+-- bytes the engine's replies had so far
+pub record Moment : Type 0 where
   pub written : Option (List ℕ)
   pub faults : DeviceFacts
+  pub said : ℕ
 
-abbrev pub seen : Option (List ℕ) → DeviceFacts → Seen
-seen written faults = record { written = written; faults = faults }
-
--- no more of these lines say that a device failed than that device's count rose
-pub record Counted (before after : DeviceFacts) (replies : List Reply) : Type 0 where
-  pub main : raised before.main (fault_lines Main replies) ≤ after.main
-  pub temp : raised before.temp (fault_lines Temp replies) ≤ after.temp
+abbrev pub moment : Option (List ℕ) → DeviceFacts → ℕ → Moment
+moment written faults said = record { written = written; faults = faults; said = said }
 
 -- these reply lines were put behind the others, and a front of all went to the sink
-pub record Tells (old new : Seen) (before after : Output) (replies : List Reply) : Type 0 where
+pub record Tells (old new : Moment) (before after : Output) (replies : List Reply) : Type 0 where
   pub passes : Passes old.written new.written before.bytes.items after.bytes.items (text_of replies)
   pub errors : after.errors ≡ (before.errors || has_error replies)
   pub counted : Counted old.faults new.faults replies
+  -- the engine said no more than these lines
+  pub said : new.said ≤ old.said + length (text_of replies)
 
 -- a front of what waited and of these reply lines went to the sink, and then it failed
-pub record TellsInPart (old new : Seen) (waiting : List ℕ) (replies : List Reply) : Type 0 where
+pub record TellsInPart (old new : Moment) (waiting : List ℕ) (replies : List Reply) : Type 0 where
   pub breaks : Breaks old.written new.written waiting (text_of replies)
   pub counted : Counted old.faults new.faults replies
+
+-- A front of what waited and of what the engine said went to the sink, and then it failed; of what the
+-- engine said at most what waits at most and one reply were not written.
+pub record Stops (old new : Moment) (waiting : List ℕ) : Type 0 where
+  pub front : List ℕ
+  pub written : new.written ≡ then old.written front
+  pub few : new.said + length waiting ≤ old.said + length front + 49152

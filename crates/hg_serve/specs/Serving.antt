@@ -1,49 +1,50 @@
 -- Where a session stands, over the bytes of the script that it took and any engine.
-use Rattle.std.specs.Prelude.{◌≡◌, ℕ, Bool, true, false, List, [], ◌++◌, take, Option}
+use Rattle.std.specs.Prelude.{◌≡◌, ◌≤◌, ◌+◌, ℕ, Bool, true, false, List, [], ◌++◌, length, take, Option}
 use Rattle.hg_io.specs.Bytes.{then}
 use Rattle.hg_machine.specs.Script.{Line, whole_lines, last_part}
 use Rattle.hg_machine.specs.State.{State}
 use Rattle.hg_machine.specs.Reply.{Reply, text_of, has_error}
 use Rattle.hg_machine.specs.Run.{RunsLines}
-use Rattle.hg_reply.specs.Steps.{Moves}
+use Rattle.hg_reply.specs.Steps.{Moves, Counted}
 use Rattle.hg_serve.specs.declared.output.Output.{Output}
 use Rattle.hg_serve.specs.declared.session.Session.{Session}
 use Rattle.hg_serve.specs.declared.statuses.Status.{Status}
 use Rattle.hg_serve.specs.declared.statuses.Status.TheVariants as status
-use Rattle.hg_serve.specs.Output.{Seen, Counted, Passes, Breaks, TellsInPart}
+use Rattle.hg_serve.specs.Output.{Moment, Passes, Breaks}
+use Rattle.hg_serve.specs.Session.{BreaksOff}
 
 -- the machine runs the lines
 abbrev pub Running : List Line → State → List Reply → State → Type 0
 Running lines old replies new = RunsLines old lines replies new
 
 -- the whole lines among the bytes taken were answered, and the front of the line at hand is kept
-pub record Serves {E : Type 0} (Stands : E → State → Type 0) (first now : E) (old new : Seen) (s : Session) (taken : List ℕ) : Type 0 where
+pub record Serves {E : Type 0} (Stands : E → State → Type 0) (first now : E) (old new : Moment) (s : Session) (taken : List ℕ) : Type 0 where
   pub replies : List Reply
   pub moves : Moves Stands first now (Running (whole_lines taken)) replies
   pub passes : Passes old.written new.written [] s.output.bytes.items (text_of replies)
   pub errors : s.output.errors ≡ has_error replies
   pub counted : Counted old.faults new.faults replies
+  pub said : new.said ≤ old.said + length (text_of replies)
   pub part : s.line.items ≡ take 4097 (last_part [] taken)
 
 -- the replies to all lines were written or wait
-pub record Answers {E : Type 0} (Stands : E → State → Type 0) (first now : E) (old new : Seen) (output : Output) (lines : List Line) : Type 0 where
+pub record Answers {E : Type 0} (Stands : E → State → Type 0) (first now : E) (old new : Moment) (output : Output) (lines : List Line) : Type 0 where
   pub replies : List Reply
   pub moves : Moves Stands first now (Running lines) replies
   pub passes : Passes old.written new.written [] output.bytes.items (text_of replies)
   pub errors : output.errors ≡ has_error replies
   pub counted : Counted old.faults new.faults replies
+  pub said : new.said ≤ old.said + length (text_of replies)
 
 -- the sink failed in these lines: a front of the replies to the first of them was written
-pub record Halts {E : Type 0} (Stands : E → State → Type 0) (first now : E) (old new : Seen) (lines : List Line) : Type 0 where
+pub record Halts {E : Type 0} (Stands : E → State → Type 0) (first now : E) (old new : Moment) (lines : List Line) : Type 0 where
   pub front : List Line
   pub later : List Line
   pub parts : lines ≡ front ++ later
-  pub replies : List Reply
-  pub moves : Moves Stands first now (Running front) replies
-  pub tells : TellsInPart old new [] replies
+  pub breaks : BreaksOff Stands first now old new [] (Running front)
 
 -- the lines were answered, with an error line or with none
-pub record AllAnswered {E : Type 0} (Stands : E → State → Type 0) (first now : E) (old new : Seen) (lines : List Line) (errors : Bool) : Type 0 where
+pub record AllAnswered {E : Type 0} (Stands : E → State → Type 0) (first now : E) (old new : Moment) (lines : List Line) (errors : Bool) : Type 0 where
   pub replies : List Reply
   pub moves : Moves Stands first now (Running lines) replies
   pub text : new.written ≡ then old.written (text_of replies)
@@ -54,14 +55,14 @@ pub record AllAnswered {E : Type 0} (Stands : E → State → Type 0) (first now
 abbrev pub Finishes : Option (List ℕ) → Option (List ℕ) → Output → Status → Type 0
 Finishes old new output status.Clean = Passes old new output.bytes.items [] [] × (output.errors ≡ false)
 Finishes old new output status.Errors = Passes old new output.bytes.items [] [] × (output.errors ≡ true)
-Finishes old new output status.SinkFault = Breaks old new output.bytes.items []
+Finishes old new output status.SinkFault = Breaks old new output.bytes.items [] × (length output.bytes.items ≤ 49152)
 Finishes old new output status.Usage = ⊥
 Finishes old new output status.NoMemory = ⊥
 Finishes old new output status.SourceFault = ⊥
 Finishes old new output status.TooLong = ⊥
 
 -- a session over these lines was closed with this status
-abbrev pub Closes : {E : Type 0} → (E → State → Type 0) → E → E → Seen → Seen → List Line → Status → Type 0
+abbrev pub Closes : {E : Type 0} → (E → State → Type 0) → E → E → Moment → Moment → List Line → Status → Type 0
 Closes Stands first now old new lines status.Clean = AllAnswered Stands first now old new lines false
 Closes Stands first now old new lines status.Errors = AllAnswered Stands first now old new lines true
 Closes Stands first now old new lines status.SinkFault = Halts Stands first now old new lines

@@ -9,6 +9,7 @@
 //! of faults rose.
 #![tactic(auto)]
 
+mod laws;
 mod lines;
 mod output;
 mod parse;
@@ -19,6 +20,7 @@ mod statuses;
 mod top;
 
 pub use hg_engine::{Config, Devices, Engine};
+pub use laws::a_command_can_finish;
 pub use serving::serve;
 pub use statuses::Status;
 pub use top::{Outcome, run};

@@ -2,19 +2,20 @@
 ghost use Rattle.std.specs.Prelude.{◌≡◌, ◌≤◌, ◌<◌, ◌+◌, ◌==◌, ◌&&◌, ℕ, List, take, length, slice_index};
 ghost use Rattle.hg_machine.specs.Script.{text_of_line, said_by, without_comment};
 ghost use Rattle.hg_machine.specs.Tokens.{is_all_blank};
+ghost use Rattle.hg_reply.specs.Steps.{statement_in};
 ghost use Rattle.hg_serve.specs.Lines.{AsksFor, TextAsksFor};
 
-use crate::parse::parse;
+use crate::parse::parse_into;
 use crate::scan::{LINE_LIMIT, Tokens, is_space, read_tokens};
-use hg_machine::Statement;
+use hg_reply::StatementRoom;
 
-/// What a line asks for.
-#[derive(Drop)]
+/// What a line asks for. A statement stands in the room that the line was read with.
+#[derive(Clone, Copy, PartialEq, Eq, Debug)]
 pub enum Asked {
     Nothing,
     SyntaxError,
     TooLong,
-    Statement(Statement),
+    Statement,
 }
 
 /// The text of a line: without a carriage return at its end, where a line feed ends it.
@@ -68,10 +69,10 @@ fn is_blank_text(text: &[u8]) -> bool
     text.iter().all(|b| is_space(*b))
 }
 
-/// What a text asks for.
-fn read_text(text: &[u8], tokens: &mut Tokens) -> Asked
+/// What a text asks for; a statement is put into the room.
+fn read_text(text: &[u8], tokens: &mut Tokens, room: &mut StatementRoom) -> Asked
     requires { length text.now ≤ 4096 }
-    ensures { TextAsksFor text.now result }
+    ensures { TextAsksFor text.now (statement_in room.new) result }
 {
     if is_blank_text(text) {
         return Asked::Nothing;
@@ -79,21 +80,23 @@ fn read_text(text: &[u8], tokens: &mut Tokens) -> Asked
     if !read_tokens(text, tokens) {
         return Asked::SyntaxError;
     }
-    match parse(tokens.as_slice()) {
-        Some(statement) => Asked::Statement(statement),
-        None => Asked::SyntaxError,
+    if parse_into(tokens.as_slice(), room) {
+        Asked::Statement
+    } else {
+        Asked::SyntaxError
     }
 }
 
-/// What a line asks for, of which `kept` has the first 4,097 bytes. `tokens` is room for its tokens.
-pub fn read_line(kept: &[u8], ended: bool, tokens: &mut Tokens) -> Asked
+/// What a line asks for, of which `kept` has the first 4,097 bytes; a statement is put into the room.
+/// `tokens` is room for its tokens.
+pub fn read_line(kept: &[u8], ended: bool, tokens: &mut Tokens, room: &mut StatementRoom) -> Asked
     ensures { (whole : List ℕ) → kept.now ≡ take 4097 whole
-        → AsksFor (record { bytes = whole; ended = ended }) result }
+        → AsksFor (record { bytes = whole; ended = ended }) (statement_in room.new) result }
 {
     if kept.len() > LINE_LIMIT {
         return Asked::TooLong;
     }
-    read_text(said(kept, ended), tokens)
+    read_text(said(kept, ended), tokens, room)
 }
 
 #[cfg(test)]

@@ -36,6 +36,7 @@ impl Output {
         ensures empty { OnOk result (self.new.bytes.items ≡ []) }
         ensures part { OnErr result (Breaks (K.written sink.old) (K.written sink.new) self.old.bytes.items []) }
         ensures kept { OnErr result (self.new ≡ self.old) }
+        ensures few { array_vec_len self.old.bytes ≤ 49152 }
         ensures errors { self.new.errors ≡ self.old.errors }
         ensures cause { HasCause (K.faults sink.old) (K.faults sink.new) result }
     {
@@ -50,6 +51,7 @@ impl Output {
         ensures waits { array_vec_len self.old.bytes + bytes ≤ 32768 → sink.new ≡ sink.old }
         ensures ok { OnOk result (Passes (K.written sink.old) (K.written sink.new) self.old.bytes.items self.new.bytes.items []) }
         ensures room { OnOk result (array_vec_len self.new.bytes + bytes ≤ 32768) }
+        ensures few { array_vec_len self.old.bytes ≤ 32768 }
         ensures part { OnErr result (Breaks (K.written sink.old) (K.written sink.new) self.old.bytes.items []) }
         ensures kept { OnErr result (self.new ≡ self.old) }
         ensures errors { self.new.errors ≡ self.old.errors }
@@ -70,6 +72,7 @@ impl Output {
         ensures errors { OnOk result (self.new.errors ≡ (self.old.errors || reply.now.has_error)) }
         ensures part { OnErr result (Breaks (K.written sink.old) (K.written sink.new) self.old.bytes.items reply.now.text.items) }
         ensures kept { OnErr result (self.new ≡ self.old) }
+        ensures few { array_vec_len self.old.bytes + array_vec_len reply.now.text ≤ 49152 }
         ensures cause { HasCause (K.faults sink.old) (K.faults sink.new) result }
     {
         let text = reply.text.as_slice();

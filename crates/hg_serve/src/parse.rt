@@ -8,13 +8,15 @@ ghost use Rattle.hg_model.specs.declared.values.Value.TheVariants as value;
 ghost use Rattle.hg_machine.specs.declared.tokens.Token.{Token as Tok};
 ghost use Rattle.hg_machine.specs.declared.tokens.Token.TheVariants as token;
 ghost use Rattle.hg_machine.specs.declared.statements.Statement.{Statement as Asked};
+ghost use Rattle.hg_reply.specs.Steps.{statement_in};
 ghost use Rattle.hg_serve.specs.Parse.{StandsFirst, BeginsWithNoComma, NoCommand, create_words, insert_words};
 ghost use Rattle.hg_machine.specs.Grammar.{IsFree, is_reserved, Separated, negative, IsColumn, IsValue, IsTuple, IsCreateTable, IsInsert, IsSelect, IsEnd, StandsFor};
 
 use crate::scan::Place;
 use arrayvec::ArrayVec;
-use hg_machine::{Cell, Content, RESERVED, Row, Sign, Statement, Token};
+use hg_machine::{Cell, Content, RESERVED, Row, Sign, Token};
 use hg_model::Name;
+use hg_reply::{Kind, StatementRoom};
 
 /// Behind a word, where it stands first.
 fn word<'a>(tokens: &'a [Place], text: &str) -> Option<&'a [Place]>
@@ -77,22 +79,25 @@ trait Item: Drop + Default {
             → IsSomeAnd result (λ p. (p.0 ≡ x) × (p.1.now ≡ rest)) };
 }
 
-/// One or more parts with commas between them, as many as stand there, and what is behind them. None
-/// also where more than `N` stand there.
-fn separated<T: Item, const N: usize>(tokens: &[Place]) -> Option<(ArrayVec<T, N>, &[Place])>
-    ensures sound { IfSome result (λ p. StandsFirst (Separated T.reads) tokens.now p.0.items p.1.now) }
-    ensures few { IfSome result (λ p. length p.0.items ≤ N) }
+/// One or more parts with commas between them, as many as stand there, which are put into `items`; and
+/// what is behind them. None also where more than `N` stand there.
+fn separated<'a, T: Item, const N: usize>(
+    tokens: &'a [Place],
+    items: &mut ArrayVec<T, N>,
+) -> Option<&'a [Place]>
+    ensures sound { IfSome result (λ rest. StandsFirst (Separated T.reads) tokens.now items.new.items rest.now) }
+    ensures few { length items.new.items ≤ N }
     ensures complete { (xs : List T) (rest : List Tok) → StandsFirst (Separated T.reads) tokens.now xs rest
-        → BeginsWithNoComma rest → length xs ≤ N → IsSomeAnd result (λ p. (p.0.items ≡ xs) × (p.1.now ≡ rest)) }
+        → BeginsWithNoComma rest → length xs ≤ N → IsSomeAnd result (λ r. (items.new.items ≡ xs) × (r.now ≡ rest)) }
 {
-    let mut items = ArrayVec::new();
+    items.clear();
     let mut rest = tokens;
     while items.len() < N {
         let (item, behind) = T::read(rest)?;
         items.push(item);
         match sign(behind, Sign::Comma) {
             Some(more) => rest = more,
-            None => return Some((items, behind)),
+            None => return Some(behind),
         }
     }
     None
@@ -188,8 +193,9 @@ fn tuple(tokens: &[Place]) -> Option<(Row, &[Place])>
         → IsSomeAnd result (λ p. (p.0 ≡ x) × (p.1.now ≡ rest)) }
 {
     let inner = sign(tokens, Sign::Open)?;
-    let (cells, rest) = separated::<Cell, 16>(inner)?;
-    let rest = sign(rest, Sign::Close)?;
+    let mut cells = ArrayVec::new();
+    let behind = separated::<Cell, 16>(inner, &mut cells)?;
+    let rest = sign(behind, Sign::Close)?;
     Some((Row::new(cells), rest))
 }
 
@@ -222,19 +228,21 @@ fn create_head(tokens: &[Place]) -> Option<(Name, &[Place])>
     Some((name, sign(rest, Sign::Open)?))
 }
 
-/// CREATE TABLE, with an optional semicolon.
-fn create_table(tokens: &[Place]) -> Option<Statement>
-    ensures sound { IfSome result (λ s. StandsFor s tokens.now) }
+/// CREATE TABLE, with an optional semicolon, which is put into the room.
+fn create_table(tokens: &[Place], room: &mut StatementRoom) -> Option<()>
+    ensures sound { IfSome result (λ _. StandsFor (statement_in room.new) tokens.now) }
     ensures complete { IfNone result ((name : List ℕ) (columns : List (List ℕ))
         → NoCommand (IsCreateTable name columns) tokens.now) }
 {
     let (name, rest) = create_head(tokens)?;
-    let (columns, rest) = separated::<Name, 16>(rest)?;
-    let rest = sign(rest, Sign::Close)?;
+    let behind = separated::<Name, 16>(rest, &mut room.columns)?;
+    let rest = sign(behind, Sign::Close)?;
     if !is_end(rest) {
         return None;
     }
-    Some(Statement::CreateTable { name, columns })
+    room.kind = Kind::CreateTable;
+    room.table = name;
+    Some(())
 }
 
 /// The table behind INSERT INTO, and what is behind VALUES.
@@ -248,23 +256,25 @@ fn insert_head(tokens: &[Place]) -> Option<(Name, &[Place])>
     Some((table, word(rest, "values")?))
 }
 
-/// INSERT, with an optional semicolon.
-fn insert(tokens: &[Place]) -> Option<Statement>
-    ensures sound { IfSome result (λ s. StandsFor s tokens.now) }
+/// INSERT, with an optional semicolon, which is put into the room.
+fn insert(tokens: &[Place], room: &mut StatementRoom) -> Option<()>
+    ensures sound { IfSome result (λ _. StandsFor (statement_in room.new) tokens.now) }
     ensures complete { IfNone result ((table : List ℕ) (rows : List (List Scalar))
         → NoCommand (IsInsert table rows) tokens.now) }
 {
     let (table, rest) = insert_head(tokens)?;
-    let (rows, rest) = separated::<Row, 64>(rest)?;
-    if !is_end(rest) {
+    let behind = separated::<Row, 64>(rest, &mut room.rows)?;
+    if !is_end(behind) {
         return None;
     }
-    Some(Statement::Insert { table, rows })
+    room.kind = Kind::Insert;
+    room.table = table;
+    Some(())
 }
 
-/// SELECT of all rows, with an optional semicolon.
-fn select(tokens: &[Place]) -> Option<Statement>
-    ensures sound { IfSome result (λ s. StandsFor s tokens.now) }
+/// SELECT of all rows, with an optional semicolon, which is put into the room.
+fn select(tokens: &[Place], room: &mut StatementRoom) -> Option<()>
+    ensures sound { IfSome result (λ _. StandsFor (statement_in room.new) tokens.now) }
     ensures complete { IfNone result ((table : List ℕ) → NoCommand (IsSelect table) tokens.now) }
 {
     let rest = word(tokens, "select")?;
@@ -273,18 +283,23 @@ fn select(tokens: &[Place]) -> Option<Statement>
     if !is_end(rest) {
         return None;
     }
-    Some(Statement::Select { table })
+    room.kind = Kind::Select;
+    room.table = table;
+    Some(())
 }
 
-/// The statement that the tokens stand for, if they stand for one.
-pub fn parse(tokens: &[Place]) -> Option<Statement>
-    ensures { MatchOption result ((s : Asked) → ¬ StandsFor s tokens.now) (λ s. StandsFor s tokens.now) }
+/// Puts the statement that the tokens stand for into the room; whether they stand for one.
+pub fn parse_into(tokens: &[Place], room: &mut StatementRoom) -> bool
+    ensures { MatchBool result (StandsFor (statement_in room.new) tokens.now) ((s : Asked) → ¬ StandsFor s tokens.now) }
 {
-    if let Some(statement) = create_table(tokens) {
-        return Some(statement);
+    if let Some(()) = create_table(tokens, room) {
+        return true;
     }
-    if let Some(statement) = insert(tokens) {
-        return Some(statement);
+    if let Some(()) = insert(tokens, room) {
+        return true;
     }
-    select(tokens)
+    match select(tokens, room) {
+        Some(()) => true,
+        None => false,
+    }
 }

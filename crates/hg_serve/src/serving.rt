@@ -1,12 +1,13 @@
 //! Reads a script, answers its lines and closes the session.
-ghost use Rattle.std.specs.Prelude.{◌≡◌, ◌≢◌, ◌≤◌, ◌<◌, ◌+◌, ◌-◌, ◌^◌, ◌⊎◌, List, ℕ, true, false, IfOk, OnErr, length, min};
+ghost use Rattle.std.specs.Prelude.{◌≡◌, ◌≢◌, ◌≤◌, ◌<◌, ◌+◌, ◌-◌, ◌^◌, ◌⊎◌, List, [], ℕ, true, false, IfOk, OnErr, length, min};
 ghost use Rattle.hg_io.specs.Count.{raised, Rose, HasCause};
 ghost use Rattle.hg_io.specs.Bytes.{Reads};
 ghost use Rattle.hg_machine.specs.State.{State};
 ghost use Rattle.hg_machine.specs.Outcome.{Took, AnswersAll, AnswersWholeLines, AnswersUpToLimit, AnswersInPart};
-ghost use Rattle.hg_engine.specs.Shown.{IsEngineOf, faults_of, is_pending};
+ghost use Rattle.hg_engine.specs.Shown.{IsEngineOf, faults_of, said_by_engine, is_pending};
 ghost use Rattle.hg_reply.specs.Steps.{NoneFell};
 ghost use Rattle.hg_serve.specs.Ending.{Ends, ReadsSome, TakesSoMany, outside};
+ghost use Rattle.hg_serve.specs.Output.{Stops, moment};
 ghost use Rattle.hg_serve.specs.Run.{Reaches};
 
 use crate::session::Session;
@@ -41,7 +42,6 @@ fn read_and_answer<E: Machine, S: Source, K: Sink>(
     sink: &mut K,
 ) -> Status
     requires idle { E.pending engine.old ≡ false }
-    requires stands { (s : State) × E.stands engine.old s }
     ensures ends { (first : State) → E.stands engine.old first → Ends (Reaches E.stands engine.new first)
         (outside (S.left source.old) (S.given source.old) (K.written sink.old) (E.faults engine.old))
         (outside (S.left source.new) (S.given source.new) (K.written sink.new) (E.faults engine.new)) result }
@@ -50,7 +50,8 @@ fn read_and_answer<E: Machine, S: Source, K: Sink>(
         (outside (S.left source.new) (S.given source.new) (K.written sink.new) (E.faults engine.new)) taken }
     ensures source_fault { result ≡ Status.SourceFault → Rose (S.faults source.old) (S.faults source.new) }
     ensures sink_fault { result ≡ Status.SinkFault → Rose (K.faults sink.old) (K.faults sink.new) }
-    ensures stands { (s : State) × E.stands engine.new s }
+    ensures stops { result ≡ Status.SinkFault → Stops (moment (K.written sink.old) (E.faults engine.old) (E.said engine.old))
+        (moment (K.written sink.new) (E.faults engine.new) (E.said engine.new)) [] }
     ensures idle { E.pending engine.new ≡ false }
     ensures later { NoneFell (E.faults engine.old) (E.faults engine.new) }
     ensures source_later { S.faults source.old ≤ S.faults source.new }
@@ -83,8 +84,8 @@ fn read_and_answer<E: Machine, S: Source, K: Sink>(
     }
 }
 
-/// Serves the script of `source` by the engine, and writes the replies to `sink`. The engine stands for
-/// some state of the plain machine, as a new engine does. Nothing is pending in it, before and after.
+/// Serves the script of `source` by the engine, and writes the replies to `sink`. Nothing is pending in
+/// the engine, before and after: where the sink fails, the statement at work is dropped.
 ///
 /// In the clauses, the outside is what source, sink and engine tell at one moment: the bytes left, the
 /// count of bytes given, the bytes written, and the devices' counts of faults. The replies are those of
@@ -95,7 +96,9 @@ pub fn serve<S: Source, K: Sink, M: PageDevice, T: PageDevice>(
     sink: &mut K,
 ) -> Status
     requires idle { is_pending engine.old ≡ false }
-    requires stands { (s : State) × IsEngineOf M.PageDevice T.PageDevice engine.old s }
+
+    // There is a state that the engine stood for.
+    ensures stood { (s : State) × IsEngineOf M.PageDevice T.PageDevice engine.old s }
 
     // The script was read to its end, and what is written is the text of a run of the machine over all
     // its lines, with an error line exactly where the status is Errors.
@@ -129,15 +132,21 @@ pub fn serve<S: Source, K: Sink, M: PageDevice, T: PageDevice>(
     ensures too_long_always { S.given source.new < 2 ^ 64 - 1 → S.given source.new ≡ S.given source.old + 2 ^ 32
         → (result ≡ Status.TooLong) ⊎ (result ≡ Status.SinkFault) }
 
+    // After a sink fault no turn is given any more: of what the engine said, at most what waits at most
+    // and one reply were not written.
+    ensures sink_fault_stops { result ≡ Status.SinkFault
+        → Stops (moment (K.written sink.old) (faults_of M.PageDevice T.PageDevice engine.old) (said_by_engine engine.old))
+        (moment (K.written sink.new) (faults_of M.PageDevice T.PageDevice engine.new) (said_by_engine engine.new)) [] }
+
     // The words of the command line and the opening are not its own.
     ensures no_usage { result ≢ Status.Usage }
     ensures no_memory { result ≢ Status.NoMemory }
 
-    ensures stands { (s : State) × IsEngineOf M.PageDevice T.PageDevice engine.new s }
     ensures idle { is_pending engine.new ≡ false }
     ensures later { NoneFell (faults_of M.PageDevice T.PageDevice engine.old) (faults_of M.PageDevice T.PageDevice engine.new) }
     ensures source_later { S.faults source.old ≤ S.faults source.new }
     ensures sink_later { K.faults sink.old ≤ K.faults sink.new }
 {
+    engine.stands_for_a_state();
     read_and_answer(engine, source, sink)
 }

@@ -1,14 +1,13 @@
 //! A session: the reply lines that wait, the line at hand, and the way of a line through the engine.
-ghost use Rattle.std.specs.Prelude.{◌≡◌, ◌↔◌, List, true, false, OnOk, OnErr};
+ghost use Rattle.std.specs.Prelude.{◌≡◌, ◌≤◌, ◌+◌, ◌↔◌, List, true, false, OnOk, OnErr};
+ghost use Rattle.arrayvec.specs.ArrayVec.{array_vec_len};
 ghost use Rattle.hg_io.specs.Count.{HasCause};
 ghost use Rattle.hg_machine.specs.Reply.{Reply as ReplyOf, reply_text, is_error};
 ghost use Rattle.hg_machine.specs.Run.{Turns};
-ghost use Rattle.hg_machine.specs.State.{State};
 ghost use Rattle.hg_reply.specs.Lines.{reply_of};
-ghost use Rattle.hg_reply.specs.Steps.{Says, Moves};
-ghost use Rattle.hg_serve.specs.Output.{seen, Counted, Tells, TellsInPart};
-ghost use Rattle.hg_reply.specs.Steps.{NoneFell};
-ghost use Rattle.hg_serve.specs.Session.{BeginsAsked};
+ghost use Rattle.hg_reply.specs.Steps.{statement_in, Says, Moves, NoneFell};
+ghost use Rattle.hg_serve.specs.Output.{moment, Tells};
+ghost use Rattle.hg_serve.specs.Session.{BeginsAsked, BreaksOff};
 
 use crate::lines::{Asked, read_line};
 use crate::output::Output;
@@ -16,7 +15,8 @@ use crate::scan::Tokens;
 use crate::statuses::Status;
 use arrayvec::ArrayVec;
 use hg_io::{Failed, Sink};
-use hg_reply::{Machine, Next, Reply, ReplyLine};
+use hg_model::Name;
+use hg_reply::{Kind, Machine, Next, Reply, ReplyLine, StatementRoom};
 
 /// Says one line and nothing else.
 fn say_alone(reply: &mut Reply, line: &ReplyLine) -> Next
@@ -30,13 +30,17 @@ fn say_alone(reply: &mut Reply, line: &ReplyLine) -> Next
 }
 
 /// The immediate replies of what a line asks for.
-fn begin<E: Machine>(engine: &mut E, asked: Asked, reply: &mut Reply) -> Next
+fn begin<E: Machine>(
+    engine: &mut E,
+    asked: Asked,
+    statement: &StatementRoom,
+    reply: &mut Reply,
+) -> Next
     requires idle { E.pending engine.old ≡ false }
-    requires stands { (s : State) × E.stands engine.old s }
     ensures step { (lines : List ReplyOf) × Says reply.new (E.faults engine.old) (E.faults engine.new) lines
-        × Moves E.stands engine.old engine.new (BeginsAsked asked) lines }
+        × Moves E.stands engine.old engine.new (BeginsAsked asked (statement_in statement.now)) lines }
+    ensures said { E.said engine.new ≤ E.said engine.old + array_vec_len reply.new.text }
     ensures more { (result ≡ Next.More) ↔ (E.pending engine.new ≡ true) }
-    ensures stands { (s : State) × E.stands engine.new s }
     ensures later { NoneFell (E.faults engine.old) (E.faults engine.new) }
 {
     match asked {
@@ -46,28 +50,13 @@ fn begin<E: Machine>(engine: &mut E, asked: Asked, reply: &mut Reply) -> Next
         }
         Asked::SyntaxError => say_alone(reply, &ReplyLine::SyntaxError),
         Asked::TooLong => say_alone(reply, &ReplyLine::LineTooLong),
-        Asked::Statement(statement) => engine.command(statement, reply),
+        Asked::Statement => engine.command(statement, reply),
     }
 }
 
-/// Runs the statement at work to its end, where the sink failed. Its lines are dropped.
-fn run_out<E: Machine>(engine: &mut E, next: Next, reply: &mut Reply)
-    requires more { (next ≡ Next.More) ↔ (E.pending engine.old ≡ true) }
-    requires stands { (s : State) × E.stands engine.old s }
-    ensures turns { (lines : List ReplyOf) × Counted (E.faults engine.old) (E.faults engine.new) lines
-        × Moves E.stands engine.old engine.new Turns lines }
-    ensures idle { E.pending engine.new ≡ false }
-    ensures stands { (s : State) × E.stands engine.new s }
-    ensures later { NoneFell (E.faults engine.old) (E.faults engine.new) }
-{
-    let mut left = next;
-    while let Next::More = left {
-        left = engine.more(reply);
-    }
-}
-
-/// Gives the turns of the statement at work to its end. Where the sink fails, what was written is a
-/// front of what waited and of the lines of all turns.
+/// Gives the turns of the statement at work to its end. Where the sink fails, no turn is given any more
+/// and the statement is dropped: what was written is a front of what waited and of the lines of the
+/// turns that were given, and these begin the lines of all turns.
 fn give_turns<E: Machine, K: Sink>(
     engine: &mut E,
     next: Next,
@@ -76,15 +65,12 @@ fn give_turns<E: Machine, K: Sink>(
     sink: &mut K,
 ) -> Result<(), Failed>
     requires more { (next ≡ Next.More) ↔ (E.pending engine.old ≡ true) }
-    requires stands { (s : State) × E.stands engine.old s }
     ensures ok { OnOk result ((lines : List ReplyOf)
-        × Tells (seen (K.written sink.old) (E.faults engine.old)) (seen (K.written sink.new) (E.faults engine.new)) output.old output.new lines
+        × Tells (moment (K.written sink.old) (E.faults engine.old) (E.said engine.old)) (moment (K.written sink.new) (E.faults engine.new) (E.said engine.new)) output.old output.new lines
         × Moves E.stands engine.old engine.new Turns lines) }
-    ensures part { OnErr result ((lines : List ReplyOf)
-        × TellsInPart (seen (K.written sink.old) (E.faults engine.old)) (seen (K.written sink.new) (E.faults engine.new)) output.old.bytes.items lines
-        × Moves E.stands engine.old engine.new Turns lines) }
+    ensures part { OnErr result (BreaksOff E.stands engine.old engine.new (moment (K.written sink.old) (E.faults engine.old) (E.said engine.old))
+        (moment (K.written sink.new) (E.faults engine.new) (E.said engine.new)) output.old.bytes.items Turns) }
     ensures idle { E.pending engine.new ≡ false }
-    ensures stands { (s : State) × E.stands engine.new s }
     ensures later { NoneFell (E.faults engine.old) (E.faults engine.new) }
     ensures cause { HasCause (K.faults sink.old) (K.faults sink.new) result }
 {
@@ -92,7 +78,7 @@ fn give_turns<E: Machine, K: Sink>(
     while let Next::More = left {
         left = engine.more(reply);
         if let Err(Failed) = output.put(reply, sink) {
-            run_out(engine, left, reply);
+            engine.drop_command();
             return Err(Failed);
         }
     }
@@ -102,24 +88,25 @@ fn give_turns<E: Machine, K: Sink>(
 /// The bytes of a line that are kept: one more than it may have, so that a longer one is known.
 const KEPT_BYTES: usize = 4097;
 
-/// The reply lines that wait, and the front of the line at hand. `reply` and `tokens` are room for the
-/// lines of a step and for the tokens of a line.
+/// The reply lines that wait, and the front of the line at hand. `reply`, `tokens` and `statement` are
+/// room for the lines of a step, and for the tokens and the statement of a line.
 #[derive(Drop)]
 pub struct Session {
     output: Output,
     reply: Reply,
     tokens: Tokens,
+    statement: StatementRoom,
     line: ArrayVec<u8, KEPT_BYTES>,
 }
 
 impl Session {
     ghost use Rattle.std.specs.Prelude.{◌≡◌, ◌≤◌, ◌∷◌, [], ◌++◌, ℕ, List, true, false, take, OnOk, OnErr};
+    ghost use Rattle.arrayvec.specs.ArrayVec.{array_vec_len};
     ghost use Rattle.hg_io.specs.Count.{Rose, HasCause};
     ghost use Rattle.hg_machine.specs.Script.{whole_lines, lines_of};
-    ghost use Rattle.hg_machine.specs.State.{State};
-    ghost use Rattle.hg_serve.specs.Output.{Seen, seen, Passes, Breaks};
+    ghost use Rattle.hg_serve.specs.Output.{Moment, moment, Passes, Breaks};
     ghost use Rattle.hg_reply.specs.Steps.{NoneFell};
-    ghost use Rattle.hg_serve.specs.Session.{AnswersLine, BreaksInLine};
+    ghost use Rattle.hg_serve.specs.Session.{Answering, AnswersLine, BreaksOff};
     ghost use Rattle.hg_serve.specs.Serving.{Serves, Halts, Finishes, Closes};
 
     pub fn new() -> Session
@@ -131,6 +118,12 @@ impl Session {
             output: Output::new(),
             reply: Reply::new(),
             tokens: ArrayVec::new(),
+            statement: StatementRoom {
+                kind: Kind::Select,
+                table: Name::default(),
+                columns: ArrayVec::new(),
+                rows: ArrayVec::new(),
+            },
             line: ArrayVec::new(),
         }
     }
@@ -143,22 +136,25 @@ impl Session {
         sink: &mut K,
     ) -> Result<(), Failed>
         requires idle { E.pending engine.old ≡ false }
-        requires stands { (s : State) × E.stands engine.old s }
         ensures ok { OnOk result ((whole : List ℕ) → self.old.line.items ≡ take 4097 whole
-            → AnswersLine E.stands engine.old engine.new (seen (K.written sink.old) (E.faults engine.old))
-            (seen (K.written sink.new) (E.faults engine.new)) self.old.output self.new.output (record { bytes = whole; ended = ended })) }
+            → AnswersLine E.stands engine.old engine.new (moment (K.written sink.old) (E.faults engine.old) (E.said engine.old))
+            (moment (K.written sink.new) (E.faults engine.new) (E.said engine.new)) self.old.output self.new.output (record { bytes = whole; ended = ended })) }
         ensures part { OnErr result ((whole : List ℕ) → self.old.line.items ≡ take 4097 whole
-            → BreaksInLine E.stands engine.old engine.new (seen (K.written sink.old) (E.faults engine.old))
-            (seen (K.written sink.new) (E.faults engine.new)) self.old.output.bytes.items (record { bytes = whole; ended = ended })) }
+            → BreaksOff E.stands engine.old engine.new (moment (K.written sink.old) (E.faults engine.old) (E.said engine.old))
+            (moment (K.written sink.new) (E.faults engine.new) (E.said engine.new)) self.old.output.bytes.items (Answering (record { bytes = whole; ended = ended }))) }
         ensures idle { E.pending engine.new ≡ false }
-        ensures stands { (s : State) × E.stands engine.new s }
         ensures later { NoneFell (E.faults engine.old) (E.faults engine.new) }
         ensures cause { HasCause (K.faults sink.old) (K.faults sink.new) result }
     {
-        let asked = read_line(self.line.as_slice(), ended, &mut self.tokens);
-        let next = begin(engine, asked, &mut self.reply);
+        let asked = read_line(
+            self.line.as_slice(),
+            ended,
+            &mut self.tokens,
+            &mut self.statement,
+        );
+        let next = begin(engine, asked, &self.statement, &mut self.reply);
         if let Err(Failed) = self.output.put(&self.reply, sink) {
-            run_out(engine, next, &mut self.reply);
+            engine.drop_command();
             return Err(Failed);
         }
         give_turns(engine, next, &mut self.reply, &mut self.output, sink)?;
@@ -173,15 +169,13 @@ impl Session {
         sink: &mut K,
     ) -> Result<(), Failed>
         requires idle { E.pending engine.old ≡ false }
-        requires stands { (s : State) × E.stands engine.old s }
-        ensures ok { OnOk result ((first : E) (w : Seen) (taken : List ℕ)
-            → Serves E.stands first engine.old w (seen (K.written sink.old) (E.faults engine.old)) self.old taken
-            → Serves E.stands first engine.new w (seen (K.written sink.new) (E.faults engine.new)) self.new (taken ++ b ∷ [])) }
-        ensures part { OnErr result ((first : E) (w : Seen) (taken : List ℕ)
-            → Serves E.stands first engine.old w (seen (K.written sink.old) (E.faults engine.old)) self.old taken
-            → Halts E.stands first engine.new w (seen (K.written sink.new) (E.faults engine.new)) (whole_lines (taken ++ b ∷ []))) }
+        ensures ok { OnOk result ((first : E) (w : Moment) (taken : List ℕ)
+            → Serves E.stands first engine.old w (moment (K.written sink.old) (E.faults engine.old) (E.said engine.old)) self.old taken
+            → Serves E.stands first engine.new w (moment (K.written sink.new) (E.faults engine.new) (E.said engine.new)) self.new (taken ++ b ∷ [])) }
+        ensures part { OnErr result ((first : E) (w : Moment) (taken : List ℕ)
+            → Serves E.stands first engine.old w (moment (K.written sink.old) (E.faults engine.old) (E.said engine.old)) self.old taken
+            → Halts E.stands first engine.new w (moment (K.written sink.new) (E.faults engine.new) (E.said engine.new)) (whole_lines (taken ++ b ∷ []))) }
         ensures idle { E.pending engine.new ≡ false }
-        ensures stands { (s : State) × E.stands engine.new s }
         ensures later { NoneFell (E.faults engine.old) (E.faults engine.new) }
         ensures cause { HasCause (K.faults sink.old) (K.faults sink.new) result }
     {
@@ -206,15 +200,13 @@ impl Session {
         sink: &mut K,
     ) -> Result<(), Failed>
         requires idle { E.pending engine.old ≡ false }
-        requires stands { (s : State) × E.stands engine.old s }
-        ensures ok { OnOk result ((first : E) (w : Seen) (taken : List ℕ)
-            → Serves E.stands first engine.old w (seen (K.written sink.old) (E.faults engine.old)) self.old taken
-            → Serves E.stands first engine.new w (seen (K.written sink.new) (E.faults engine.new)) self.new (taken ++ bytes.now)) }
-        ensures part { OnErr result ((first : E) (w : Seen) (taken : List ℕ)
-            → Serves E.stands first engine.old w (seen (K.written sink.old) (E.faults engine.old)) self.old taken
-            → Halts E.stands first engine.new w (seen (K.written sink.new) (E.faults engine.new)) (whole_lines (taken ++ bytes.now))) }
+        ensures ok { OnOk result ((first : E) (w : Moment) (taken : List ℕ)
+            → Serves E.stands first engine.old w (moment (K.written sink.old) (E.faults engine.old) (E.said engine.old)) self.old taken
+            → Serves E.stands first engine.new w (moment (K.written sink.new) (E.faults engine.new) (E.said engine.new)) self.new (taken ++ bytes.now)) }
+        ensures part { OnErr result ((first : E) (w : Moment) (taken : List ℕ)
+            → Serves E.stands first engine.old w (moment (K.written sink.old) (E.faults engine.old) (E.said engine.old)) self.old taken
+            → Halts E.stands first engine.new w (moment (K.written sink.new) (E.faults engine.new) (E.said engine.new)) (whole_lines (taken ++ bytes.now))) }
         ensures idle { E.pending engine.new ≡ false }
-        ensures stands { (s : State) × E.stands engine.new s }
         ensures later { NoneFell (E.faults engine.old) (E.faults engine.new) }
         ensures cause { HasCause (K.faults sink.old) (K.faults sink.new) result }
     {
@@ -231,6 +223,7 @@ impl Session {
         ensures ok { OnOk result (Passes (K.written sink.old) (K.written sink.new) self.old.output.bytes.items [] []) }
         ensures empty { OnOk result (self.new.output.bytes.items ≡ []) }
         ensures part { OnErr result (Breaks (K.written sink.old) (K.written sink.new) self.old.output.bytes.items []) }
+        ensures few { array_vec_len self.old.output.bytes ≤ 49152 }
         ensures errors { self.new.output.errors ≡ self.old.output.errors }
         ensures line { self.new.line ≡ self.old.line }
         ensures cause { HasCause (K.faults sink.old) (K.faults sink.new) result }
@@ -258,11 +251,9 @@ impl Session {
     /// Answers a last line that no line feed ends, and closes the session.
     pub fn end<E: Machine, K: Sink>(&mut self, engine: &mut E, sink: &mut K) -> Status
         requires idle { E.pending engine.old ≡ false }
-        requires stands { (s : State) × E.stands engine.old s }
-        ensures closes { (first : E) (w : Seen) (taken : List ℕ)
-            → Serves E.stands first engine.old w (seen (K.written sink.old) (E.faults engine.old)) self.old taken
-            → Closes E.stands first engine.new w (seen (K.written sink.new) (E.faults engine.new)) (lines_of taken) result }
-        ensures stands { (s : State) × E.stands engine.new s }
+        ensures closes { (first : E) (w : Moment) (taken : List ℕ)
+            → Serves E.stands first engine.old w (moment (K.written sink.old) (E.faults engine.old) (E.said engine.old)) self.old taken
+            → Closes E.stands first engine.new w (moment (K.written sink.new) (E.faults engine.new) (E.said engine.new)) (lines_of taken) result }
         ensures idle { E.pending engine.new ≡ false }
         ensures later { NoneFell (E.faults engine.old) (E.faults engine.new) }
         ensures sink_later { K.faults sink.old ≤ K.faults sink.new }

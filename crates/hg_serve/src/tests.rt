@@ -1,6 +1,6 @@
 //! Scripts with the replies that were worked out by hand, and one run for each fault. The rows of a
 //! SELECT come in any order; here they are listed in the order in which they were inserted.
-use crate::{Config, Engine, Outcome, Status, run, serve};
+use crate::{Config, Devices, Engine, Outcome, Status, run, serve};
 use hg_io::{CleanDevice, Failed, MemDevice, MemSink, MemSource, PageDevice};
 use std::alloc::{AllocError, Global};
 use std::process::Abort;
@@ -529,6 +529,42 @@ fn over_a_device_that_forgets(rt: HostRuntime) -> Result<(), Fail> {
     };
     assert!(rt; sink.bytes() == replies_of(alloc, &sizes, &expected)?.as_slice());
     assert_eq!(rt; status, Status::Errors);
+    Ok(())
+}
+
+/// The rows of a SELECT are more than wait for the sink, which fails at its second call; nothing is
+/// pending then, and the engine serves the next script.
+#[test]
+fn an_engine_serves_after_a_sink_fault(rt: HostRuntime) -> Result<(), Fail> {
+    let alloc = rt.alloc();
+    let mut script = script_of(alloc, &sizes_of(alloc, 40, 64, 0)?)?;
+    script.extend_from_slice(b"CREATE TABLE never (a INTEGER)\n".as_slice())?;
+    let next = "INSERT INTO never VALUES (1)\nCREATE TABLE u (a INTEGER)\nSELECT * FROM u\n";
+    let mut one = MemSource::new(script, Vec::new(alloc));
+    let mut other = MemSource::new(
+        Vec::from_slice(alloc, next.as_bytes())?,
+        Vec::new(alloc),
+    );
+    let mut broken_sink = MemSink::new(alloc, Vec::from_slice(alloc, &[2])?);
+    let mut sink = MemSink::new(alloc, Vec::new(alloc));
+    let config = Config {
+        max: 16,
+        pool: 16,
+        mpl: 1,
+        main_pages: 64,
+        temp_pages: 64,
+    };
+    let Ok(mut engine) = Engine::new(alloc, &config, device(alloc), device(alloc)) else {
+        return Err(Fail::from(AllocError));
+    };
+    let broken = serve(&mut engine, &mut one, &mut broken_sink);
+    let served = serve(&mut engine, &mut other, &mut sink);
+    let Devices { main: _, temp: _ } = engine.close();
+    assert_eq!(rt; (broken, served), (Status::SinkFault, Status::Errors));
+    assert_eq!(rt;
+        sink.bytes(),
+        b"error 3 unknown table never\ncreated\nend *\n".as_slice()
+    );
     Ok(())
 }
 

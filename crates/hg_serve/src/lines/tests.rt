@@ -2,34 +2,57 @@
 use crate::lines::{Asked, read_line};
 use crate::scan::Tokens;
 use arrayvec::ArrayVec;
-use hg_machine::Statement;
+use hg_model::Name;
+use hg_reply::{Kind, StatementRoom};
 use std::alloc::{AllocError, Global};
 use std::process::Abort;
 use std::test::Fail;
 
-/// What is asked for, in a word, and how many rows or columns it has.
-fn kind(asked: &Asked) -> (&'static str, usize) {
-    match asked {
-        Asked::Nothing => ("nothing", 0),
-        Asked::SyntaxError => ("syntax", 0),
-        Asked::TooLong => ("too long", 0),
-        Asked::Statement(Statement::CreateTable { name: _, columns }) => ("create", columns.len()),
-        Asked::Statement(Statement::Insert { table: _, rows }) => ("insert", rows.len()),
-        Asked::Statement(Statement::Select { table: _ }) => ("select", 0),
+/// Room to read lines with.
+#[derive(Drop)]
+struct Reader {
+    tokens: Tokens,
+    statement: StatementRoom,
+}
+
+impl Reader {
+    fn new(_alloc: Global) -> Result<Reader, Fail> {
+        Ok(Reader {
+            tokens: ArrayVec::new(),
+            statement: StatementRoom {
+                kind: Kind::Select,
+                table: Name::default(),
+                columns: ArrayVec::new(),
+                rows: ArrayVec::new(),
+            },
+        })
+    }
+
+    /// What is asked for, in a word, and how many rows or columns it has.
+    fn read(&mut self, line: &[u8], ended: bool) -> (&'static str, usize) {
+        match read_line(line, ended, &mut self.tokens, &mut self.statement) {
+            Asked::Nothing => ("nothing", 0),
+            Asked::SyntaxError => ("syntax", 0),
+            Asked::TooLong => ("too long", 0),
+            Asked::Statement => match self.statement.kind {
+                Kind::CreateTable => ("create", self.statement.columns.len()),
+                Kind::Insert => ("insert", self.statement.rows.len()),
+                Kind::Select => ("select", 0),
+            },
+        }
     }
 }
 
-fn asks(rt: &impl Abort, tokens: &mut Tokens, line: &str, word: &str, count: usize) {
-    let asked = read_line(line.as_bytes(), true, tokens);
-    let (found, number) = kind(&asked);
+fn asks(rt: &impl Abort, reader: &mut Reader, line: &str, word: &str, count: usize) {
+    let (found, number) = reader.read(line.as_bytes(), true);
     assert_eq!(rt; found, word, "{line}");
     assert_eq!(rt; number, count, "{line}");
 }
 
 #[test]
-fn comments_and_blanks(rt: HostRuntime) {
-    let mut tokens: Tokens = ArrayVec::new();
-    let t = &mut tokens;
+fn comments_and_blanks(rt: HostRuntime) -> Result<(), Fail> {
+    let mut reader = Reader::new(rt.alloc())?;
+    let t = &mut reader;
     asks(&rt, t, " \t", "nothing", 0);
     asks(&rt, t, "--", "nothing", 0);
     asks(&rt, t, " \t-- \u{1} any bytes: 'x'", "nothing", 0);
@@ -40,12 +63,13 @@ fn comments_and_blanks(rt: HostRuntime) {
     asks(&rt, t, "SELECT * FROM t\r", "select", 0);
     asks(&rt, t, "SELECT * FROM t\r\r", "syntax", 0);
     asks(&rt, t, "\u{e9}", "syntax", 0);
+    Ok(())
 }
 
 #[test]
-fn numbers_and_lists(rt: HostRuntime) {
-    let mut tokens: Tokens = ArrayVec::new();
-    let t = &mut tokens;
+fn numbers_and_lists(rt: HostRuntime) -> Result<(), Fail> {
+    let mut reader = Reader::new(rt.alloc())?;
+    let t = &mut reader;
     asks(
         &rt,
         t,
@@ -82,6 +106,7 @@ fn numbers_and_lists(rt: HostRuntime) {
         "syntax",
         0,
     );
+    Ok(())
 }
 
 /// An INSERT of so many rows of one value.
@@ -96,18 +121,18 @@ fn rows(alloc: Global, count: usize) -> Result<String, AllocError> {
 #[test]
 fn limits(rt: HostRuntime) -> Result<(), Fail> {
     let alloc = rt.alloc();
-    let mut tokens: Tokens = ArrayVec::new();
-    asks(&rt, &mut tokens, rows(alloc, 64)?.as_str(), "insert", 64);
-    asks(&rt, &mut tokens, rows(alloc, 65)?.as_str(), "syntax", 0);
+    let mut reader = Reader::new(alloc)?;
+    asks(&rt, &mut reader, rows(alloc, 64)?.as_str(), "insert", 64);
+    asks(&rt, &mut reader, rows(alloc, 65)?.as_str(), "syntax", 0);
     let blanks = [b' '; 4097];
     let (most, _) = blanks.split_at(4096);
-    assert_eq!(rt; kind(&read_line(most, true, &mut tokens)).0, "nothing");
-    assert_eq!(rt; kind(&read_line(&blanks, true, &mut tokens)).0, "too long");
-    assert_eq!(rt; kind(&read_line(&blanks, false, &mut tokens)).0, "too long");
+    assert_eq!(rt; reader.read(most, true).0, "nothing");
+    assert_eq!(rt; reader.read(&blanks, true).0, "too long");
+    assert_eq!(rt; reader.read(&blanks, false).0, "too long");
     let commas = [b','; 4096];
-    assert_eq!(rt; kind(&read_line(&commas, true, &mut tokens)).0, "syntax");
+    assert_eq!(rt; reader.read(&commas, true).0, "syntax");
     assert_eq!(rt;
-        kind(&read_line(b"SELECT * FROM t\r", false, &mut tokens)).0,
+        reader.read(b"SELECT * FROM t\r", false).0,
         "syntax"
     );
     Ok(())

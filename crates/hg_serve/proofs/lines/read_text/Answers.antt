@@ -1,7 +1,8 @@
+use Rattle.hg_reply.specs.Steps.{statement_in}
 use Rattle.hg_serve.proofs.LineLemmas.{no-reading}
 use Rattle.hg_serve.proofs.lines.read_text.Goals as goal
 
-pub returns-in-None : goal.returns-in-None
-returns-in-None c =
-    no-reading c.args.text.now c.as_slice.result.now c.read_tokens.new.tokens.items c.is_blank_text.result c.is_blank_text.ensures
-    c.if-is_blank_text.false (c.if-not-read_tokens.ensures {u = tt}) c.as_slice.ensures.value (c.in-None.ensures {u = tt})
+pub returns-else-parse_into : goal.returns-else-parse_into
+returns-else-parse_into c =
+    no-reading c.args.text.now c.as_slice.result.now c.read_tokens.new.tokens.items (statement_in c.parse_into.new.room) c.is_blank_text.result c.is_blank_text.ensures
+    c.if-is_blank_text.false (c.if-not-read_tokens.ensures {u = tt}) c.as_slice.ensures.value (c.if-parse_into.ensures {u = tt})

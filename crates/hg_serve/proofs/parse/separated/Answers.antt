@@ -3,7 +3,7 @@ use Rattle.hg_serve.proofs.Commas.{progress-begins, progress-goes_on, progress-s
 use Rattle.hg_serve.proofs.parse.separated.Goals as goal
 
 pub loop-rest-init : goal.loop-rest-init
-loop-rest-init g c = progress-begins _ _ _ c.new-items.ensures
+loop-rest-init g c = progress-begins _ _ _ c.clear.ensures
 
 pub loop-rest-smaller : goal.loop-rest-smaller
 loop-rest-smaller g c =

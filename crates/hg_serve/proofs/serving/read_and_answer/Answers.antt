@@ -4,7 +4,7 @@ use Rattle.hg_serve.specs.Ending.{outside}
 use Rattle.hg_serve.proofs.Telling.{fell-none, fell-then}
 use Rattle.hg_serve.proofs.ServeLemmas.{serves-start, serves-flushed}
 use Rattle.hg_serve.proofs.Closing.{breaks-serves}
-use Rattle.hg_serve.proofs.Endings.{took-none, took-more, took-same, took-end, breaks-off, closes, closes-so_many, source-breaks, limit-comes}
+use Rattle.hg_serve.proofs.Endings.{took-none, took-more, took-same, took-end, breaks-off, closes, closes-so_many, closes-stops, source-breaks, limit-comes}
 use Rattle.hg_serve.proofs.serving.read_and_answer.Goals as goal
 
 pub loop-taken-init : goal.loop-taken-init
@@ -16,7 +16,6 @@ loop-taken-init g c = record {
     serves-start _ c.args.engine.now _ _ c.new-session.ensures.empty c.new-session.ensures.errors c.new-session.ensures.line,
   );
   idle = c.requires.idle;
-  stands = c.requires.stands;
   within = omega arith;
   later = fell-none _;
   source_same = refl;
@@ -28,8 +27,8 @@ loop-taken-init g c = record {
 pub returns-in-Err-clause-ends : goal.returns-in-Err-clause-ends
 returns-in-Err-clause-ends g c = λ first stood.
     let served = c.loop-taken.invariant.served in
-    breaks-off _ _ _ first _ _ _ _ _ _ _ _ served.0 stood (took-same _ _ _ served.0 served.1 refl refl) (omega (arith, served.2, c.loop-taken.invariant.within))
-    (breaks-serves _ c.args.engine.now _ _ _ _ _ c.loop-taken.session served.0 served.3 (c.in-Err.ensures {u = tt}).part)
+    breaks-off _ _ _ first _ _ _ _ _ _ _ _ _ _ served.0 stood (took-same _ _ _ served.0 served.1 refl refl) (omega (arith, served.2, c.loop-taken.invariant.within))
+    (breaks-serves _ c.args.engine.now _ _ _ _ _ _ c.loop-taken.session served.0 served.3 (c.in-Err.ensures {u = tt}).part (c.in-Err.ensures {u = tt}).few)
 
 pub returns-in-Err-clause-bytes : goal.returns-in-Err-clause-bytes
 returns-in-Err-clause-bytes g c =
@@ -43,8 +42,8 @@ returns-in-Err-read_some-clause-ends g c = λ first stood.
     let served = c.loop-taken.invariant.served in
     let flushed = c.in_default.ensures {u = tt} in
     let failed = c.in-Err-read_some.ensures {u = tt} in
-    source-breaks _ _ _ first _ _ _ _ _ _ _ _ served.0 stood (took-same _ _ _ served.0 served.1 failed.bytes failed.given_stays) c.flush.new.self
-    (serves-flushed _ c.args.engine.now _ _ _ _ _ c.loop-taken.session c.flush.new.self served.0 served.3 flushed.line flushed.ok flushed.empty flushed.errors) flushed.empty
+    source-breaks _ _ _ first _ _ _ _ _ _ _ _ _ _ served.0 stood (took-same _ _ _ served.0 served.1 failed.bytes failed.given_stays) c.flush.new.self
+    (serves-flushed _ c.args.engine.now _ _ _ _ _ _ c.loop-taken.session c.flush.new.self served.0 served.3 flushed.line flushed.ok flushed.empty flushed.errors) flushed.empty
     (omega (arith, served.2, c.loop-taken-test.true))
 
 pub returns-in-Err-read_some-clause-bytes : goal.returns-in-Err-read_some-clause-bytes
@@ -62,9 +61,9 @@ returns-then-count-eq0-clause-ends g c = λ first stood.
     let read = c.in-Ok.ensures {u = tt} in
     let some : 0 < c.min-room.result = omega (arith, c.loop-taken-test.true, c.min-room.ensures) in
     let serves =
-    serves-flushed _ c.args.engine.now _ _ _ _ _ c.loop-taken.session c.flush.new.self served.0 served.3 flushed.line flushed.ok flushed.empty flushed.errors
+    serves-flushed _ c.args.engine.now _ _ _ _ _ _ c.loop-taken.session c.flush.new.self served.0 served.3 flushed.line flushed.ok flushed.empty flushed.errors
     in
-    closes _ _ _ first _ _ _ _ _ _ _ _ served.0 stood
+    closes _ _ _ first _ _ _ _ _ _ _ _ _ _ served.0 stood
     (took-end _ (outside (g.S.Source.left c.loop-taken.source) (g.S.Source.given c.loop-taken.source) (g.K.Sink.written c.loop-taken.sink) (g.E.Machine.faults c.loop-taken.engine)) _
     served.0 _ c.in-Ok.count served.1 read.bytes.0 c.if-count-eq0.true read.given (omega (arith, g.met.S.Source.given_ends c.loop-taken.source)))
     c.end.result (omega (arith, served.2, c.loop-taken-test.true)) (read.bytes.1 c.if-count-eq0.true some)
@@ -76,7 +75,7 @@ returns-then-count-eq0-clause-bytes g c =
     let flushed = c.in_default.ensures {u = tt} in
     let read = c.in-Ok.ensures {u = tt} in
     let serves =
-    serves-flushed _ c.args.engine.now _ _ _ _ _ c.loop-taken.session c.flush.new.self served.0 served.3 flushed.line flushed.ok flushed.empty flushed.errors
+    serves-flushed _ c.args.engine.now _ _ _ _ _ _ c.loop-taken.session c.flush.new.self served.0 served.3 flushed.line flushed.ok flushed.empty flushed.errors
     in (
       served.0,
       closes-so_many _ c.args.engine.now _ _ _ (lines_of served.0) _ c.end.result (omega (arith, served.2, c.loop-taken-test.true))
@@ -90,7 +89,7 @@ returns-then-count-eq0-clause-source_fault g c = λ is.
     let served = c.loop-taken.invariant.served in
     let flushed = c.in_default.ensures {u = tt} in
     let serves =
-    serves-flushed _ c.args.engine.now _ _ _ _ _ c.loop-taken.session c.flush.new.self served.0 served.3 flushed.line flushed.ok flushed.empty flushed.errors
+    serves-flushed _ c.args.engine.now _ _ _ _ _ _ c.loop-taken.session c.flush.new.self served.0 served.3 flushed.line flushed.ok flushed.empty flushed.errors
     in
     let closed = c.end.ensures.closes c.args.engine.now _ served.0 serves in
     absurd (rw is at closed)
@@ -104,9 +103,9 @@ returns-in-Err-feed-clause-ends g c = λ first stood.
     let read = c.in-Ok.ensures {u = tt} in
     let bytes = c.split_at.result.0.now in
     let serves =
-    serves-flushed _ c.args.engine.now _ _ _ _ _ c.loop-taken.session c.flush.new.self served.0 served.3 flushed.line flushed.ok flushed.empty flushed.errors
+    serves-flushed _ c.args.engine.now _ _ _ _ _ _ c.loop-taken.session c.flush.new.self served.0 served.3 flushed.line flushed.ok flushed.empty flushed.errors
     in
-    breaks-off _ _ _ first _ _ _ _ _ _ _ _ (served.0 ++ bytes) stood
+    breaks-off _ _ _ first _ _ _ _ _ _ _ _ _ _ (served.0 ++ bytes) stood
     (took-more _ (outside (g.S.Source.left c.loop-taken.source) (g.S.Source.given c.loop-taken.source) (g.K.Sink.written c.loop-taken.sink) (g.E.Machine.faults c.loop-taken.engine)) _
     served.0 bytes c.in-Ok.count served.1 (rw c.split_at.ensures.front read.bytes.0) c.split_at.ensures.front_len read.given)
     (omega (arith, length-append served.0 bytes, served.2, c.split_at.ensures.front_len, c.loop-taken-test.true, c.min-room.ensures, read.bound))
@@ -132,7 +131,7 @@ loop-taken-preserved g c =
     let fed = c.in_default-feed.ensures {u = tt} in
     let bytes = c.split_at.result.0.now in
     let serves =
-    serves-flushed _ c.args.engine.now _ _ _ _ _ c.loop-taken.session c.flush.new.self served.0 served.3 flushed.line flushed.ok flushed.empty flushed.errors
+    serves-flushed _ c.args.engine.now _ _ _ _ _ _ c.loop-taken.session c.flush.new.self served.0 served.3 flushed.line flushed.ok flushed.empty flushed.errors
     in
     record {
       served = (
@@ -144,7 +143,6 @@ loop-taken-preserved g c =
         (fed.ok c.args.engine.now _ served.0 serves),
       );
       idle = c.feed.ensures.idle;
-      stands = c.feed.ensures.stands;
       within = omega (arith, c.loop-taken-test.true, c.min-room.ensures, read.bound);
       later = fell-then _ _ _ so_far.later c.feed.ensures.later;
       source_same = read.cause.stays ∙ so_far.source_same;
@@ -157,8 +155,8 @@ pub returns-in-Ok-flush-clause-ends : goal.returns-in-Ok-flush-clause-ends
 returns-in-Ok-flush-clause-ends g c = λ first stood.
     let served = c.loop-taken.invariant.served in
     let flushed = c.in-Ok-flush.ensures {u = tt} in
-    limit-comes _ _ _ first _ _ _ _ _ _ _ _ served.0 stood (took-same _ _ _ served.0 served.1 refl refl) c.flush-2.new.self
-    (serves-flushed _ c.args.engine.now _ _ _ _ _ c.loop-taken.session c.flush-2.new.self served.0 served.3 flushed.line flushed.ok flushed.empty flushed.errors) flushed.empty
+    limit-comes _ _ _ first _ _ _ _ _ _ _ _ _ _ served.0 stood (took-same _ _ _ served.0 served.1 refl refl) c.flush-2.new.self
+    (serves-flushed _ c.args.engine.now _ _ _ _ _ _ c.loop-taken.session c.flush-2.new.self served.0 served.3 flushed.line flushed.ok flushed.empty flushed.errors) flushed.empty
     (omega (arith, served.2, c.loop-taken-test.false, c.loop-taken.invariant.within))
 
 pub returns-in-Ok-flush-clause-bytes : goal.returns-in-Ok-flush-clause-bytes
@@ -172,10 +170,42 @@ returns-in-Ok-flush-clause-bytes g c =
 pub returns-in-Err-flush-clause-ends : goal.returns-in-Err-flush-clause-ends
 returns-in-Err-flush-clause-ends g c = λ first stood.
     let served = c.loop-taken.invariant.served in
-    breaks-off _ _ _ first _ _ _ _ _ _ _ _ served.0 stood (took-same _ _ _ served.0 served.1 refl refl) (omega (arith, served.2, c.loop-taken.invariant.within))
-    (breaks-serves _ c.args.engine.now _ _ _ _ _ c.loop-taken.session served.0 served.3 (c.in-Err-flush.ensures {u = tt}).part)
+    breaks-off _ _ _ first _ _ _ _ _ _ _ _ _ _ served.0 stood (took-same _ _ _ served.0 served.1 refl refl) (omega (arith, served.2, c.loop-taken.invariant.within))
+    (breaks-serves _ c.args.engine.now _ _ _ _ _ _ c.loop-taken.session served.0 served.3 (c.in-Err-flush.ensures {u = tt}).part (c.in-Err-flush.ensures {u = tt}).few)
 
 pub returns-in-Err-flush-clause-bytes : goal.returns-in-Err-flush-clause-bytes
 returns-in-Err-flush-clause-bytes g c =
     let served = c.loop-taken.invariant.served in
     (served.0, omega (arith, served.2, c.loop-taken.invariant.within), took-same _ _ _ served.0 served.1 refl refl)
+
+-- nothing more was run where the sink failed
+
+pub returns-in-Err-clause-stops : goal.returns-in-Err-clause-stops
+returns-in-Err-clause-stops g c = λ is.
+    let served = c.loop-taken.invariant.served in
+    let failed = c.in-Err.ensures {u = tt} in
+    (breaks-serves _ c.args.engine.now _ _ _ _ _ _ c.loop-taken.session served.0 served.3 failed.part failed.few).breaks.stops
+
+pub returns-in-Err-flush-clause-stops : goal.returns-in-Err-flush-clause-stops
+returns-in-Err-flush-clause-stops g c = λ is.
+    let served = c.loop-taken.invariant.served in
+    let failed = c.in-Err-flush.ensures {u = tt} in
+    (breaks-serves _ c.args.engine.now _ _ _ _ _ _ c.loop-taken.session served.0 served.3 failed.part failed.few).breaks.stops
+
+pub returns-then-count-eq0-clause-stops : goal.returns-then-count-eq0-clause-stops
+returns-then-count-eq0-clause-stops g c = λ is.
+    let served = c.loop-taken.invariant.served in
+    let flushed = c.in_default.ensures {u = tt} in
+    let serves =
+    serves-flushed _ c.args.engine.now _ _ _ _ _ _ c.loop-taken.session c.flush.new.self served.0 served.3 flushed.line flushed.ok flushed.empty flushed.errors
+    in
+    closes-stops _ c.args.engine.now _ _ _ (lines_of served.0) c.end.result (c.end.ensures.closes c.args.engine.now _ served.0 serves) is
+
+pub returns-in-Err-feed-clause-stops : goal.returns-in-Err-feed-clause-stops
+returns-in-Err-feed-clause-stops g c = λ is.
+    let served = c.loop-taken.invariant.served in
+    let flushed = c.in_default.ensures {u = tt} in
+    let serves =
+    serves-flushed _ c.args.engine.now _ _ _ _ _ _ c.loop-taken.session c.flush.new.self served.0 served.3 flushed.line flushed.ok flushed.empty flushed.errors
+    in
+    ((c.in-Err-feed.ensures {u = tt}).part c.args.engine.now _ served.0 serves).breaks.stops

@@ -1,8 +1,7 @@
 use Rattle.std.proofs.Common.{◌≡◌, ◌≤◌, ◌-◌, ◌^◌, ℕ, List, length, false}
 use Rattle.hg_machine.specs.Outcome.{Took}
-use Rattle.hg_machine.specs.State.{State}
 use Rattle.hg_serve.specs.Ending.{outside}
-use Rattle.hg_serve.specs.Output.{seen}
+use Rattle.hg_serve.specs.Output.{moment}
 use Rattle.hg_reply.specs.Steps.{NoneFell}
 use Rattle.hg_serve.specs.Serving.{Serves}
 use Rattle.hg_serve.proofs.serving.read_and_answer.Given as goal
@@ -14,9 +13,8 @@ invariant-loop-taken g l = record {
       (outside (g.S.Source.left l.source) (g.S.Source.given l.source) (g.K.Sink.written l.sink) (g.E.Machine.faults l.engine)) bytes
       × (length bytes ≡ l.taken)
       × Serves g.E.Machine.stands l.fn.engine l.engine
-      (seen (g.K.Sink.written l.fn.sink) (g.E.Machine.faults l.fn.engine)) (seen (g.K.Sink.written l.sink) (g.E.Machine.faults l.engine)) l.session bytes;
+      (moment (g.K.Sink.written l.fn.sink) (g.E.Machine.faults l.fn.engine) (g.E.Machine.said l.fn.engine)) (moment (g.K.Sink.written l.sink) (g.E.Machine.faults l.engine) (g.E.Machine.said l.engine)) l.session bytes;
   idle : g.E.Machine.pending l.engine ≡ false;
-  stands : (s : State) × g.E.Machine.stands l.engine s;
   within : l.taken ≤ 2 ^ 32;
   later : NoneFell (g.E.Machine.faults l.fn.engine) (g.E.Machine.faults l.engine);
   source_same : g.S.Source.faults l.source ≡ g.S.Source.faults l.fn.source;

@@ -1,7 +1,7 @@
 use Rattle.std.proofs.Common.{[], ◌∷◌, refl}
 use Rattle.hg_machine.specs.Reply.{syntax_error, line_too_long}
 use Rattle.hg_serve.proofs.Telling.{says-one, says-none}
-use Rattle.hg_serve.proofs.Moving.{moves-stay, stands-on}
+use Rattle.hg_serve.proofs.Moving.{moves-stay}
 use Rattle.hg_serve.proofs.session.begin.Goals as goal
 
 pub returns-in-Nothing-clause-step : goal.returns-in-Nothing-clause-step
@@ -23,7 +23,3 @@ returns-in-TooLong-clause-step g c =
       says-one _ _ line_too_long c.say_alone-in-TooLong.ensures.text c.say_alone-in-TooLong.ensures.errors refl refl,
       moves-stay _ _ _ (line_too_long ∷ []) (λ s. (refl, refl)),
     )
-
-pub returns-in-Statement-clause-stands : goal.returns-in-Statement-clause-stands
-returns-in-Statement-clause-stands g c =
-    let step = c.command.ensures.step in stands-on _ _ _ _ step.0 c.requires.stands step.2

@@ -1,9 +1,8 @@
 use Rattle.std.proofs.Common.{◌≡◌, ◌↔◌, List, true}
 use Rattle.hg_machine.specs.Reply.{Reply}
-use Rattle.hg_machine.specs.State.{State}
 use Rattle.hg_reply.specs.declared.machine.Next.TheVariants.{More}
 use Rattle.hg_reply.specs.Steps.{Moves}
-use Rattle.hg_serve.specs.Output.{seen, Tells}
+use Rattle.hg_serve.specs.Output.{moment, Tells}
 use Rattle.hg_reply.specs.Steps.{NoneFell}
 use Rattle.hg_serve.proofs.Running.{SomeTurns}
 use Rattle.hg_serve.proofs.session.give_turns.Given as goal
@@ -11,10 +10,9 @@ use Rattle.hg_serve.proofs.session.give_turns.Given as goal
 abbrev pub invariant-loop-left : goal.invariant-loop-left
 invariant-loop-left g l = record {
   given : (lines : List Reply)
-      × Tells (seen (g.K.Sink.written l.fn.sink) (g.E.Machine.faults l.fn.engine)) (seen (g.K.Sink.written l.sink) (g.E.Machine.faults l.engine)) l.fn.output l.output lines
+      × Tells (moment (g.K.Sink.written l.fn.sink) (g.E.Machine.faults l.fn.engine) (g.E.Machine.said l.fn.engine)) (moment (g.K.Sink.written l.sink) (g.E.Machine.faults l.engine) (g.E.Machine.said l.engine)) l.fn.output l.output lines
       × Moves g.E.Machine.stands l.fn.engine l.engine SomeTurns lines;
   more : (l.left ≡ More) ↔ (g.E.Machine.pending l.engine ≡ true);
-  stands : (s : State) × g.E.Machine.stands l.engine s;
   later : NoneFell (g.E.Machine.faults l.fn.engine) (g.E.Machine.faults l.engine);
   sink_same : g.K.Sink.faults l.sink ≡ g.K.Sink.faults l.fn.sink;
 }

@@ -1,47 +1,22 @@
-use Rattle.std.proofs.Common.{sym, subst}
-use Rattle.hg_machine.specs.Insert.{Inserts}
+use Rattle.std.proofs.Common.{subst}
 use Rattle.hg_machine.specs.Run.{Begins}
+use Rattle.hg_reply.specs.Steps.{statement_in}
+use Rattle.hg_engine.specs.Shown.{IsSomeEngine, EngineSteps}
 use Rattle.hg_engine.proofs.engine.EngineMachine.command.Goals as goal
 
-pub returns-in-CreateTable-clause-step : goal.returns-in-CreateTable-clause-step
-returns-in-CreateTable-clause-step g c =
-    let step = c.create.ensures.step in (
-      step.lines,
-      step.says,
-      record {
-        to = λ before st.
-            let m = step.moves.to before st in
-            (m.0, m.1, subst (λ s. Begins before s step.lines m.0) (sym c.in-CreateTable.is) m.2);
-      },
-      step.full,
-    )
+pub invariant_of-self : goal.invariant_of-self
+invariant_of-self g c =
+    let old = c.self.invariant in
+    let now = c.command.ensures.step.moves.to old.0 old.1 in
+    (now.0, now.1)
 
-pub returns-in-Insert-clause-step : goal.returns-in-Insert-clause-step
-returns-in-Insert-clause-step g c =
-    let step = c.insert.ensures.step in (
-      step.lines,
-      step.says,
-      record {
-        to = λ before st.
-            let m = step.moves.to before st in (
-              m.0,
-              m.1,
-              subst (λ s. Begins before s step.lines m.0) (sym c.in-Insert.is)
-                  (subst (λ rs. Inserts before c.in-Insert.table rs step.lines m.0) c.deref.ensures.0 m.2),
-            );
-      },
-      step.full,
-    )
+pub returns-clause-step : goal.returns-clause-step
+returns-clause-step g c =
+    let step =
+    subst (λ k. EngineSteps g.M.PageDevice g.T.PageDevice k c.command.new.self c.command.new.reply (λ before lines after. Begins before (statement_in c.args.statement.now) lines after))
+    c.self.view_is c.command.ensures.step
+    in
+    (step.lines, step.says, step.moves, step.full)
 
-pub returns-in-Select-clause-step : goal.returns-in-Select-clause-step
-returns-in-Select-clause-step g c =
-    let step = c.select.ensures.step in (
-      step.lines,
-      step.says,
-      record {
-        to = λ before st.
-            let m = step.moves.to before st in
-            (m.0, m.1, subst (λ s. Begins before s step.lines m.0) (sym c.in-Select.is) m.2);
-      },
-      step.full,
-    )
+pub returns-clause-stood : goal.returns-clause-stood
+returns-clause-stood g c = subst (IsSomeEngine g.M.PageDevice g.T.PageDevice) c.self.view_is c.self.invariant

@@ -1,6 +1,8 @@
-use Rattle.std.proofs.Common.{◌++◌, ◌∙◌}
+use Rattle.std.proofs.Common.{◌++◌, ◌∙◌, sym, subst, arith}
 use Rattle.hg_machine.specs.Script.{Line}
-use Rattle.hg_serve.proofs.Telling.{on_err, tells-then, tells-put, part-then, part-put, part-more}
+use Rattle.hg_reply.specs.Steps.{Says}
+use Rattle.hg_serve.proofs.Telling.{on_err, tells-then, tells-put, part-put, stops-put}
+use Rattle.hg_serve.proofs.Breaking.{breaks-begin, breaks-line}
 use Rattle.hg_serve.proofs.Moving.{moves-line}
 use Rattle.hg_serve.proofs.session.Session.answer_line.Goals as goal
 
@@ -9,12 +11,12 @@ returns-in-Err-clause-part g c = λ whole is.
     let line : Line = record { bytes = whole; ended = c.args.ended } in
     let begun = c.begin-next.ensures.step in
     let broke = c.in-Err.ensures {u = tt} in
-    let left = c.run_out.ensures.turns in
-    record {
-      replies = begun.0 ++ left.0;
-      moves = moves-line _ _ _ _ line c.read_line-asked.result begun.0 left.0 (c.read_line-asked.ensures whole (c.as_slice.ensures.value ∙ is)) begun.2 left.2;
-      tells = part-more _ _ _ _ _ _ begun.0 left.0 (part-put _ _ _ _ _ _ begun.0 begun.1 broke.part) left.1;
-    }
+    let dropped = c.drop_command.ensures in
+    let f0 = g.E.Machine.faults c.args.engine.now in
+    let says = subst (λ f. Says c.begin-next.new.reply f0 f begun.0) (sym dropped.faults_stay) begun.1 in
+    breaks-begin _ _ _ _ _ _ _ line _ c.read_line-asked.result begun.0 (c.read_line-asked.ensures whole (c.as_slice.ensures.value ∙ is)) begun.2 dropped.drops
+    (part-put _ _ _ _ _ _ _ c.begin-next.new.reply begun.0 says broke.part)
+    (stops-put _ _ _ _ _ _ c.args.self.now.output.bytes.items c.begin-next.new.reply.text.items broke.part (omega (arith, c.begin-next.ensures.said, dropped.says_nothing)) broke.few)
 
 pub returns-in_err-give_turns-clause-part : goal.returns-in_err-give_turns-clause-part
 returns-in_err-give_turns-clause-part g c =
@@ -22,12 +24,9 @@ returns-in_err-give_turns-clause-part g c =
     let line : Line = record { bytes = whole; ended = c.args.ended } in
     let begun = c.begin-next.ensures.step in
     let put = c.in_default.ensures {u = tt} in
-    let broke = (c.in_err-give_turns.ensures {u = tt}).part in
-    record {
-      replies = begun.0 ++ broke.0;
-      moves = moves-line _ _ _ _ line c.read_line-asked.result begun.0 broke.0 (c.read_line-asked.ensures whole (c.as_slice.ensures.value ∙ is)) begun.2 broke.2;
-      tells = part-then _ _ _ _ c.put.new.self begun.0 broke.0 (tells-put _ _ _ _ c.args.self.now.output c.put.new.self _ begun.0 begun.1 put.ok put.errors) broke.1;
-    })
+    let told = tells-put _ _ _ _ _ _ c.args.self.now.output c.put.new.self _ begun.0 begun.1 put.ok put.errors c.begin-next.ensures.said in
+    breaks-line _ _ _ _ _ _ _ c.args.self.now.output.bytes.items c.put.new.self.bytes.items line _ c.read_line-asked.result begun.0
+    (c.read_line-asked.ensures whole (c.as_slice.ensures.value ∙ is)) begun.2 told.passes told.counted told.said (c.in_err-give_turns.ensures {u = tt}).part)
 
 pub returns-clause-ok : goal.returns-clause-ok
 returns-clause-ok g c = λ whole is.
@@ -37,6 +36,6 @@ returns-clause-ok g c = λ whole is.
     let given = (c.in_ok-give_turns.ensures {u = tt}).ok in
     record {
       replies = begun.0 ++ given.0;
-      moves = moves-line _ _ _ _ line c.read_line-asked.result begun.0 given.0 (c.read_line-asked.ensures whole (c.as_slice.ensures.value ∙ is)) begun.2 given.2;
-      tells = tells-then _ _ _ _ c.put.new.self _ begun.0 given.0 (tells-put _ _ _ _ c.args.self.now.output c.put.new.self _ begun.0 begun.1 put.ok put.errors) given.1;
+      moves = moves-line _ _ _ _ line _ c.read_line-asked.result begun.0 given.0 (c.read_line-asked.ensures whole (c.as_slice.ensures.value ∙ is)) begun.2 given.2;
+      tells = tells-then _ _ _ _ c.put.new.self _ begun.0 given.0 (tells-put _ _ _ _ _ _ c.args.self.now.output c.put.new.self _ begun.0 begun.1 put.ok put.errors c.begin-next.ensures.said) given.1;
     }

@@ -7,7 +7,6 @@ use Rattle.hg_serve.proofs.session.Session.feed.Goals as goal
 pub loop-b-init : goal.loop-b-init
 loop-b-init g c = record {
   idle = c.requires.idle;
-  stands = c.requires.stands;
   serves = λ first w taken serves. serves-as _ first _ w _ _ _ _ (sym (append-nil taken)) serves;
   later = fell-none _;
   sink_same = refl;
@@ -30,7 +29,6 @@ loop-b-preserved g c =
     let fed = c.in_default.ensures {u = tt} in
     record {
       idle = c.take_byte.ensures.idle;
-      stands = c.take_byte.ensures.stands;
       serves = λ first w taken serves.
           serves-as _ first _ w _ _ _ _ (parts-more taken bytes i c.loop-b-test.true)
           (fed.ok first w (taken ++ take i bytes) (so_far.serves first w taken serves));

@@ -1,6 +1,6 @@
 use Rattle.hg_engine.specs.Shown.{space_of}
 use Rattle.hg_engine.proofs.EngineSteps.{says-so}
-use Rattle.hg_engine.proofs.engine.Engine.create.Goals as goal
+use Rattle.hg_engine.proofs.kept.Kept.create.Goals as goal
 
 pub returns-clause-step : goal.returns-clause-step
 returns-clause-step g c =

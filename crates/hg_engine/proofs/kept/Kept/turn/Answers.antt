@@ -1,6 +1,6 @@
 use Rattle.hg_pool.specs.Shown.{state_of}
 use Rattle.hg_engine.proofs.EngineSteps.{is-later}
-use Rattle.hg_engine.proofs.engine.Engine.turn.Goals as goal
+use Rattle.hg_engine.proofs.kept.Kept.turn.Goals as goal
 
 pub returns-clause-later : goal.returns-clause-later
 returns-clause-later g c =
