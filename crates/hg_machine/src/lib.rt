@@ -8,9 +8,11 @@
 #![tactic(auto)]
 
 mod laws;
+mod plain;
 mod statements;
 mod tokens;
 
 pub use laws::few_rows_never_fill_main;
+pub use plain::{commands_can_finish, runs_are_steady, turns_end};
 pub use statements::{Cell, Content, Row, Statement};
 pub use tokens::{Part, RESERVED, Sign, Token};
