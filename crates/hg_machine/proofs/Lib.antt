@@ -4,3 +4,7 @@ pub mod Turns
 pub mod Steady
 pub mod StepsSteady
 pub mod Finishing
+pub mod Fitting
+pub mod Resting
+pub mod Floors
+pub mod LooseRuns

@@ -19,3 +19,23 @@ pub fn commands_can_finish()
     ensures finish { laws.CanAlwaysFinish }
     ensures fronts { laws.StoppedRunsAreFronts }
 {}
+
+/// Between two lines of a run no command is at work, and every open cursor has a name.
+pub fn lines_end_at_rest()
+    ensures { laws.LinesEndAtRest }
+{}
+
+/// A line whose needs fit the two files never says that one of them is full.
+pub fn fitting_lines_never_fill()
+    ensures { laws.FittingLinesNeverFill }
+{}
+
+/// No turn ends with the limit error where the ceiling is at least the floor of each open cursor.
+pub fn floors_prevent_the_limit()
+    ensures { laws.FloorsPreventTheLimit }
+{}
+
+/// Over devices that do not tell, the machine's own runs are among those that may come.
+pub fn runs_are_loose_runs()
+    ensures { laws.RunsAreLooseRuns }
+{}

@@ -59,6 +59,15 @@ abbrev pub LinesKeepSteady : Type 0
 LinesKeepSteady = (built : CommandTree → Bool) (old new : State) (script : List Line) (lines : List ReplyLine)
     → RunsLines (exactly built) old script lines new → IsSteady old → IsSteady new
 
+-- Between two lines no command is at work, and every open cursor has a name.
+pub record IsBetweenLines (s : State) : Type 0 where
+  pub idle : s.task ≡ None
+  pub all_named : cursor_named s.cursors None ≡ None
+
+abbrev pub LinesEndAtRest : Type 0
+LinesEndAtRest = (built : CommandTree → Bool) (old new : State) (script : List Line) (lines : List ReplyLine)
+    → RunsLines (exactly built) old script lines new → IsBetweenLines old → IsBetweenLines new
+
 -- ---- a command at work can always finish, and no device need fail for that
 
 abbrev pub NoFault : List ReplyLine → Type 0
@@ -104,7 +113,7 @@ NeverFull lines = (f : File) → full_lines f lines ≡ 0
 
 abbrev pub FittingLinesNeverFill : Type 0
 FittingLinesNeverFill = (built : CommandTree → Bool) (old new : State) (line : Line) (lines : List ReplyLine)
-    → RunsLine (exactly built) old line lines new → LineFits old line → NeverFull lines
+    → RunsLine (exactly built) old line lines new → IsBetweenLines old → LineFits old line → NeverFull lines
 
 -- no turn ends with the limit error where the ceiling is at least the floor of each open cursor
 abbrev pub FloorsFit : State → Type 0
