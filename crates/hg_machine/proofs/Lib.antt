@@ -8,3 +8,4 @@ pub mod Fitting
 pub mod Resting
 pub mod Floors
 pub mod LooseRuns
+pub mod WorkedRows

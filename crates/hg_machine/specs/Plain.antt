@@ -26,3 +26,4 @@ pub mod Run
 pub mod Loose
 pub mod Outcome
 pub mod Laws
+pub mod Worked

@@ -15,7 +15,7 @@ mod tokens;
 pub use laws::few_rows_never_fill_main;
 pub use plain::{
     commands_can_finish, fitting_lines_never_fill, floors_prevent_the_limit, lines_end_at_rest,
-    runs_are_loose_runs, runs_are_steady, turns_end,
+    runs_are_loose_runs, runs_are_steady, turns_end, worked_scripts,
 };
 pub use statements::{Cell, Content, Row, Statement};
 pub use tokens::{Part, RESERVED, Sign, Token};

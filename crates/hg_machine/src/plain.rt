@@ -1,5 +1,6 @@
 //! Laws of the plain machine. A function here computes nothing: its contract is the law.
 ghost use Rattle.hg_machine.specs.Plain.Laws as laws;
+ghost use Rattle.hg_machine.specs.Plain.Worked as worked;
 
 /// Each turn leaves fewer turns, so turns come to an end.
 pub fn turns_end()
@@ -38,4 +39,11 @@ pub fn floors_prevent_the_limit()
 /// Over devices that do not tell, the machine's own runs are among those that may come.
 pub fn runs_are_loose_runs()
     ensures { laws.RunsAreLooseRuns }
+{}
+
+/// Worked scripts: the reply lines that were worked out by hand are those of runs.
+pub fn worked_scripts()
+    ensures waiting { worked.TheSecondWaits }
+    ensures opened { worked.CursorsStayAsOpened }
+    ensures rows { worked.RowsComeBack }
 {}
