@@ -9,3 +9,6 @@ pub mod Resting
 pub mod Floors
 pub mod LooseRuns
 pub mod WorkedRows
+pub mod Rooms
+pub mod TurnRooms
+pub mod Owing

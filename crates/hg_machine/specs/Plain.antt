@@ -27,3 +27,5 @@ pub mod Loose
 pub mod Outcome
 pub mod Laws
 pub mod Worked
+pub mod Room
+pub mod Owed

@@ -1,5 +1,7 @@
 //! Laws of the plain machine. A function here computes nothing: its contract is the law.
 ghost use Rattle.hg_machine.specs.Plain.Laws as laws;
+ghost use Rattle.hg_machine.specs.Plain.Owed as owed;
+ghost use Rattle.hg_machine.specs.Plain.Room as room;
 ghost use Rattle.hg_machine.specs.Plain.Worked as worked;
 
 /// Each turn leaves fewer turns, so turns come to an end.
@@ -46,4 +48,20 @@ pub fn worked_scripts()
     ensures waiting { worked.TheSecondWaits }
     ensures opened { worked.CursorsStayAsOpened }
     ensures rows { worked.RowsComeBack }
+{}
+
+/// What a step prints fits a reply: a working row, and SHOW MEMORY with sixteen cursors.
+pub fn rows_and_memory_fit_a_reply()
+    ensures rows { room.WorkingRowsPrintShort }
+    ensures memory { room.MemoryFits }
+{}
+
+/// And so does each turn, a row with the line behind it too.
+pub fn turns_fit_a_reply()
+    ensures { room.TurnsFit }
+{}
+
+/// A turn takes from what is left to its cursor just what it gives, and nothing from the others.
+pub fn turns_take_what_they_give()
+    ensures { owed.TurnsTakeWhatTheyGive }
 {}
