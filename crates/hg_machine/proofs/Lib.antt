@@ -1,1 +1,14 @@
 pub mod Drawing
+pub mod Cursors
+pub mod Turns
+pub mod Steady
+pub mod StepsSteady
+pub mod Finishing
+pub mod Fitting
+pub mod Resting
+pub mod Floors
+pub mod LooseRuns
+pub mod WorkedRows
+pub mod Rooms
+pub mod TurnRooms
+pub mod Owing

@@ -10,3 +10,4 @@ pub mod Select
 pub mod Run
 pub mod Outcome
 pub mod Laws
+pub mod Plain
