@@ -1,0 +1,7 @@
+//! The parser.
+#![tactic(auto)]
+
+/// Whether.
+pub fn trial() -> bool {
+    true
+}
