@@ -2,3 +2,4 @@ pub mod Steps
 pub mod Building
 pub mod Descent
 pub mod Follow
+pub mod Rules
