@@ -52,10 +52,10 @@ Found (Items m) k r ts s n = (g : Draft) (rest : List Token) → AfterSum rest
 
 -- chains that stop
 
-if_stop : {A : Type 0} (b : Bool) (x y : A) → b ≡ false → cond b x y ≡ y
+pub if_stop : {A : Type 0} (b : Bool) (x y : A) → b ≡ false → cond b x y ≡ y
 if_stop b x y e = ap (λ c. cond c x y) e
 
-if_go : {A : Type 0} (b : Bool) (x y : A) → b ≡ true → cond b x y ≡ x
+pub if_go : {A : Type 0} (b : Bool) (x y : A) → b ≡ true → cond b x y ≡ x
 if_go b x y e = ap (λ c. cond c x y) e
 
 module _ (k : ℕ) (g : Draft) (s : Read) (n : ℕ) (rest : List Token) where

@@ -1,3 +1,5 @@
 pub mod Chains
 pub mod Begins
 pub mod Found
+pub mod Following
+pub mod FoundParts
