@@ -13,20 +13,29 @@ use Rattle.hg_parse.specs.Steps.{eats}
 pub apart : (k w : List ℕ) → is_reserved k ≡ true → is_reserved w ≡ false → same_name k w ≡ false
 apart k w yes_ no_ = false_from_ne_true (same_name k w) (λ e. both_ways (is_reserved w) no_ (ap is_reserved (sym (same_text k w (sym e))) ∙ yes_))
 
-pub not_is_reserved : is_reserved (codes "not") ≡ true
+not_is_reserved : is_reserved (codes "not") ≡ true
 unfolding is_reserved
 not_is_reserved = refl
 
+all_is_reserved : is_reserved (codes "all") ≡ true
+unfolding is_reserved
+all_is_reserved = refl
+
+distinct_is_reserved : is_reserved (codes "distinct") ≡ true
+unfolding is_reserved
+distinct_is_reserved = refl
+
 pub record NoStar (ts : List Token) : Type 0 where
   pub no_star : eats star ts ≡ false
+  pub no_all : eats (key (codes "all")) ts ≡ false
+  pub no_distinct : eats (key (codes "distinct")) ts ≡ false
 
 pub record NoNot (ts : List Token) : Type 0 where
-  pub no_star : eats star ts ≡ false
+  pub head : NoStar ts
   pub no_not : eats (key (codes "not")) ts ≡ false
 
 pub record NoSign (ts : List Token) : Type 0 where
-  pub no_star : eats star ts ≡ false
-  pub no_not : eats (key (codes "not")) ts ≡ false
+  pub head : NoNot ts
   pub no_plus : eats plus ts ≡ false
   pub no_minus : eats minus ts ≡ false
 
@@ -41,35 +50,42 @@ Begins Factor ts = (rest : List Token) → NoNot (ts ++ rest)
 Begins Prim ts = (rest : List Token) → NoSign (ts ++ rest)
 Begins (Items m) ts = (rest : List Token) → NoNot (ts ++ rest)
 
-longer_star : (ts us : List Token) → ((rest : List Token) → NoStar (ts ++ rest)) → (rest : List Token) → NoStar ((ts ++ us) ++ rest)
-longer_star ts us h rest = record { no_star = ap (eats star) (append_assoc ts us rest) ∙ (h (us ++ rest)).no_star }
+pub longer_star : (ts us : List Token) → ((rest : List Token) → NoStar (ts ++ rest)) → (rest : List Token) → NoStar ((ts ++ us) ++ rest)
+longer_star ts us h rest = record {
+    no_star = ap (eats star) (append_assoc ts us rest) ∙ (h (us ++ rest)).no_star;
+    no_all = ap (eats (key (codes "all"))) (append_assoc ts us rest) ∙ (h (us ++ rest)).no_all;
+    no_distinct = ap (eats (key (codes "distinct"))) (append_assoc ts us rest) ∙ (h (us ++ rest)).no_distinct }
 
 longer_not : (ts us : List Token) → ((rest : List Token) → NoNot (ts ++ rest)) → (rest : List Token) → NoNot ((ts ++ us) ++ rest)
 longer_not ts us h rest = record {
-  no_star = ap (eats star) (append_assoc ts us rest) ∙ (h (us ++ rest)).no_star;
-  no_not = ap (eats (key (codes "not"))) (append_assoc ts us rest) ∙ (h (us ++ rest)).no_not;
-}
+    head = longer_star ts us (λ l. (h l).head) rest;
+    no_not = ap (eats (key (codes "not"))) (append_assoc ts us rest) ∙ (h (us ++ rest)).no_not }
 
 name_begins : (c : List ℕ) (ts : List Token) → IsName c → NoSign (Word c ∷ ts)
-name_begins c ts h = record { no_star = refl; no_not = apart (codes "not") c not_is_reserved h; no_plus = refl; no_minus = refl }
+name_begins c ts h = record {
+    head = record {
+        head = record { no_star = refl; no_all = apart (codes "all") c all_is_reserved h; no_distinct = apart (codes "distinct") c distinct_is_reserved h };
+        no_not = apart (codes "not") c not_is_reserved h };
+    no_plus = refl;
+    no_minus = refl }
 
 column_begins : {ts : List Token} {c : _} → IsColumn ts c → (rest : List Token) → NoSign (ts ++ rest)
 column_begins (bare c h) rest = name_begins c rest h
 column_begins (dotted t c h l) rest = name_begins t (dot ∷ Word c ∷ rest) h
 
 fold_begins : {w : Token} {f : _} → IsFold w f → (rest : List Token) → NoSign (w ∷ rest)
-fold_begins count rest = record { no_star = refl; no_not = refl; no_plus = refl; no_minus = refl }
-fold_begins sum rest = record { no_star = refl; no_not = refl; no_plus = refl; no_minus = refl }
-fold_begins min rest = record { no_star = refl; no_not = refl; no_plus = refl; no_minus = refl }
-fold_begins max rest = record { no_star = refl; no_not = refl; no_plus = refl; no_minus = refl }
+fold_begins count rest = record { head = record { head = record { no_star = refl; no_all = refl; no_distinct = refl }; no_not = refl }; no_plus = refl; no_minus = refl }
+fold_begins sum rest = record { head = record { head = record { no_star = refl; no_all = refl; no_distinct = refl }; no_not = refl }; no_plus = refl; no_minus = refl }
+fold_begins min rest = record { head = record { head = record { no_star = refl; no_all = refl; no_distinct = refl }; no_not = refl }; no_plus = refl; no_minus = refl }
+fold_begins max rest = record { head = record { head = record { no_star = refl; no_all = refl; no_distinct = refl }; no_not = refl }; no_plus = refl; no_minus = refl }
 
 pub begins : {l : Rule} {d : ℕ} {r : Read} {ts : List Token} {s : Read} {n : ℕ} → Expression l d r ts s n → Begins l ts
 begins (or_one e) = begins e
 begins (or_more {ts} {us} e f) = longer_star ts (key (codes "or") ∷ us) (begins e)
 begins (and_one e) = begins e
 begins (and_more {ts} {us} e f) = longer_star ts (key (codes "and") ∷ us) (begins e)
-begins (not_none e) = λ rest. record { no_star = (begins e rest).no_star }
-begins (not_one e) = λ rest. record { no_star = refl }
+begins (not_none e) = λ rest. (begins e rest).head
+begins (not_one e) = λ rest. record { no_star = refl; no_all = refl; no_distinct = refl }
 begins (pred_sum e) = begins e
 begins (pred_cmp {ts} {us} {c} e o f) = longer_not ts (c ∷ us) (begins e)
 begins (pred_null {ts} e) = longer_not ts _ (begins e)
@@ -83,15 +99,15 @@ begins (sum_plus {ts} e f) = longer_not ts _ (begins e)
 begins (sum_minus {ts} e f) = longer_not ts _ (begins e)
 begins (term_one e) = begins e
 begins (term_times {ts} e f) = longer_not ts _ (begins e)
-begins (factor_prim e) = λ rest. record { no_star = (begins e rest).no_star; no_not = (begins e rest).no_not }
-begins (factor_plus e) = λ rest. record { no_star = refl; no_not = refl }
-begins (factor_minus e) = λ rest. record { no_star = refl; no_not = refl }
-begins (prim_number ds) = λ rest. record { no_star = refl; no_not = refl; no_plus = refl; no_minus = refl }
-begins (prim_text t) = λ rest. record { no_star = refl; no_not = refl; no_plus = refl; no_minus = refl }
-begins prim_null = λ rest. record { no_star = refl; no_not = refl; no_plus = refl; no_minus = refl }
+begins (factor_prim e) = λ rest. (begins e rest).head
+begins (factor_plus e) = λ rest. record { head = record { no_star = refl; no_all = refl; no_distinct = refl }; no_not = refl }
+begins (factor_minus e) = λ rest. record { head = record { no_star = refl; no_all = refl; no_distinct = refl }; no_not = refl }
+begins (prim_number ds) = λ rest. record { head = record { head = record { no_star = refl; no_all = refl; no_distinct = refl }; no_not = refl }; no_plus = refl; no_minus = refl }
+begins (prim_text t) = λ rest. record { head = record { head = record { no_star = refl; no_all = refl; no_distinct = refl }; no_not = refl }; no_plus = refl; no_minus = refl }
+begins prim_null = λ rest. record { head = record { head = record { no_star = refl; no_all = refl; no_distinct = refl }; no_not = refl }; no_plus = refl; no_minus = refl }
 begins (prim_column c) = column_begins c
-begins (prim_nested e) = λ rest. record { no_star = refl; no_not = refl; no_plus = refl; no_minus = refl }
-begins agg_rows = λ rest. record { no_star = refl; no_not = refl; no_plus = refl; no_minus = refl }
+begins (prim_nested e) = λ rest. record { head = record { head = record { no_star = refl; no_all = refl; no_distinct = refl }; no_not = refl }; no_plus = refl; no_minus = refl }
+begins agg_rows = λ rest. record { head = record { head = record { no_star = refl; no_all = refl; no_distinct = refl }; no_not = refl }; no_plus = refl; no_minus = refl }
 begins (agg_one {ts} f e) = λ rest. fold_begins f _
 begins (items_one e) = begins e
 begins (items_more {ts} e f) = longer_not ts _ (begins e)

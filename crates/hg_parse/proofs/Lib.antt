@@ -3,3 +3,4 @@ pub mod Begins
 pub mod Found
 pub mod Following
 pub mod FoundParts
+pub mod FoundLines
