@@ -121,11 +121,11 @@ compares_so le ts = refl
 compares_so gt ts = refl
 compares_so ge ts = refl
 
-add_twice : (n : ℕ) → n + 1 + 1 ≡ n + 2
+pub add_twice : (n : ℕ) → n + 1 + 1 ≡ n + 2
 add_twice n = omega arith
 
 -- one more node
-next_with : (r : Read) (x : Node) → next (with_node r x) ≡ next r + 1
+pub next_with : (r : Read) (x : Node) → next (with_node r x) ≡ next r + 1
 next_with r x = omega (arith, length-append r.nodes (x ∷ []))
 
 module _ (k : ℕ) where

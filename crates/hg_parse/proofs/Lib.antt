@@ -4,3 +4,5 @@ pub mod Found
 pub mod Following
 pub mod FoundParts
 pub mod FoundLines
+pub mod OnAnswers
+pub mod Read
