@@ -52,22 +52,26 @@ Begins (Items m) ts = (rest : List Token) → NoNot (ts ++ rest)
 
 pub longer_star : (ts us : List Token) → ((rest : List Token) → NoStar (ts ++ rest)) → (rest : List Token) → NoStar ((ts ++ us) ++ rest)
 longer_star ts us h rest = record {
-    no_star = ap (eats star) (append_assoc ts us rest) ∙ (h (us ++ rest)).no_star;
-    no_all = ap (eats (key (codes "all"))) (append_assoc ts us rest) ∙ (h (us ++ rest)).no_all;
-    no_distinct = ap (eats (key (codes "distinct"))) (append_assoc ts us rest) ∙ (h (us ++ rest)).no_distinct }
+  no_star = ap (eats star) (append_assoc ts us rest) ∙ (h (us ++ rest)).no_star;
+  no_all = ap (eats (key (codes "all"))) (append_assoc ts us rest) ∙ (h (us ++ rest)).no_all;
+  no_distinct = ap (eats (key (codes "distinct"))) (append_assoc ts us rest) ∙ (h (us ++ rest)).no_distinct;
+}
 
 longer_not : (ts us : List Token) → ((rest : List Token) → NoNot (ts ++ rest)) → (rest : List Token) → NoNot ((ts ++ us) ++ rest)
 longer_not ts us h rest = record {
-    head = longer_star ts us (λ l. (h l).head) rest;
-    no_not = ap (eats (key (codes "not"))) (append_assoc ts us rest) ∙ (h (us ++ rest)).no_not }
+  head = longer_star ts us (λ l. (h l).head) rest;
+  no_not = ap (eats (key (codes "not"))) (append_assoc ts us rest) ∙ (h (us ++ rest)).no_not;
+}
 
 name_begins : (c : List ℕ) (ts : List Token) → IsName c → NoSign (Word c ∷ ts)
 name_begins c ts h = record {
-    head = record {
-        head = record { no_star = refl; no_all = apart (codes "all") c all_is_reserved h; no_distinct = apart (codes "distinct") c distinct_is_reserved h };
-        no_not = apart (codes "not") c not_is_reserved h };
-    no_plus = refl;
-    no_minus = refl }
+  head = record {
+    head = record { no_star = refl; no_all = apart (codes "all") c all_is_reserved h; no_distinct = apart (codes "distinct") c distinct_is_reserved h };
+    no_not = apart (codes "not") c not_is_reserved h;
+  };
+  no_plus = refl;
+  no_minus = refl;
+}
 
 column_begins : {ts : List Token} {c : _} → IsColumn ts c → (rest : List Token) → NoSign (ts ++ rest)
 column_begins (bare c h) rest = name_begins c rest h

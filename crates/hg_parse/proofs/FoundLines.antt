@@ -134,21 +134,27 @@ pub select_got : {ts : List Token} {q : Query} {x : List ℕ} → IsSelect ts q 
 unfolding r.select heading
 select_got (select {cs} {fs} {ws} {gs} {vs} {os} {b} {c} {star = st} {outputs} {tables} {filter} {having} {group} {order} plain cols t w g v o) rest h =
     let l : List Token = fs ++ (ws ++ (gs ++ (vs ++ (os ++ rest)))) in
-    let k = columns_begin cols (d.key (codes "from") ∷ l) in
-    (cs ++ d.key (codes "from") ∷ l, ap (λ y. d.key (codes "select") ∷ y) (regroup cs fs ws gs vs os rest (d.key (codes "from"))),
-    unquantified empty_draft (cs ++ d.key (codes "from") ∷ l) k.0 k.1
-    ∙ ap (λ y. and_then y (r.behind_columns all_kept false)) (columns_got cols (d.key (codes "from") ∷ l) (or_from l) refl refl)
-    ∙ columns_to_end false st filter having outputs tables group t w g v o rest h)
+    let k = columns_begin cols (d.key (codes "from") ∷ l) in (
+      cs ++ d.key (codes "from") ∷ l,
+      ap (λ y. d.key (codes "select") ∷ y) (regroup cs fs ws gs vs os rest (d.key (codes "from"))),
+      unquantified empty_draft (cs ++ d.key (codes "from") ∷ l) k.0 k.1
+          ∙ ap (λ y. and_then y (r.behind_columns all_kept false)) (columns_got cols (d.key (codes "from") ∷ l) (or_from l) refl refl)
+          ∙ columns_to_end false st filter having outputs tables group t w g v o rest h,
+    )
 select_got (select {cs} {fs} {ws} {gs} {vs} {os} {b} {c} {star = st} {outputs} {tables} {filter} {having} {group} {order} all cols t w g v o) rest h =
-    let l : List Token = fs ++ (ws ++ (gs ++ (vs ++ (os ++ rest)))) in
-    (d.key (codes "all") ∷ (cs ++ d.key (codes "from") ∷ l), ap (λ y. d.key (codes "select") ∷ d.key (codes "all") ∷ y) (regroup cs fs ws gs vs os rest (d.key (codes "from"))),
-    ap (λ y. and_then y (r.behind_columns all_kept false)) (columns_got cols (d.key (codes "from") ∷ l) (or_from l) refl refl)
-    ∙ columns_to_end false st filter having outputs tables group t w g v o rest h)
+    let l : List Token = fs ++ (ws ++ (gs ++ (vs ++ (os ++ rest)))) in (
+      d.key (codes "all") ∷ (cs ++ d.key (codes "from") ∷ l),
+      ap (λ y. d.key (codes "select") ∷ d.key (codes "all") ∷ y) (regroup cs fs ws gs vs os rest (d.key (codes "from"))),
+      ap (λ y. and_then y (r.behind_columns all_kept false)) (columns_got cols (d.key (codes "from") ∷ l) (or_from l) refl refl)
+          ∙ columns_to_end false st filter having outputs tables group t w g v o rest h,
+    )
 select_got (select {cs} {fs} {ws} {gs} {vs} {os} {b} {c} {star = st} {outputs} {tables} {filter} {having} {group} {order} distinct cols t w g v o) rest h =
-    let l : List Token = fs ++ (ws ++ (gs ++ (vs ++ (os ++ rest)))) in
-    (d.key (codes "distinct") ∷ (cs ++ d.key (codes "from") ∷ l), ap (λ y. d.key (codes "select") ∷ d.key (codes "distinct") ∷ y) (regroup cs fs ws gs vs os rest (d.key (codes "from"))),
-    ap (λ y. and_then y (r.behind_columns all_kept true)) (columns_got cols (d.key (codes "from") ∷ l) (or_from l) refl refl)
-    ∙ columns_to_end true st filter having outputs tables group t w g v o rest h)
+    let l : List Token = fs ++ (ws ++ (gs ++ (vs ++ (os ++ rest)))) in (
+      d.key (codes "distinct") ∷ (cs ++ d.key (codes "from") ∷ l),
+      ap (λ y. d.key (codes "select") ∷ d.key (codes "distinct") ∷ y) (regroup cs fs ws gs vs os rest (d.key (codes "from"))),
+      ap (λ y. and_then y (r.behind_columns all_kept true)) (columns_got cols (d.key (codes "from") ∷ l) (or_from l) refl refl)
+          ∙ columns_to_end true st filter having outputs tables group t w g v o rest h,
+    )
 
 -- what the descent makes of a command
 pub record Made (ts : List Token) (c : CommandTree) (x : List ℕ) : Type 0 where
@@ -184,94 +190,105 @@ index_made u i t {ts} cs given j k e rest = index_behind true i t ts cs j k e re
 pub made : {ts : List Token} {c : CommandTree} {x : List ℕ} → IsCommand ts c x → Made ts c x
 unfolding r.command
 made (create_table {ts} {cs} t i e) = record {
-    state = with_columns empty_draft cs;
-    form = r.TableForm t;
-    tree = refl;
-    texts = refl;
-    is = λ rest h.
-        ap (λ a. and_then a (r.table_columns all_kept)) (name_got empty_draft t (open_sign ∷ ((ts ++ close_sign ∷ []) ++ rest)) i)
-        ∙ ap (λ l. and_then (closed (commas (r.new_column all_kept) empty_draft l)) (r.table_form all_kept t)) (append_assoc ts (close_sign ∷ []) rest)
-        ∙ ap (λ a. and_then (closed a) (r.table_form all_kept t))
-        (new_columns_got e empty_draft (close_sign ∷ rest) (record { no_not = refl; no_primary = refl; no_unique = refl })
-        ∙ commas_stop (r.new_column all_kept) (with_columns empty_draft cs) (close_sign ∷ rest) refl) }
+  state = with_columns empty_draft cs;
+  form = r.TableForm t;
+  tree = refl;
+  texts = refl;
+  is = λ rest h.
+      ap (λ a. and_then a (r.table_columns all_kept)) (name_got empty_draft t (open_sign ∷ ((ts ++ close_sign ∷ []) ++ rest)) i)
+      ∙ ap (λ l. and_then (closed (commas (r.new_column all_kept) empty_draft l)) (r.table_form all_kept t)) (append_assoc ts (close_sign ∷ []) rest)
+      ∙ ap (λ a. and_then (closed a) (r.table_form all_kept t))
+      (new_columns_got e empty_draft (close_sign ∷ rest) (record { no_not = refl; no_primary = refl; no_unique = refl })
+      ∙ commas_stop (r.new_column all_kept) (with_columns empty_draft cs) (close_sign ∷ rest) refl);
+}
 made (create_index {us} {ts} {u} {cs} i t un j k e) = record {
-    state = with_names empty_draft cs;
-    form = r.IndexForm u i t;
-    tree = refl;
-    texts = refl;
-    is = λ rest h. index_made u i t cs un j k e rest }
+  state = with_names empty_draft cs;
+  form = r.IndexForm u i t;
+  tree = refl;
+  texts = refl;
+  is = λ rest h. index_made u i t cs un j k e rest;
+}
 made (insert {ts} {us} {cs} {x} {vs} {es} t i f e) = record {
-    state = with_values (with_names empty_draft cs) x vs es;
-    form = r.InsertForm t;
-    tree = refl;
-    texts = refl;
-    is = λ rest h.
-        ap (λ a. and_then a (r.insert_into all_kept)) (name_got empty_draft t ((ts ++ d.key (codes "values") ∷ us) ++ rest) i)
-        ∙ ap (r.insert_into all_kept empty_draft t) (append_assoc ts (d.key (codes "values") ∷ us) rest)
-        ∙ ap (λ a. and_then a (r.insert_values all_kept t)) (listed_got f empty_draft (d.key (codes "values") ∷ (us ++ rest)) refl)
-        ∙ ap (λ a. and_then a (r.insert_form all_kept t))
-        (tuples_got e (with_names empty_draft cs) rest ∙ commas_stop (r.row all_kept) (with_values (with_names empty_draft cs) x vs es) rest (follows_tables h).no_comma) }
+  state = with_values (with_names empty_draft cs) x vs es;
+  form = r.InsertForm t;
+  tree = refl;
+  texts = refl;
+  is = λ rest h.
+      ap (λ a. and_then a (r.insert_into all_kept)) (name_got empty_draft t ((ts ++ d.key (codes "values") ∷ us) ++ rest) i)
+      ∙ ap (r.insert_into all_kept empty_draft t) (append_assoc ts (d.key (codes "values") ∷ us) rest)
+      ∙ ap (λ a. and_then a (r.insert_values all_kept t)) (listed_got f empty_draft (d.key (codes "values") ∷ (us ++ rest)) refl)
+      ∙ ap (λ a. and_then a (r.insert_form all_kept t))
+      (tuples_got e (with_names empty_draft cs) rest ∙ commas_stop (r.row all_kept) (with_values (with_names empty_draft cs) x vs es) rest (follows_tables h).no_comma);
+}
 made (update {ts} {us} {r = q} {s} {xs} {f} t i e w) = record {
-    state = with_sets empty_draft s xs;
-    form = r.UpdateForm t f;
-    tree = refl;
-    texts = refl;
-    is = λ rest h.
-        let l = follow_where w (three h) in
-        ap (λ a. and_then a (r.update_sets all_kept)) (name_got empty_draft t (d.key (codes "set") ∷ ((ts ++ us) ++ rest)) i)
-        ∙ ap (λ y. r.update_sets all_kept empty_draft t (d.key (codes "set") ∷ y)) (append_assoc ts us rest)
-        ∙ ap (λ a. and_then a (r.update_where all_kept t))
-        (sets_got e empty_draft (us ++ rest) (follows_or l) ∙ commas_stop (r.set_item all_kept) (with_sets empty_draft q xs) (us ++ rest) (follows_tables l).no_comma)
-        ∙ ap (λ a. and_then a (r.update_form all_kept t)) (clause_got w (with_sets empty_draft q xs) rest (follows_or h) (no_where (three h))) }
+  state = with_sets empty_draft s xs;
+  form = r.UpdateForm t f;
+  tree = refl;
+  texts = refl;
+  is = λ rest h.
+      let l = follow_where w (three h) in
+      ap (λ a. and_then a (r.update_sets all_kept)) (name_got empty_draft t (d.key (codes "set") ∷ ((ts ++ us) ++ rest)) i)
+      ∙ ap (λ y. r.update_sets all_kept empty_draft t (d.key (codes "set") ∷ y)) (append_assoc ts us rest)
+      ∙ ap (λ a. and_then a (r.update_where all_kept t))
+      (sets_got e empty_draft (us ++ rest) (follows_or l) ∙ commas_stop (r.set_item all_kept) (with_sets empty_draft q xs) (us ++ rest) (follows_tables l).no_comma)
+      ∙ ap (λ a. and_then a (r.update_form all_kept t)) (clause_got w (with_sets empty_draft q xs) rest (follows_or h) (no_where (three h)));
+}
 made (delete {ts} {r = q} {f} t i w) = record {
-    state = record empty_draft { read = q };
-    form = r.DeleteForm t f;
-    tree = refl;
-    texts = refl;
-    is = λ rest h.
-        ap (λ a. and_then a (r.delete_where all_kept)) (name_got empty_draft t (ts ++ rest) i)
-        ∙ ap (λ a. and_then a (r.delete_form all_kept t)) (clause_got w empty_draft rest (follows_or h) (no_where (three h))) }
+  state = record empty_draft { read = q };
+  form = r.DeleteForm t f;
+  tree = refl;
+  texts = refl;
+  is = λ rest h.
+      ap (λ a. and_then a (r.delete_where all_kept)) (name_got empty_draft t (ts ++ rest) i)
+      ∙ ap (λ a. and_then a (r.delete_form all_kept t)) (clause_got w empty_draft rest (follows_or h) (no_where (three h)));
+}
 made (vacuum t i) = record {
-    state = empty_draft;
-    form = r.VacuumForm t;
-    tree = refl;
-    texts = refl;
-    is = λ rest h. ap (λ a. and_then a (r.of_name all_kept r.VacuumForm)) (name_got empty_draft t rest i) }
+  state = empty_draft;
+  form = r.VacuumForm t;
+  tree = refl;
+  texts = refl;
+  is = λ rest h. ap (λ a. and_then a (r.of_name all_kept r.VacuumForm)) (name_got empty_draft t rest i);
+}
 made (select {ts} {q} {x} e) = record {
-    state = drafted q x;
-    form = r.SelectForm (headed q);
-    tree = refl;
-    texts = refl;
-    is = λ rest h. let s = select_got e rest h in select_command s.0 q x rest (ts ++ rest) s.1 s.2 }
+  state = drafted q x;
+  form = r.SelectForm (headed q);
+  tree = refl;
+  texts = refl;
+  is = λ rest h. let s = select_got e rest h in select_command s.0 q x rest (ts ++ rest) s.1 s.2;
+}
 made (open_cursor {ts} {q} {x} c i e) = record {
-    state = drafted q x;
-    form = r.OpenForm c (headed q);
-    tree = refl;
-    texts = refl;
-    is = λ rest h.
-        let s = select_got e rest h in
-        ap (λ a. and_then a (r.open_for all_kept)) (name_got empty_draft c (d.key (codes "for") ∷ (ts ++ rest)) i)
-        ∙ ap (λ y. r.open_for all_kept empty_draft c (d.key (codes "for") ∷ y)) s.1
-        ∙ ap (λ a. and_then a (r.open_form all_kept c)) s.2 }
+  state = drafted q x;
+  form = r.OpenForm c (headed q);
+  tree = refl;
+  texts = refl;
+  is = λ rest h.
+      let s = select_got e rest h in
+      ap (λ a. and_then a (r.open_for all_kept)) (name_got empty_draft c (d.key (codes "for") ∷ (ts ++ rest)) i)
+      ∙ ap (λ y. r.open_for all_kept empty_draft c (d.key (codes "for") ∷ y)) s.1
+      ∙ ap (λ a. and_then a (r.open_form all_kept c)) s.2;
+}
 made (start c ds i) = record {
-    state = empty_draft;
-    form = r.StartForm c (number_of ds);
-    tree = refl;
-    texts = refl;
-    is = λ rest h. ap (λ a. and_then a (r.of_both all_kept r.StartForm)) (name_got empty_draft c (Digits ds ∷ rest) i) }
+  state = empty_draft;
+  form = r.StartForm c (number_of ds);
+  tree = refl;
+  texts = refl;
+  is = λ rest h. ap (λ a. and_then a (r.of_both all_kept r.StartForm)) (name_got empty_draft c (Digits ds ∷ rest) i);
+}
 made (work ds) = record { state = empty_draft; form = r.WorkForm (number_of ds); tree = refl; texts = refl; is = λ rest h. refl }
 made (fetch c ds i) = record {
-    state = empty_draft;
-    form = r.FetchForm c (number_of ds);
-    tree = refl;
-    texts = refl;
-    is = λ rest h. ap (λ a. and_then a (r.of_both all_kept r.FetchForm)) (name_got empty_draft c (Digits ds ∷ rest) i) }
+  state = empty_draft;
+  form = r.FetchForm c (number_of ds);
+  tree = refl;
+  texts = refl;
+  is = λ rest h. ap (λ a. and_then a (r.of_both all_kept r.FetchForm)) (name_got empty_draft c (Digits ds ∷ rest) i);
+}
 made (close c i) = record {
-    state = empty_draft;
-    form = r.CloseForm c;
-    tree = refl;
-    texts = refl;
-    is = λ rest h. ap (λ a. and_then a (r.of_name all_kept r.CloseForm)) (name_got empty_draft c rest i) }
+  state = empty_draft;
+  form = r.CloseForm c;
+  tree = refl;
+  texts = refl;
+  is = λ rest h. ap (λ a. and_then a (r.of_name all_kept r.CloseForm)) (name_got empty_draft c rest i);
+}
 made (pool ds) = record { state = empty_draft; form = r.PoolForm (number_of ds); tree = refl; texts = refl; is = λ rest h. refl }
 made (mpl ds) = record { state = empty_draft; form = r.MplForm (number_of ds); tree = refl; texts = refl; is = λ rest h. refl }
 made show_memory = record { state = empty_draft; form = r.MemoryForm; tree = refl; texts = refl; is = λ rest h. refl }

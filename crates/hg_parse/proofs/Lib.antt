@@ -6,3 +6,7 @@ pub mod FoundParts
 pub mod FoundLines
 pub mod OnAnswers
 pub mod Read
+pub mod ReadParts
+pub mod ReadLines
+pub mod ReadCommands
+pub mod OneReading

@@ -74,10 +74,11 @@ column_of_read g s ts c us h =
     on_eats (λ a. OnAnswer a (ColumnRead g ts)) dot us _ _
     (λ e. on_then (Named s (behind us)) (ColumnRead g ts) (d.name s (behind us)) (λ s x vs. got s (d.named_of c x) vs) (name_read s (behind us))
     (λ t x vs n. record {
-        same = n.same ∙ h.same;
-        front = Word c ∷ dot ∷ Word x ∷ [];
-        parts = h.parts ∙ ap (λ l. Word c ∷ l) (e ∙ ap (λ l. dot ∷ l) n.parts);
-        reads = dotted c x h.name n.name }))
+      same = n.same ∙ h.same;
+      front = Word c ∷ dot ∷ Word x ∷ [];
+      parts = h.parts ∙ ap (λ l. Word c ∷ l) (e ∙ ap (λ l. dot ∷ l) n.parts);
+      reads = dotted c x h.name n.name;
+    }))
     (record { same = h.same; front = Word c ∷ []; parts = h.parts; reads = bare c h.name })
 
 pub column_read : {S : Type 0} (g : S) (ts : List Token) → OnAnswer (d.column g ts) (ColumnRead g ts)
@@ -179,17 +180,19 @@ module _ (k : ℕ) (nested : (g : Draft) (ts : List Token) → OnAnswer (inner k
       (λ b. let both = and_parts (d.is_count f) (eats star us) b in
       on_after (ReadBy Prim (suc j) g (Word w ∷ ts)) close_sign (behind us) (λ vs. d.with_next plain g (node.Aggregate of.CountRows None) vs)
       (λ c. record {
-          same = refl;
-          front = Word (codes "count") ∷ open_sign ∷ star ∷ close_sign ∷ [];
-          parts = ap (λ t. t ∷ ts) (count_is i both.0) ∙ ap (λ l. Word (codes "count") ∷ l) (e ∙ ap (λ l. open_sign ∷ l) (eats_is star us both.1 ∙ ap (λ l. star ∷ l) c));
-          reads = agg_rows }))
+        same = refl;
+        front = Word (codes "count") ∷ open_sign ∷ star ∷ close_sign ∷ [];
+        parts = ap (λ t. t ∷ ts) (count_is i both.0) ∙ ap (λ l. Word (codes "count") ∷ l) (e ∙ ap (λ l. open_sign ∷ l) (eats_is star us both.1 ∙ ap (λ l. star ∷ l) c));
+        reads = agg_rows;
+      }))
       (λ b. on_then (Closed (ReadBy Or j g us)) (ReadBy Prim (suc j) g (Word w ∷ ts)) (closed (inner k g us)) (λ t n vs. d.with_next plain t (node.Aggregate f (Some n)) vs)
       (on_closed (ReadBy Or j g us) (inner k g us) (inside g us))
       (λ t n vs c. record {
-          same = noded g (with_node t.read (node.Aggregate f (Some n))) c.holds.same;
-          front = Word w ∷ open_sign ∷ (c.holds.front ++ close_sign ∷ []);
-          parts = ap (λ l. Word w ∷ l) (e ∙ ap (λ l. open_sign ∷ l) (joined c.holds.front [] vs c.holds.parts c.parts refl));
-          reads = agg_one i c.holds.reads }))
+        same = noded g (with_node t.read (node.Aggregate f (Some n))) c.holds.same;
+        front = Word w ∷ open_sign ∷ (c.holds.front ++ close_sign ∷ []);
+        parts = ap (λ l. Word w ∷ l) (e ∙ ap (λ l. open_sign ∷ l) (joined c.holds.front [] vs c.holds.parts c.parts refl));
+        reads = agg_one i c.holds.reads;
+      }))
 
   fold_read : (g : Draft) (w : List ℕ) (ts : List Token) (o : Option Fold) → OnOption o (IsFold (Word w)) → OnAnswer (d.fold_at plain k (inner k) g o ts) (ReadBy Prim k g (Word w ∷ ts))
   fold_read g w ts None h = tt
@@ -213,10 +216,11 @@ module _ (k : ℕ) (nested : (g : Draft) (ts : List Token) → OnAnswer (inner k
       (λ e. on_then (ColumnRead g (Word w ∷ ts)) (ReadBy Prim k g (Word w ∷ ts)) (d.column_of g w ts) (λ t c us. d.with_next plain t (node.Col c) us)
       (column_of_read g g (Word w ∷ ts) w ts (record { same = refl; parts = refl; name = e }))
       (λ t c us h. record {
-          same = ap (λ x. at x (with_node t.read (node.Col c))) h.same;
-          front = h.front;
-          parts = h.parts;
-          reads = subst (λ x. Expression Prim k g.read h.front (with_node x.read (node.Col c)) (next x.read)) (sym h.same) (prim_column h.reads) }))
+        same = ap (λ x. at x (with_node t.read (node.Col c))) h.same;
+        front = h.front;
+        parts = h.parts;
+        reads = subst (λ x. Expression Prim k g.read h.front (with_node x.read (node.Col c)) (next x.read)) (sym h.same) (prim_column h.reads);
+      }))
   prim_read g (Digits ds ∷ ts) = record { same = refl; front = Digits ds ∷ []; parts = refl; reads = prim_number ds }
   prim_read g (Letters t ∷ ts) = record { same = refl; front = Letters t ∷ []; parts = refl; reads = prim_text t }
   prim_read g (Sign w ∷ ts) =
@@ -229,10 +233,11 @@ module _ (k : ℕ) (nested : (g : Draft) (ts : List Token) → OnAnswer (inner k
           on_each (Closed (ReadBy Or j g ts)) (ReadBy Prim (suc j) g (Sign w ∷ ts)) (closed (inner k g ts))
           (on_closed (ReadBy Or j g ts) (inner k g ts) (n g ts))
           (λ t x vs c. record {
-              same = c.holds.same;
-              front = open_sign ∷ (c.holds.front ++ close_sign ∷ []);
-              parts = ap (λ v. Sign v ∷ ts) (same_text w (40 ∷ []) (sym e)) ∙ ap (λ l. open_sign ∷ l) (joined c.holds.front [] vs c.holds.parts c.parts refl);
-              reads = prim_nested c.holds.reads })
+            same = c.holds.same;
+            front = open_sign ∷ (c.holds.front ++ close_sign ∷ []);
+            parts = ap (λ v. Sign v ∷ ts) (same_text w (40 ∷ []) (sym e)) ∙ ap (λ l. open_sign ∷ l) (joined c.holds.front [] vs c.holds.parts c.parts refl);
+            reads = prim_nested c.holds.reads;
+          })
 
   -- an operand between two tokens
   prim_signed : (g : Draft) (ts : List Token) → OnAnswer (d.prim plain k (inner k) g ts) (ReadBy Factor k g ts)
@@ -250,10 +255,11 @@ module _ (k : ℕ) (nested : (g : Draft) (ts : List Token) → OnAnswer (inner k
       (on_eats Q minus ts _ _
       (λ e. on_then (ReadBy Prim k g (behind ts)) (ReadBy Factor k g ts) (d.prim plain k (inner k) g (behind ts)) (λ t n us. d.with_next plain t (node.Neg n) us) (prim_read g (behind ts))
       (λ t n us h. record {
-          same = noded g (with_node t.read (node.Neg n)) h.same;
-          front = minus ∷ h.front;
-          parts = put_first h.front us e h.parts;
-          reads = factor_minus h.reads }))
+        same = noded g (with_node t.read (node.Neg n)) h.same;
+        front = minus ∷ h.front;
+        parts = put_first h.front us e h.parts;
+        reads = factor_minus h.reads;
+      }))
       (prim_signed g ts))
 
   -- an operator between two operands
@@ -265,10 +271,11 @@ module _ (k : ℕ) (nested : (g : Draft) (ts : List Token) → OnAnswer (inner k
   joins_read l m op make operand reads rule g ts s a us h e =
       on_then (ReadBy m k s (behind us)) (ReadBy l k g ts) (operand s (behind us)) (λ t n vs. d.with_next plain t (make a n) vs) (reads s (behind us))
       (λ t n vs f. record {
-          same = noded g (with_node t.read (make a n)) (later g h.same f.same);
-          front = h.front ++ op ∷ f.front;
-          parts = joined h.front f.front vs h.parts e f.parts;
-          reads = rule g.read s.read t.read h.front f.front a n h.reads f.reads })
+        same = noded g (with_node t.read (make a n)) (later g h.same f.same);
+        front = h.front ++ op ∷ f.front;
+        parts = joined h.front f.front vs h.parts e f.parts;
+        reads = rule g.read s.read t.read h.front f.front a n h.reads f.reads;
+      })
 
   -- term
   term_read : (g : Draft) (ts : List Token) → OnAnswer (d.term plain k (inner k) g ts) (ReadBy Term k g ts)
@@ -301,10 +308,11 @@ module _ (k : ℕ) (nested : (g : Draft) (ts : List Token) → OnAnswer (inner k
       let v : ReadSoFar = with_node t.read (node.Compare cmp.Eq m n) in
       let w : ReadSoFar = with_node v (node.Either a (next t.read)) in
       record {
-          same = noded g w (later g h.same f.same);
-          front = h.front ++ comma ∷ f.front;
-          parts = joined h.front f.front vs h.parts e f.parts;
-          reads = subst (λ i. Expression (Items m) k g.read (h.front ++ comma ∷ f.front) w i) (sym (next_with t.read (node.Compare cmp.Eq m n))) (items_more h.reads f.reads) })
+        same = noded g w (later g h.same f.same);
+        front = h.front ++ comma ∷ f.front;
+        parts = joined h.front f.front vs h.parts e f.parts;
+        reads = subst (λ i. Expression (Items m) k g.read (h.front ++ comma ∷ f.front) w i) (sym (next_with t.read (node.Compare cmp.Eq m n))) (items_more h.reads f.reads);
+      })
 
   items_read : (m : ℕ) (g : Draft) (ts : List Token) → OnAnswer (d.items plain k (inner k) m g ts) (ReadBy (Items m) k g ts)
   unfolding d.items
@@ -312,10 +320,11 @@ module _ (k : ℕ) (nested : (g : Draft) (ts : List Token) → OnAnswer (inner k
       on_then (ReadBy (Items m) k g ts) (ReadBy (Items m) k g ts) (d.joins plain (d.sum plain k (inner k)) (node.Compare cmp.Eq) g m ts) (λ t n us. chain (d.items_turn plain k (inner k) m) t n us)
       (on_then (ReadBy Sum k g ts) (ReadBy (Items m) k g ts) (d.sum plain k (inner k) g ts) (λ t n us. d.with_next plain t (node.Compare cmp.Eq m n) us) (sum_read g ts)
       (λ t n us h. record {
-          same = noded g (with_node t.read (node.Compare cmp.Eq m n)) h.same;
-          front = h.front;
-          parts = h.parts;
-          reads = items_one h.reads }))
+        same = noded g (with_node t.read (node.Compare cmp.Eq m n)) h.same;
+        front = h.front;
+        parts = h.parts;
+        reads = items_one h.reads;
+      }))
       (λ t n us h. on_chain (ReadBy (Items m) k g ts) (d.items_turn plain k (inner k) m)
       (λ s a vs f. on_eats (λ r. OnTurn r (ReadBy (Items m) k g ts)) comma vs _ _ (λ e. items_step m g ts s a vs f e) tt) t n us h)
 
@@ -325,10 +334,11 @@ module _ (k : ℕ) (nested : (g : Draft) (ts : List Token) → OnAnswer (inner k
       (λ e. on_each (Closed (ReadBy (Items m) k s (behind us))) (ListRead k m s us) (closed (d.items plain k (inner k) m s (behind us)))
       (on_closed (ReadBy (Items m) k s (behind us)) (d.items plain k (inner k) m s (behind us)) (items_read m s (behind us)))
       (λ t n rest c. record {
-          same = c.holds.same;
-          front = c.holds.front;
-          parts = put_first (c.holds.front ++ close_sign ∷ []) rest e (joined c.holds.front [] rest c.holds.parts c.parts refl);
-          reads = c.holds.reads }))
+        same = c.holds.same;
+        front = c.holds.front;
+        parts = put_first (c.holds.front ++ close_sign ∷ []) rest e (joined c.holds.front [] rest c.holds.parts c.parts refl);
+        reads = c.holds.reads;
+      }))
 
   -- BETWEEN
   upper_read : (m : ℕ) (s : Draft) (ts : List Token) (t : Draft) (a : ℕ) (us : List Token) → ReadBy Sum k s ts t a us
@@ -338,18 +348,19 @@ module _ (k : ℕ) (nested : (g : Draft) (ts : List Token) → OnAnswer (inner k
       on_after (EndsRead k m s ts) (d.key (codes "and")) us (λ vs. and_then (d.sum plain k (inner k) g vs) (d.both_ends plain m (next t.read)))
       (λ e. on_then (ReadBy Sum k g (behind us)) (EndsRead k m s ts) (d.sum plain k (inner k) g (behind us)) (d.both_ends plain m (next t.read)) (sum_read g (behind us))
       (λ u b rest f. record {
-          middle = t.read;
-          last = u.read;
-          lower = a;
-          upper = b;
-          low = h.front;
-          high = f.front;
-          same = noded s (with_node (with_node u.read (node.Compare cmp.Le m b)) (node.Both (next t.read) (next u.read))) (f.same ∙ noded s u.read h.same);
-          state = refl;
-          index = next_with u.read (node.Compare cmp.Le m b);
-          parts = joined h.front f.front rest h.parts e f.parts;
-          first = h.reads;
-          second = f.reads }))
+        middle = t.read;
+        last = u.read;
+        lower = a;
+        upper = b;
+        low = h.front;
+        high = f.front;
+        same = noded s (with_node (with_node u.read (node.Compare cmp.Le m b)) (node.Both (next t.read) (next u.read))) (f.same ∙ noded s u.read h.same);
+        state = refl;
+        index = next_with u.read (node.Compare cmp.Le m b);
+        parts = joined h.front f.front rest h.parts e f.parts;
+        first = h.reads;
+        second = f.reads;
+      }))
 
   between_read : (m : ℕ) (s : Draft) (ts : List Token) → OnAnswer (d.between plain k (inner k) s m ts) (EndsRead k m s ts)
   between_read m s ts =
@@ -363,17 +374,19 @@ module _ (k : ℕ) (nested : (g : Draft) (ts : List Token) → OnAnswer (inner k
       on_eats (λ a. OnAnswer a (ReadBy Pred k g ts)) (d.key (codes "between")) vs _ _
       (λ l. on_then (EndsRead k m s (behind vs)) (ReadBy Pred k g ts) (d.between plain k (inner k) s m (behind vs)) (d.denied plain) (between_read m s (behind vs))
       (λ t n rest b. record {
-          same = noded g (with_node t.read (node.Not n)) (later g h.same b.same);
-          front = h.front ++ d.key (codes "not") ∷ d.key (codes "between") ∷ (b.low ++ d.key (codes "and") ∷ b.high);
-          parts = joined h.front (d.key (codes "between") ∷ (b.low ++ d.key (codes "and") ∷ b.high)) rest h.parts e (put_first (b.low ++ d.key (codes "and") ∷ b.high) rest l b.parts);
-          reads = not_between_so k g.read s.read h.front m t.read n b.middle b.last b.low b.high b.lower b.upper b.state b.index h.reads b.first b.second }))
+        same = noded g (with_node t.read (node.Not n)) (later g h.same b.same);
+        front = h.front ++ d.key (codes "not") ∷ d.key (codes "between") ∷ (b.low ++ d.key (codes "and") ∷ b.high);
+        parts = joined h.front (d.key (codes "between") ∷ (b.low ++ d.key (codes "and") ∷ b.high)) rest h.parts e (put_first (b.low ++ d.key (codes "and") ∷ b.high) rest l b.parts);
+        reads = not_between_so k g.read s.read h.front m t.read n b.middle b.last b.low b.high b.lower b.upper b.state b.index h.reads b.first b.second;
+      }))
       (on_eats (λ a. OnAnswer a (ReadBy Pred k g ts)) (d.key (codes "in")) vs _ _
       (λ l. on_then (ListRead k m s (behind vs)) (ReadBy Pred k g ts) (d.in_list plain k (inner k) s m (behind vs)) (d.denied plain) (in_read m s (behind vs))
       (λ t n rest b. record {
-          same = noded g (with_node t.read (node.Not n)) (later g h.same b.same);
-          front = h.front ++ d.key (codes "not") ∷ d.key (codes "in") ∷ open_sign ∷ (b.front ++ close_sign ∷ []);
-          parts = joined h.front (d.key (codes "in") ∷ open_sign ∷ (b.front ++ close_sign ∷ [])) rest h.parts e (put_first (open_sign ∷ (b.front ++ close_sign ∷ [])) rest l b.parts);
-          reads = pred_not_in h.reads b.reads })) tt)
+        same = noded g (with_node t.read (node.Not n)) (later g h.same b.same);
+        front = h.front ++ d.key (codes "not") ∷ d.key (codes "in") ∷ open_sign ∷ (b.front ++ close_sign ∷ []);
+        parts = joined h.front (d.key (codes "in") ∷ open_sign ∷ (b.front ++ close_sign ∷ [])) rest h.parts e (put_first (open_sign ∷ (b.front ++ close_sign ∷ [])) rest l b.parts);
+        reads = pred_not_in h.reads b.reads;
+      })) tt)
 
   is_read : (g : Draft) (ts : List Token) (s : Draft) (m : ℕ) (us : List Token) → ReadBy Sum k g ts s m us → us ≡ d.key (codes "is") ∷ behind us
       → OnAnswer (d.is_tail plain s m (behind us)) (ReadBy Pred k g ts)
@@ -382,16 +395,18 @@ module _ (k : ℕ) (nested : (g : Draft) (ts : List Token) → OnAnswer (inner k
       on_eats (λ a. OnAnswer a (ReadBy Pred k g ts)) (d.key (codes "not")) vs _ _
       (λ l. on_after (ReadBy Pred k g ts) (d.key (codes "null")) (behind vs) (λ ws. d.with_next plain s (node.NotNull m) ws)
       (λ n. record {
-          same = noded g (with_node s.read (node.NotNull m)) h.same;
-          front = h.front ++ d.key (codes "is") ∷ d.key (codes "not") ∷ d.key (codes "null") ∷ [];
-          parts = joined h.front (d.key (codes "not") ∷ d.key (codes "null") ∷ []) (behind (behind vs)) h.parts e (l ∙ ap (λ x. d.key (codes "not") ∷ x) n);
-          reads = pred_not_null h.reads }))
+        same = noded g (with_node s.read (node.NotNull m)) h.same;
+        front = h.front ++ d.key (codes "is") ∷ d.key (codes "not") ∷ d.key (codes "null") ∷ [];
+        parts = joined h.front (d.key (codes "not") ∷ d.key (codes "null") ∷ []) (behind (behind vs)) h.parts e (l ∙ ap (λ x. d.key (codes "not") ∷ x) n);
+        reads = pred_not_null h.reads;
+      }))
       (on_after (ReadBy Pred k g ts) (d.key (codes "null")) vs (λ ws. d.with_next plain s (node.IsNull m) ws)
       (λ n. record {
-          same = noded g (with_node s.read (node.IsNull m)) h.same;
-          front = h.front ++ d.key (codes "is") ∷ d.key (codes "null") ∷ [];
-          parts = joined h.front (d.key (codes "null") ∷ []) (behind vs) h.parts e n;
-          reads = pred_null h.reads }))
+        same = noded g (with_node s.read (node.IsNull m)) h.same;
+        front = h.front ++ d.key (codes "is") ∷ d.key (codes "null") ∷ [];
+        parts = joined h.front (d.key (codes "null") ∷ []) (behind vs) h.parts e n;
+        reads = pred_null h.reads;
+      }))
 
   word_read : (g : Draft) (ts : List Token) (s : Draft) (m : ℕ) (us : List Token) → ReadBy Sum k g ts s m us → OnAnswer (d.word_tail plain k (inner k) s m us) (ReadBy Pred k g ts)
   word_read g ts s m us h =
@@ -402,17 +417,19 @@ module _ (k : ℕ) (nested : (g : Draft) (ts : List Token) → OnAnswer (inner k
       (on_eats Q (d.key (codes "between")) us _ _
       (λ e. on_each (EndsRead k m s vs) (ReadBy Pred k g ts) (d.between plain k (inner k) s m vs) (between_read m s vs)
       (λ t n rest b. record {
-          same = later g h.same b.same;
-          front = h.front ++ d.key (codes "between") ∷ (b.low ++ d.key (codes "and") ∷ b.high);
-          parts = joined h.front (b.low ++ d.key (codes "and") ∷ b.high) rest h.parts e b.parts;
-          reads = between_so k g.read s.read h.front m t.read n b.middle b.last b.low b.high b.lower b.upper b.state b.index h.reads b.first b.second }))
+        same = later g h.same b.same;
+        front = h.front ++ d.key (codes "between") ∷ (b.low ++ d.key (codes "and") ∷ b.high);
+        parts = joined h.front (b.low ++ d.key (codes "and") ∷ b.high) rest h.parts e b.parts;
+        reads = between_so k g.read s.read h.front m t.read n b.middle b.last b.low b.high b.lower b.upper b.state b.index h.reads b.first b.second;
+      }))
       (on_eats Q (d.key (codes "in")) us _ _
       (λ e. on_each (ListRead k m s vs) (ReadBy Pred k g ts) (d.in_list plain k (inner k) s m vs) (in_read m s vs)
       (λ t n rest b. record {
-          same = later g h.same b.same;
-          front = h.front ++ d.key (codes "in") ∷ open_sign ∷ (b.front ++ close_sign ∷ []);
-          parts = joined h.front (open_sign ∷ (b.front ++ close_sign ∷ [])) rest h.parts e b.parts;
-          reads = pred_in h.reads b.reads }))
+        same = later g h.same b.same;
+        front = h.front ++ d.key (codes "in") ∷ open_sign ∷ (b.front ++ close_sign ∷ []);
+        parts = joined h.front (open_sign ∷ (b.front ++ close_sign ∷ [])) rest h.parts e b.parts;
+        reads = pred_in h.reads b.reads;
+      }))
       (record { same = h.same; front = h.front; parts = h.parts; reads = pred_sum h.reads }))))
 
   tail_read : (g : Draft) (ts : List Token) (s : Draft) (m : ℕ) (us : List Token) (o : Option Cmp) → OnOption o (CmpRead us) → ReadBy Sum k g ts s m us
@@ -421,10 +438,11 @@ module _ (k : ℕ) (nested : (g : Draft) (ts : List Token) → OnAnswer (inner k
   tail_read g ts s m us (Some o) c h =
       on_then (ReadBy Sum k s (behind us)) (ReadBy Pred k g ts) (d.sum plain k (inner k) s (behind us)) (λ t n vs. d.with_next plain t (node.Compare o m n) vs) (sum_read s (behind us))
       (λ t n vs f. record {
-          same = noded g (with_node t.read (node.Compare o m n)) (later g h.same f.same);
-          front = h.front ++ c.sign ∷ f.front;
-          parts = joined h.front f.front vs h.parts c.parts f.parts;
-          reads = pred_cmp h.reads c.is f.reads })
+        same = noded g (with_node t.read (node.Compare o m n)) (later g h.same f.same);
+        front = h.front ++ c.sign ∷ f.front;
+        parts = joined h.front f.front vs h.parts c.parts f.parts;
+        reads = pred_cmp h.reads c.is f.reads;
+      })
 
   pred_read : (g : Draft) (ts : List Token) → OnAnswer (d.pred plain k (inner k) g ts) (ReadBy Pred k g ts)
   unfolding d.pred
@@ -439,10 +457,11 @@ module _ (k : ℕ) (nested : (g : Draft) (ts : List Token) → OnAnswer (inner k
       on_eats (λ a. OnAnswer a (ReadBy Not k g ts)) (d.key (codes "not")) ts _ _
       (λ e. on_then (ReadBy Pred k g (behind ts)) (ReadBy Not k g ts) (d.pred plain k (inner k) g (behind ts)) (d.denied plain) (pred_read g (behind ts))
       (λ t n us h. record {
-          same = noded g (with_node t.read (node.Not n)) h.same;
-          front = d.key (codes "not") ∷ h.front;
-          parts = put_first h.front us e h.parts;
-          reads = not_one h.reads }))
+        same = noded g (with_node t.read (node.Not n)) h.same;
+        front = d.key (codes "not") ∷ h.front;
+        parts = put_first h.front us e h.parts;
+        reads = not_one h.reads;
+      }))
       (on_each (ReadBy Pred k g ts) (ReadBy Not k g ts) (d.pred plain k (inner k) g ts) (pred_read g ts)
       (λ t n us h. record { same = h.same; front = h.front; parts = h.parts; reads = not_none h.reads }))
 

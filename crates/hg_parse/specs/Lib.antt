@@ -3,3 +3,4 @@ pub mod Building
 pub mod Descent
 pub mod Follow
 pub mod Rules
+pub mod Readings
