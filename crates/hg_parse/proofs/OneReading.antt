@@ -7,6 +7,7 @@ use Rattle.hg_model.specs.Reading.{Reading, Blank, Syntax, BadNumber, TooMany, S
 use Rattle.hg_model.specs.Statements.{CommandTree}
 use Rattle.hg_model.specs.Tokens.{Token, Spells}
 use Rattle.hg_model.specs.declared.trees.Count.{Count}
+use Rattle.hg_parse.specs.Laws.{OneTree}
 use Rattle.hg_parse.specs.Readings.{counted, judged, by_line, by_tokens}
 use Rattle.hg_parse.specs.Rules.{Line, line_of, command}
 use Rattle.hg_parse.proofs.FoundLines.{line_found}
@@ -24,6 +25,12 @@ line_tokens max (t ∷ ts) l e = ap (by_line max (t ∷ ts)) e
 
 has_line : (ts : List Token) (l : Line) → line_of ts ≡ Some l → IsLine ts l.command l.texts
 has_line ts l e = subst (λ o. OnOption o (λ l. IsLine ts l.command l.texts)) e (line_read ts)
+
+some_line : (ts : List Token) (c : CommandTree) (x : List ℕ) → line_of ts ≡ Some (record { command = c; texts = x }) → IsLine ts c x
+some_line ts c x e = has_line ts (record { command = c; texts = x }) e
+
+pub one_tree : OneTree
+one_tree ts c x = (line_found, some_line ts c x)
 
 module _ (tokens_of : List ℕ → Option (List Token)) (spelled : (ts : List Token) (line : List ℕ) → Spells ts line ↔ (tokens_of line ≡ Some ts)) where
   no_reading : (max : ℕ) (line : List ℕ) (ts : List Token) → ((ts : List Token) (c : CommandTree) (x : List ℕ) → Spells ts line → IsLine ts c x → ⊥) → Spells ts line

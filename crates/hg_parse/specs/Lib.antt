@@ -4,3 +4,4 @@ pub mod Descent
 pub mod Follow
 pub mod Rules
 pub mod Readings
+pub mod Laws

@@ -1,7 +1,18 @@
-//! The parser.
+//! What a line of a script is read as: the law that the grammar reads it in one way.
+//!
+//! ```text
+//!     bytes --(hg_scan)--> tokens --(the descent)--> tree and texts --(ranges, counts)--> reading
+//!
+//!     line_of    one function for each rule of the grammar, with one token of look-ahead: chains group
+//!                from the left by a loop, and parentheses nest at most 32 deep
+//!     found      each derivation of the grammar is found by the descent, whatever stands behind it
+//!     read       what the descent gives has a derivation
+//! ```
+//!
+//! It stands on the grammar of `hg_model`. The contract that the layer above uses is that of
+//! [`tokens_have_one_tree`].
 #![tactic(auto)]
 
-/// Whether.
-pub fn trial() -> bool {
-    true
-}
+mod laws;
+
+pub use laws::tokens_have_one_tree;
