@@ -1,0 +1,7 @@
+mod FrontKinds
+mod Texts
+mod Cuts
+mod Packed
+mod Digits
+mod Undoubling
+mod Spellings

@@ -1,0 +1,6 @@
+use Rattle.std.proofs.lemmas.Str.{IsUtf8-from_ascii}
+use Rattle.hg_scan.proofs.Undoubling.{ascii_of}
+use Rattle.hg_scan.proofs.text.as_text.Goals as goal
+
+pub from_utf8_unchecked-requires : goal.from_utf8_unchecked-requires
+from_utf8_unchecked-requires c = IsUtf8-from_ascii c.args.bytes.now (ascii_of c.args.bytes.now c.requires)
