@@ -10,3 +10,6 @@ pub mod ReadParts
 pub mod ReadLines
 pub mod ReadCommands
 pub mod OneReading
+pub mod Keeps
+pub mod Images
+pub mod RuleImages

@@ -5,3 +5,4 @@ pub mod Follow
 pub mod Rules
 pub mod Readings
 pub mod Laws
+pub mod Keeping

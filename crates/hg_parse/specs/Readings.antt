@@ -4,6 +4,7 @@ use Rattle.hg_model.specs.Reading.{Reading, Blank, Syntax, BadNumber, TooMany, S
 use Rattle.hg_model.specs.Tokens.{Token}
 use Rattle.hg_model.specs.declared.trees.Count.{Count}
 use Rattle.hg_parse.specs.Rules.{Line, line_of}
+use Rattle.hg_scan.specs.Cutting.{tokens_of}
 
 abbrev pub counted : Line → Option Count → Reading
 counted l None = Statement l.command l.texts
@@ -21,3 +22,7 @@ abbrev pub by_tokens : ℕ → Option (List Token) → Reading
 by_tokens max None = Syntax
 by_tokens max (Some []) = Blank
 by_tokens max (Some (t ∷ ts)) = by_line max (t ∷ ts) (line_of (t ∷ ts))
+
+-- what a line is read as
+abbrev pub reading_of : ℕ → List ℕ → Reading
+reading_of max line = by_tokens max (tokens_of line)

@@ -10,9 +10,11 @@
 //! ```
 //!
 //! It stands on the grammar of `hg_model`. The contract that the layer above uses is that of
-//! [`tokens_have_one_tree`].
+//! [`a_line_has_one_reading`], with [`a_line_is_read_by_descent`].
 #![tactic(auto)]
 
 mod laws;
 
-pub use laws::tokens_have_one_tree;
+pub use laws::{
+    a_line_has_one_reading, a_line_is_read_by_descent, fronts_are_kept, tokens_have_one_tree,
+};
