@@ -1,0 +1,15 @@
+pub mod Chains
+pub mod Begins
+pub mod Found
+pub mod Following
+pub mod FoundParts
+pub mod FoundLines
+pub mod OnAnswers
+pub mod Read
+pub mod ReadParts
+pub mod ReadLines
+pub mod ReadCommands
+pub mod OneReading
+pub mod Keeps
+pub mod Images
+pub mod RuleImages
