@@ -541,10 +541,7 @@ fn an_engine_serves_after_a_sink_fault(rt: HostRuntime) -> Result<(), Fail> {
     script.extend_from_slice(b"CREATE TABLE never (a INTEGER)\n".as_slice())?;
     let next = "INSERT INTO never VALUES (1)\nCREATE TABLE u (a INTEGER)\nSELECT * FROM u\n";
     let mut one = MemSource::new(script, Vec::new(alloc));
-    let mut other = MemSource::new(
-        Vec::from_slice(alloc, next.as_bytes())?,
-        Vec::new(alloc),
-    );
+    let mut other = MemSource::new(Vec::from_slice(alloc, next.as_bytes())?, Vec::new(alloc));
     let mut broken_sink = MemSink::new(alloc, Vec::from_slice(alloc, &[2])?);
     let mut sink = MemSink::new(alloc, Vec::new(alloc));
     let config = Config {

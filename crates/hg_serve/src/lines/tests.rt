@@ -131,9 +131,6 @@ fn limits(rt: HostRuntime) -> Result<(), Fail> {
     assert_eq!(rt; reader.read(&blanks, false).0, "too long");
     let commas = [b','; 4096];
     assert_eq!(rt; reader.read(&commas, true).0, "syntax");
-    assert_eq!(rt;
-        reader.read(b"SELECT * FROM t\r", false).0,
-        "syntax"
-    );
+    assert_eq!(rt; reader.read(b"SELECT * FROM t\r", false).0, "syntax");
     Ok(())
 }
