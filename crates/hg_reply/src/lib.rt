@@ -6,6 +6,7 @@
 //! plain machine, and a line that says that a device failed comes only where that device's count rose.
 #![tactic(auto)]
 
+pub mod lines;
 mod machine;
 mod reply;
 mod row;
@@ -13,5 +14,7 @@ mod row;
 pub use machine::{Kind, Machine, Next, StatementRoom};
 pub use reply::{REPLY_BYTES, Reply, ReplyLine};
 
+#[cfg(test)]
+mod lines_tests;
 #[cfg(test)]
 mod tests;
