@@ -13,3 +13,4 @@ pub mod OneReading
 pub mod Keeps
 pub mod Images
 pub mod RuleImages
+pub mod Judged

@@ -6,3 +6,4 @@ pub mod Rules
 pub mod Readings
 pub mod Laws
 pub mod Keeping
+pub mod Judging

@@ -1,6 +1,6 @@
 //! Laws of the grammar. A function here computes nothing: its contract is the law.
 ghost use Rattle.hg_model.specs.Reading.{HasOneReading};
-ghost use Rattle.hg_parse.specs.Laws.{KeepsFronts, OneTree, ReadsByDescent};
+ghost use Rattle.hg_parse.specs.Laws.{JudgesAlike, KeepsFronts, OneTree, ReadsByDescent};
 
 /// A line has at most one tree, and so is read in one way: as nothing, as a syntax error, as having a
 /// number out of range or too many of something, or as one statement.
@@ -22,4 +22,10 @@ pub fn a_line_is_read_by_descent()
 /// keeps fronts of the same lists.
 pub fn fronts_are_kept()
     ensures { KeepsFronts }
+{}
+
+/// What is kept so says of the whole statement whether a number is out of range, and which count is too
+/// great.
+pub fn what_is_kept_judges_alike()
+    ensures { JudgesAlike }
 {}

@@ -17,4 +17,5 @@ mod laws;
 
 pub use laws::{
     a_line_has_one_reading, a_line_is_read_by_descent, fronts_are_kept, tokens_have_one_tree,
+    what_is_kept_judges_alike,
 };
