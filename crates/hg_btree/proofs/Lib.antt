@@ -2,3 +2,4 @@ pub mod Orders
 pub mod Reading
 pub mod Finding
 pub mod Writing
+pub mod Walking

@@ -11,7 +11,7 @@ use Rattle.std.proofs.lemmas.Bool.Decides.{nat_tests}
 use Rattle.std.proofs.lemmas.Cmp.{nat_cmp_total, nat_list_cmp_total, on_total, then_total, upto, tied_itself}
 use Rattle.hg_btree.specs.Entries.{Entry, order, is_below, Before, NotBehind, IsSame}
 
-abbrev by_key : Entry → Entry → Ordering
+abbrev pub by_key : Entry → Entry → Ordering
 by_key x y = order x.key x.place y.key y.place
 
 total : IsTotalOrder by_key
@@ -45,7 +45,7 @@ not_behind_gt x y h = ap is_gt (total.antisymm x y) ∙ turned (by_key y x) (sym
     turned Equal e = refl
     turned Greater e = refl
 
-gt_not_behind : (x y : Entry) → is_gt (by_key x y) ≡ false → NotBehind x y
+pub gt_not_behind : (x y : Entry) → is_gt (by_key x y) ≡ false → NotBehind x y
 gt_not_behind x y h = below-is y x ∙ turned (by_key y x) (ap is_gt (sym (total.antisymm x y)) ∙ h)
   where
     turned : (o : Ordering) → is_gt (ordering_reverse o) ≡ false → is_lt o ≡ false
@@ -127,3 +127,12 @@ least_first x y k p =
     none : (l : List ℕ) (n : ℕ) → is_lt (order l n [] 0) ≡ false
     none [] n = zero_last n
     none (z ∷ l) n = refl
+
+-- the page of an entry does not count
+pub page_first : (x y : Entry) (n : ℕ) → is_below (record { key = x.key; place = x.place; child = n }) y ≡ is_below x y
+unfolding is_below
+page_first x y n = refl
+
+pub page_second : (x y : Entry) (n : ℕ) → is_below y (record { key = x.key; place = x.place; child = n }) ≡ is_below y x
+unfolding is_below
+page_second x y n = refl

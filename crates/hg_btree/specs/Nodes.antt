@@ -8,9 +8,9 @@
 --   from 16 on   the entries one behind the other: two bytes length of the key, eight bytes place, the
 --                key, and in an inner page four bytes number of the child
 -- All numbers have their least byte first. All other bytes are zero.
-use Rattle.std.specs.Prelude.{◌≡◌, ℕ, ◌+◌, ◌^◌, ◌<◌, ◌≤◌, Bool, true, false, List, [], ◌∷◌, ◌++◌, length, take, drop, slice_index, ⊤}
+use Rattle.std.specs.Prelude.{◌≡◌, ℕ, ◌+◌, ◌^◌, ◌<◌, ◌≤◌, Bool, true, false, List, [], ◌∷◌, ◌++◌, length, take, drop, slice_index, Option, Some, None, ⊤}
 use Rattle.std.specs.Int.{w16, w32, w64, from_le_bytes, to_le_bytes}
-use Rattle.hg_btree.specs.Entries.{Entry, AllBy, Before, IsSame}
+use Rattle.hg_btree.specs.Entries.{Entry, AllBy, Before, NotBehind, IsSame}
 
 -- the numbers that the two, four and eight bytes from the place `at` on spell
 unfoldable pub number : List ℕ → ℕ → ℕ
@@ -75,13 +75,13 @@ pub record Reads (inner : Bool) (page : List ℕ) (at : ℕ) (e : Entry) : Type 
   pub proper : IsProper e
   pub inside : at + 10 + length e.key + width inner ≤ number page 4
 
--- the entries before the place `at` of a page are all before t
-pub record Passed (inner : Bool) (es : List Entry) (t : Entry) (at : ℕ) : Type 0 where
+-- the entries before the place `at` of a page are all so
+pub record Passed (inner : Bool) (es : List Entry) (R : Entry → Type 0) (at : ℕ) : Type 0 where
   pub done : List Entry
   pub todo : List Entry
   pub all : es ≡ done ++ todo
   pub place : at ≡ 16 + length (spelling inner done)
-  pub below : AllBy (λ e. Before e t) done
+  pub are : AllBy R done
 
 -- the first of these has the key and place of t, and ends there
 abbrev pub IsThere : Bool → List Entry → Entry → ℕ → ℕ → Type 0
@@ -95,6 +95,34 @@ IsBehind (x ∷ xs) t = Before t x
 
 -- Where t stands on a page, or would stand. `after` is where its entry ends, or where it would begin.
 pub record IsSpot (inner : Bool) (es : List Entry) (t : Entry) (at after : ℕ) (there : Bool) : Type 0 where
-  pub passed : Passed inner es t at
+  pub passed : Passed inner es (λ e. Before e t) at
   pub here : there ≡ true → IsThere inner passed.todo t at after
   pub not_here : there ≡ false → (after ≡ at) × IsBehind passed.todo t
+
+-- the last child of an inner page with these entries
+abbrev pub last_child : ℕ → List Entry → ℕ
+last_child first [] = first
+last_child first (x ∷ xs) = last_child x.child xs
+
+-- Where the way to t leads on from an inner page: to the child of the last entry that is not behind t.
+-- That entry ends at `at`.
+pub record IsWay (first : ℕ) (es : List Entry) (t : Entry) (at child : ℕ) : Type 0 where
+  pub passed : Passed true es (λ e. NotBehind e t) at
+  pub behind : IsBehind passed.todo t
+  pub child_is : child ≡ last_child first passed.done
+
+-- the first entry that is not before t is this one
+pub record IsFirstAt (es : List Entry) (t : Entry) (place : ℕ) (key : List ℕ) : Type 0 where
+  pub before : List Entry
+  pub x : Entry
+  pub after : List Entry
+  pub all : es ≡ before ++ x ∷ after
+  pub below : AllBy (λ e. Before e t) before
+  pub from : NotBehind t x
+  pub place_is : place ≡ x.place
+  pub key_is : key ≡ x.key
+
+-- The first entry that is not before t: its place, and its key; none where all are before t.
+abbrev pub IsFirst : List Entry → Entry → Option ℕ → List ℕ → Type 0
+IsFirst es t None key = AllBy (λ e. Before e t) es
+IsFirst es t (Some place) key = IsFirstAt es t place key

@@ -106,3 +106,17 @@ pub record IsTree (file : File) (s : Space) (top : ℕ) (es : List Entry) (pages
   pub count : length pages ≡ 1 + width_of levels
   pub leaf_count : leaves ≡ length (lowest (root top ∷ []) levels)
   pub known : s.told ≡ true
+
+-- Where the way to t has come to: a page of this level from the bottom. t is not before its bound, and
+-- before the bound of the page behind it.
+pub record Reached (top : ℕ) (levels : List (List Entry)) (t : Entry) (level no : ℕ) : Type 0 where
+  pub above : List (List Entry)
+  pub front : List Entry
+  pub x : Entry
+  pub behind : List Entry
+  pub below : List (List Entry)
+  pub all : (root top ∷ []) ∷ levels ≡ above ++ (front ++ x ∷ behind) ∷ below
+  pub level_is : length below ≡ level
+  pub page_is : x.child ≡ no
+  pub from : NotBehind x t
+  pub to : IsBehind behind t

@@ -1,5 +1,5 @@
 use Rattle.std.specs.Prelude.{ℕ, Bool, List, ◌≤◌, ◌-◌}
-use Rattle.hg_btree.specs.Entries.{Entry}
+use Rattle.hg_btree.specs.Entries.{Entry, Before}
 use Rattle.hg_btree.specs.Nodes.{IsNode, Passed}
 use Rattle.hg_btree.proofs.node.find.Given as goal
 
@@ -8,7 +8,7 @@ invariant-loop-at l = record {
   from : 16 ≤ l.at;
   to : l.at ≤ l.end;
   passed : (level link : ℕ) (es : List Entry) → IsNode l.inner l.page level link es
-      → Passed l.inner es (record { key = l.key; place = l.place; child = 0 }) l.at;
+      → Passed l.inner es (λ e. Before e (record { key = l.key; place = l.place; child = 0 })) l.at;
 }
 
 abbrev pub decreases-loop-at : goal.decreases-loop-at
