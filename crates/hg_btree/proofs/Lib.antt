@@ -3,3 +3,4 @@ pub mod Reading
 pub mod Finding
 pub mod Writing
 pub mod Walking
+pub mod Seeking

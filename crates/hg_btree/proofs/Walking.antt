@@ -171,7 +171,7 @@ behind_more [] rest t h g = g
 behind_more (x ∷ todo) rest t h g = h
 
 -- An inner page on the way, with its children among those of its level.
-pub record InnerHere (b : ℕ → Option (List ℕ)) (top : ℕ) (levels : List (List Entry)) (t : Entry) (n no : ℕ) (r : Reached top levels t (n + 1) no) (es : List Entry) : Type 0 where
+pub record InnerHere (b : ℕ → Option (List ℕ)) (top : ℕ) (levels : List (List Entry)) (t : Entry) (n num : ℕ) (r : Reached top levels t (n + 1) num) (es : List Entry) : Type 0 where
   pub kids : List Entry
   pub at : IsInnerAt b (n + 1) r.x kids
   pub level : List Entry
@@ -185,9 +185,9 @@ pub record InnerHere (b : ℕ → Option (List ℕ)) (top : ℕ) (levels : List 
   pub of_behind : Inners b (n + 1) r.behind back
   pub further : Chained b level rest es
 
-pub inner_here : (b : ℕ → Option (List ℕ)) (top : ℕ) (levels : List (List Entry)) (es : List Entry) (t : Entry) (n no : ℕ) → Chained b (root top ∷ []) levels es
-    → (r : Reached top levels t (n + 1) no) → InnerHere b top levels t n no r es
-inner_here b top levels es t n no h r =
+pub inner_here : (b : ℕ → Option (List ℕ)) (top : ℕ) (levels : List (List Entry)) (es : List Entry) (t : Entry) (n num : ℕ) → Chained b (root top ∷ []) levels es
+    → (r : Reached top levels t (n + 1) num) → InnerHere b top levels t n num r es
+inner_here b top levels es t n num h r =
     let l = level_below r.below n r.level_is in
     let c : Chained b (r.front ++ r.x ∷ r.behind) r.below es = chained_from b (root top ∷ []) levels r.above r.below (r.front ++ r.x ∷ r.behind) es r.all h in
     let d : Chained b (r.front ++ r.x ∷ r.behind) (l.0 ∷ l.1) es = subst (λ k. Chained b (r.front ++ r.x ∷ r.behind) k es) l.2 c in
@@ -211,9 +211,9 @@ inner_here b top levels es t n no h r =
     }
 
 -- one step of the way
-pub reached_below : (b : ℕ → Option (List ℕ)) (top : ℕ) (levels : List (List Entry)) (es : List Entry) (t : Entry) (n no at child : ℕ)
-    → (r : Reached top levels t (n + 1) no) → (i : InnerHere b top levels t n no r es) → IsWay i.at.first i.at.items t at child → Reached top levels t n child
-reached_below b top levels es t n no at child r i w =
+pub reached_below : (b : ℕ → Option (List ℕ)) (top : ℕ) (levels : List (List Entry)) (es : List Entry) (t : Entry) (n num at child : ℕ)
+    → (r : Reached top levels t (n + 1) num) → (i : InnerHere b top levels t n num r es) → IsWay i.at.first i.at.items t at child → Reached top levels t n child
+reached_below b top levels es t n num at child r i w =
     let f : Entry = with_page r.x i.at.first in
     let p = last_passed t f w.passed.done w.passed.todo (page_second r.x t i.at.first ∙ r.from) w.passed.are in
     let kids_are : i.kids ≡ p.front ++ p.x ∷ w.passed.todo = i.at.are ∙ ap (λ l. f ∷ l) w.passed.all ∙ p.all in
@@ -271,7 +271,7 @@ leaves_after b (y ∷ leaves) es t (own, rest, at, e, h) o i =
     next (z ∷ leaves) h = before_then t y z i h.0
 
 -- A leaf on the way to t, and the entries before it, on it, and behind it.
-pub record LeafHere (b : ℕ → Option (List ℕ)) (top : ℕ) (levels : List (List Entry)) (t : Entry) (no : ℕ) (r : Reached top levels t 0 no) (es : List Entry) : Type 0 where
+pub record LeafHere (b : ℕ → Option (List ℕ)) (top : ℕ) (levels : List (List Entry)) (t : Entry) (num : ℕ) (r : Reached top levels t 0 num) (es : List Entry) : Type 0 where
   pub before : List Entry
   pub own : List Entry
   pub after : List Entry
@@ -284,9 +284,9 @@ pub record LeafHere (b : ℕ → Option (List ℕ)) (top : ℕ) (levels : List (
   pub below_t : AllBy (λ e. Before e t) before
   pub behind_t : AllBy (λ e. Before t e) after
 
-pub leaf_here : (b : ℕ → Option (List ℕ)) (top : ℕ) (levels : List (List Entry)) (es : List Entry) (t : Entry) (no : ℕ) → Chained b (root top ∷ []) levels es
-    → AllSorted levels → (r : Reached top levels t 0 no) → LeafHere b top levels t no r es
-leaf_here b top levels es t no h o r =
+pub leaf_here : (b : ℕ → Option (List ℕ)) (top : ℕ) (levels : List (List Entry)) (es : List Entry) (t : Entry) (num : ℕ) → Chained b (root top ∷ []) levels es
+    → AllSorted levels → (r : Reached top levels t 0 num) → LeafHere b top levels t num r es
+leaf_here b top levels es t num h o r =
     let n = no_level_below r.below r.level_is in
     let c : Chained b (r.front ++ r.x ∷ r.behind) r.below es = chained_from b (root top ∷ []) levels r.above r.below (r.front ++ r.x ∷ r.behind) es r.all h in
     let d : Leaves b (r.front ++ r.x ∷ r.behind) [] es = subst (λ k. Chained b (r.front ++ r.x ∷ r.behind) k es) n c in
@@ -326,18 +326,18 @@ uses_here x xs = ap (λ t. (if t then 1 else 0) + uses xs x.child) (same x.child
     same n = grind (arith, nat_tests)
 
 -- a page where the way has come to is one of the tree
-pub reached_used : (top : ℕ) (levels : List (List Entry)) (t : Entry) (level no : ℕ) → (r : Reached top levels t level no)
-    → 1 ≤ uses_in ((root top ∷ []) ∷ levels) no
-reached_used top levels t level no r =
-    let a = ap (λ l. uses_in l no) r.all ∙ uses_in-append r.above ((r.front ++ r.x ∷ r.behind) ∷ r.below) no in
-    let c = uses-append r.front (r.x ∷ r.behind) no in
-    let d : uses (r.x ∷ r.behind) no ≡ 1 + uses r.behind no = subst (λ k. uses (r.x ∷ r.behind) k ≡ 1 + uses r.behind k) r.page_is (uses_here r.x r.behind) in
+pub reached_used : (top : ℕ) (levels : List (List Entry)) (t : Entry) (level num : ℕ) → (r : Reached top levels t level num)
+    → 1 ≤ uses_in ((root top ∷ []) ∷ levels) num
+reached_used top levels t level num r =
+    let a = ap (λ l. uses_in l num) r.all ∙ uses_in-append r.above ((r.front ++ r.x ∷ r.behind) ∷ r.below) num in
+    let c = uses-append r.front (r.x ∷ r.behind) num in
+    let d : uses (r.x ∷ r.behind) num ≡ 1 + uses r.behind num = subst (λ k. uses (r.x ∷ r.behind) k ≡ 1 + uses r.behind k) r.page_is (uses_here r.x r.behind) in
     omega arith
 
 pub times_has : (pages : List ℕ) (y : ℕ) → 1 ≤ times pages y → has_page pages y ≡ true
 times_has [] y h = absurd (omega arith)
-times_has (x ∷ pages) y h = go (x == y) h
+times_has (x ∷ pages) y h = go (x == y) (times_has pages y) h
   where
-    go : (t : Bool) → 1 ≤ (if t then 1 else 0) + times pages y → (t || has_page pages y) ≡ true
-    go true h = refl
-    go false h = times_has pages y (omega arith)
+    go : (t : Bool) (rest : 1 ≤ times pages y → has_page pages y ≡ true) → 1 ≤ (if t then 1 else 0) + times pages y → (t || has_page pages y) ≡ true
+    go true rest h = refl
+    go false rest h = rest (omega arith)

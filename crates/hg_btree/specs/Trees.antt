@@ -6,7 +6,7 @@
 --
 -- A level is the list of its pages, each with the bound that its entries are not before: an entry whose
 -- child is the page. The bound of the first page of a level is the least entry.
-use Rattle.std.specs.Prelude.{◌≡◌, ℕ, ◌+◌, ◌*◌, ◌<◌, ◌≤◌, ◌==◌, zero, suc, Bool, true, false, List, [], ◌∷◌, ◌++◌, length, Option, Some, None, ⊤, if◌then◌else◌}
+use Rattle.std.specs.Prelude.{◌≡◌, ℕ, ◌+◌, ◌*◌, ◌^◌, ◌<◌, ◌≤◌, ◌==◌, zero, suc, Bool, true, false, List, [], ◌∷◌, ◌++◌, length, Option, Some, None, ⊤, if◌then◌else◌}
 use Rattle.hg_base.specs.Space.{Space, key_in}
 use Rattle.hg_base.specs.Lines.{IsLine}
 use Rattle.hg_base.specs.declared.File.{File}
@@ -15,7 +15,7 @@ use Rattle.hg_btree.specs.Nodes.{IsNode, IsBehind}
 
 -- what a space says of the bytes of a file's pages, by their numbers
 abbrev pub pages_of : File → Space → ℕ → Option (List ℕ)
-pages_of file s no = s.bytes (key_in file no)
+pages_of file s n = s.bytes (key_in file n)
 
 -- the first of these pages, as a leaf names the next one
 abbrev pub first_page : List Entry → ℕ
@@ -37,7 +37,7 @@ pub record IsLeafAt (b : ℕ → Option (List ℕ)) (x : Entry) (behind own : Li
 
 -- the same bound with another page
 abbrev pub with_page : Entry → ℕ → Entry
-with_page x no = record { key = x.key; place = x.place; child = no }
+with_page x n = record { key = x.key; place = x.place; child = n }
 
 -- the page of x is an inner page with these children
 pub record IsInnerAt (b : ℕ → Option (List ℕ)) (level : ℕ) (x : Entry) (kids : List Entry) : Type 0 where
@@ -106,6 +106,8 @@ pub record IsTree (file : File) (s : Space) (top : ℕ) (es : List Entry) (pages
   pub count : length pages ≡ 1 + width_of levels
   pub leaf_count : leaves ≡ length (lowest (root top ∷ []) levels)
   pub known : s.told ≡ true
+  -- 2^32 - 1 is no page's number
+  pub numbers : s.limit file < 2 ^ 32
 
 -- Where the way to t has come to: a page of this level from the bottom. t is not before its bound, and
 -- before the bound of the page behind it.
@@ -120,3 +122,28 @@ pub record Reached (top : ℕ) (levels : List (List Entry)) (t : Entry) (level n
   pub page_is : x.child ≡ no
   pub from : NotBehind x t
   pub to : IsBehind behind t
+
+-- What a call asks where the space tells: this is a tree.
+pub record HasTree (file : File) (s : Space) (top : ℕ) : Type 0 where
+  pub es : List Entry
+  pub pages : List ℕ
+  pub leaves : ℕ
+  pub tree : IsTree file s top es pages leaves
+
+-- Where the way to t leads on from a page of this level.
+pub record LedTo (top : ℕ) (levels : List (List Entry)) (t : Entry) (level child : ℕ) : Type 0 where
+  pub at_leaf : level ≡ 0 → Reached top levels t 0 top
+  pub onward : (n : ℕ) → level ≡ n + 1 → Reached top levels t n child
+
+-- The leaves from one on, on the way along them to the first entry that is not before t.
+pub record Along (b : ℕ → Option (List ℕ)) (es : List Entry) (pages : List ℕ) (t : Entry) (leaf turns : ℕ) : Type 0 where
+  pub passed : List Entry
+  pub rest : List Entry
+  pub x : Entry
+  pub behind : List Entry
+  pub page_is : x.child ≡ leaf
+  pub all : es ≡ passed ++ rest
+  pub below : AllBy (λ e. Before e t) passed
+  pub leaves : Leaves b (x ∷ behind) [] rest
+  pub are_pages : (y : ℕ) → uses (x ∷ behind) y ≤ times pages y
+  pub few : turns + length (x ∷ behind) ≤ length pages
