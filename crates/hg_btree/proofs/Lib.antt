@@ -4,3 +4,8 @@ pub mod Finding
 pub mod Writing
 pub mod Walking
 pub mod Seeking
+pub mod Changing
+pub mod Leaves
+pub mod Deleting
+pub mod Living
+pub mod Splitting

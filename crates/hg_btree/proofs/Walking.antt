@@ -5,7 +5,7 @@ use Rattle.hg_btree.specs.Entries.{Entry, AllBy, Ordered, Before, NotBehind}
 use Rattle.hg_btree.specs.Nodes.{last_child, IsNode, IsBehind, IsWay, Passed}
 use Rattle.hg_btree.specs.Trees.{first_page, AllBefore, IsLeafAt, with_page, IsInnerAt, Leaves, Inners, Chained, root, AllSorted, Reached}
 use Rattle.hg_base.specs.Lines.{has_page}
-use Rattle.hg_btree.specs.Trees.{uses, uses_in, times}
+use Rattle.hg_btree.specs.Trees.{uses, uses_in, times, width_of}
 use Rattle.hg_btree.proofs.Orders.{least_first, not_behind_trans, before_then, then_before, page_first, page_second}
 use Rattle.std.proofs.lemmas.Bool.{false≢true}
 use Rattle.std.proofs.lemmas.Bool.Decides.{nat_tests}
@@ -238,7 +238,7 @@ reached_below b top levels es t n num at child r i w =
 
 -- ---- the leaves
 
-none_behind : (x : List Entry) → x ++ [] ≡ x
+pub none_behind : (x : List Entry) → x ++ [] ≡ x
 none_behind [] = refl
 none_behind (y ∷ x) = ap (λ r. y ∷ r) (none_behind x)
 
@@ -341,3 +341,7 @@ times_has (x ∷ pages) y h = go (x == y) (times_has pages y) h
     go : (t : Bool) (rest : 1 ≤ times pages y → has_page pages y ≡ true) → 1 ≤ (if t then 1 else 0) + times pages y → (t || has_page pages y) ≡ true
     go true rest h = refl
     go false rest h = rest (omega arith)
+
+pub width-append : (xs ys : List (List Entry)) → width_of (xs ++ ys) ≡ width_of xs + width_of ys
+width-append [] ys = omega arith
+width-append (x ∷ xs) ys = let r = width-append xs ys in omega arith

@@ -1,9 +1,10 @@
 -- What the writes into a page do to its head and its entries.
-use Rattle.std.specs.Prelude.{◌≡◌, ℕ, ◌+◌, ◌-◌, ◌^◌, ◌<◌, ◌≤◌, zero, suc, min, Bool, true, false, List, [], ◌∷◌, ◌++◌, length, take, drop, slice_index, ⊤}
+use Rattle.std.specs.Prelude.{◌≡◌, ℕ, ◌+◌, ◌-◌, ◌^◌, ◌<◌, ◌≤◌, zero, suc, min, Bool, true, false, List, [], ◌∷◌, ◌++◌, length, take, drop, slice_index, slice_set, ◌⊎◌, ⊤}
 use Rattle.std.specs.Int.{w16, w32, w64, from_le_bytes, to_le_bytes}
-use Rattle.std.proofs.Common.{sym, ◌∙◌, ap, subst, refl, arith, append_assoc, length-append, length-take, length-drop}
+use Rattle.std.proofs.Common.{sym, ◌∙◌, ap, subst, refl, arith, append_assoc, length-append, length-take, length-drop, inl, inr, get_or-set_other, get_or-set_same}
 use Rattle.std.proofs.lemmas.List.{take_at, drop_at, drop-drop, drop_more, drop_all, take-append-drop, length-take-le}
-use Rattle.std.proofs.lemmas.Nat.{from_le_bytes-to_le_bytes_2}
+use Rattle.std.proofs.lemmas.Nat.{from_le_bytes-to_le_bytes_2, from_le_bytes-to_le_bytes_4}
+use Rattle.std.proofs.lemmas.List.{length-set}
 use Rattle.hg_base.specs.Parts.{below, above, within, parts, length-written}
 use borrow.Rule.Slice.PartMut.{put_mid}
 use lib.Seq.{paste}
@@ -266,3 +267,37 @@ removed inner page moved wrote b zeros level link done x todo at after end count
     (ap (λ q. take q (drop 16 b)) ls ∙ parts b 16 la lb ∙ ap (λ r. r ++ take lb (drop (16 + la) b)) t1 ∙ ap (λ r. spelling inner done ++ take lb (drop r b)) at_is
     ∙ ap (λ r. spelling inner done ++ r) t2 ∙ sym (spelling-append inner done todo))
     (all_append IsProper done todo (all_front IsProper done (x ∷ todo) h.proper) pr.1)
+
+-- a page with no entries
+pub started : (inner : Bool) (a b c d e : List ℕ) (kind level link la : ℕ) → length a ≡ 4096 → b ≡ slice_set a 0 kind → c ≡ slice_set b 1 level → kind ≡ kind_of inner
+    → la ≡ link_at inner → link < 2 ^ 32 → d ≡ put_mid la 4 c (to_le_bytes w32 link) → SetsHead d e 0 16 → IsNode inner e level link []
+unfolding page_number
+started inner a b c d e kind level link la l be ce k li small de s =
+    let lb : length b ≡ 4096 = ap length be ∙ length-set {A = ℕ} a 0 kind ∙ l in
+    let lc : length c ≡ 4096 = ap length ce ∙ length-set {A = ℕ} b 1 level ∙ lb in
+    let places : (la ≡ 12) ⊎ (la ≡ 8) = two inner la li in
+    let from : 8 ≤ la = (elim places [ inl p ↦ omega arith | inr p ↦ omega arith ]) in
+    let to : la ≤ 12 = (elim places [ inl p ↦ omega arith | inr p ↦ omega arith ]) in
+    let ld : length d ≡ 4096 = ap length de ∙ length-written c (to_le_bytes w32 link) la 4 (omega arith) refl ∙ lc in
+    let low : (j : ℕ) → j < 2 → slice_index d j ≡ slice_index c j =
+    λ j h. byte-same c d j (omega arith) (ld ∙ sym lc) (ap (λ r. take 1 (drop j r)) de ∙ below c (to_le_bytes w32 link) la 4 j 1 (omega arith) (omega arith)) in
+    let c0 : slice_index c 0 ≡ kind = ap (λ r. slice_index r 0) ce ∙ get_or-set_other b 1 0 level 0 (omega arith) ∙ ap (λ r. slice_index r 0) be ∙ get_or-set_same a 0 kind 0 (omega arith) in
+    let c1 : slice_index c 1 ≡ level = ap (λ r. slice_index r 1) ce ∙ get_or-set_same b 1 level 0 (omega arith) in
+    let none = ap length (spelling-none inner) in
+    record {
+      whole = s.head.same_length ∙ ld;
+      kind = kind-kept d e ld s.head ∙ low 0 (omega arith) ∙ c0 ∙ k;
+      level_is = level-kept d e ld s.head ∙ low 1 (omega arith) ∙ c1;
+      count = s.count_is;
+      link_is = ap (λ m. from_le_bytes w32 (take 4 (drop m e))) (sym li)
+          ∙ ap (from_le_bytes w32) (s.head.back la 4 (omega arith) (omega arith) ∙ ap (λ r. take 4 (drop la r)) de ∙ within c (to_le_bytes w32 link) la 4 (omega arith) refl)
+          ∙ from_le_bytes-to_le_bytes_4 link small;
+      free = s.free_is ∙ (let z : 16 ≡ 16 + length (spelling inner []) = omega arith in z);
+      fits = omega arith;
+      text = ap (λ n. take n (drop 16 e)) none ∙ sym (spelling-none inner);
+      proper = tt;
+    }
+  where
+    two : (inner : Bool) (la : ℕ) → la ≡ link_at inner → (la ≡ 12) ⊎ (la ≡ 8)
+    two true la h = inl h
+    two false la h = inr h

@@ -4,3 +4,7 @@ pub mod Writing
 pub mod Trees
 pub mod Looking
 pub mod Steps
+pub mod Leaf
+pub mod Deleting
+pub mod Life
+pub mod Cutting

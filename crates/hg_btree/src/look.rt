@@ -126,7 +126,8 @@ fn seek_in(
     if level != 0 {
         return Err(Check::Level);
     }
-    match first_from(page, key, place, out)? {
+    let found = first_from(page, key, place, out)?;
+    match found {
         Some(place) => Ok(OnLeaf::Entry(place)),
         None => Ok(next_leaf(page)),
     }

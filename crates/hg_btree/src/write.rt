@@ -1,16 +1,16 @@
 //! Changes of the pages of an ordered tree, in place.
-ghost use Rattle.std.specs.Prelude.{◌≡◌, ℕ, ◌+◌, ◌-◌, ◌≤◌, ◌<◌, ◌^◌, Bool, true, false, List, ◌∷◌, ◌++◌, length, take, drop, slice_index};
+ghost use Rattle.std.specs.Prelude.{◌≡◌, ℕ, ◌+◌, ◌-◌, ◌≤◌, ◌<◌, ◌^◌, Bool, true, false, List, [], ◌∷◌, ◌++◌, length, take, drop, slice_index};
 ghost use borrow.Rule.Slice.PartMut.{put_mid};
 ghost use Rattle.hg_btree.specs.Entries.{Entry};
-ghost use Rattle.hg_btree.specs.Nodes.{number, width, child_bytes, spelled, spelling, IsNode};
+ghost use Rattle.hg_btree.specs.Nodes.{number, width, child_bytes, kind_of, link_at, spelled, spelling, IsNode};
 ghost use Rattle.hg_btree.specs.Writing.{SetsHead};
 
-use crate::node::{BEFORE_KEY, COUNT, FREE, number_at, tail};
+use crate::node::{BEFORE_KEY, COUNT, FREE, INNER, LEAF, number_at, tail};
 use hg_base::{put_u16, put_u32, put_u64};
 
 /// Sets the number of entries and the offset of the first free byte.
 #[tactic(auto, using(crate::proofs::Writing::sets_head))]
-fn set_head(page: &mut [u8], count: u16, free: u16)
+pub fn set_head(page: &mut [u8], count: u16, free: u16)
     requires { length page.old ≡ 4096 }
     ensures { SetsHead page.old page.new count free }
 {
@@ -43,7 +43,7 @@ pub fn write_entry(bytes: &mut [u8], inner: bool, key: &[u8], place: u64, child:
 }
 
 /// Makes all bytes zero.
-fn clear(bytes: &mut [u8])
+pub fn clear(bytes: &mut [u8])
     ensures { length bytes.new ≡ length bytes.old }
 {
     bytes.fill(0);
@@ -86,4 +86,30 @@ pub fn remove(page: &mut [u8], at: usize, after: usize)
     let free = end - (after - at);
     clear(&mut page[free..end]);
     set_head(page, (count as u16).saturating_sub(1), free as u16);
+}
+
+/// The first byte of a page of this kind.
+fn kind_byte(inner: bool) -> u8
+    ensures { result ≡ kind_of inner }
+{
+    if inner { INNER } else { LEAF }
+}
+
+/// Where a page of this kind has its link.
+pub fn link_place(inner: bool) -> usize
+    ensures { result ≡ link_at inner }
+{
+    if inner { 12 } else { 8 }
+}
+
+/// Makes a page with no entries, whatever the bytes were.
+pub fn start(page: &mut [u8], inner: bool, level: u8, link: u32)
+    requires { length page.old ≡ 4096 }
+    ensures { IsNode inner page.new level link [] }
+{
+    clear(page);
+    page[0] = kind_byte(inner);
+    page[1] = level;
+    put_u32(page, link_place(inner), link);
+    set_head(page, 0, 16);
 }

@@ -1,0 +1,60 @@
+//! Changes of single leaves.
+ghost use Rattle.std.specs.Prelude.{◌≡◌, ℕ, ◌+◌, ◌<◌, ◌≤◌, true, false, List, length, Some, Ok, IsOk, IfOk, IfErr, OnOk, OnErr};
+ghost use Rattle.hg_base.specs.Space.{NoPins, IsFree, key as page_key};
+ghost use Rattle.hg_base.specs.Causes.{HasCause, fault_of};
+ghost use Rattle.hg_btree.specs.Entries.{Entry};
+ghost use Rattle.hg_btree.specs.Nodes.{IsNode};
+ghost use Rattle.hg_btree.specs.Leaf.{TakesOut, TakesFrom};
+ghost use Rattle.hg_btree.specs.Steps.{Looks, IsTreeCheck, LookFault};
+
+use crate::look::open;
+use crate::node::{find, level_of};
+use crate::write::remove;
+use hg_base::{Check, PageFault, PageId, Pages};
+
+/// Takes an entry out of a leaf whose bytes may be any. False where it is not there; the leaf then stays.
+fn take_out(page: &mut [u8], key: &[u8], place: u64) -> Result<bool, Check>
+    requires { length page.old ≡ 4096 }
+    ensures sound { (link : ℕ) (es : List Entry) → IsNode false page.old 0 link es → IsOk result }
+    ensures takes { IfOk result (λ gone. (link : ℕ) (es : List Entry) → IsNode false page.old 0 link es
+        → TakesOut page.old page.new link es (record { key = key.now; place = place; child = 0 }) gone) }
+    ensures kept { result ≡ Ok false → page.new ≡ page.old }
+    ensures err { OnErr result (page.new ≡ page.old) }
+    ensures wrong { IfErr result IsTreeCheck }
+{
+    let level = level_of(page)?;
+    if level != 0 {
+        return Err(Check::Level);
+    }
+    let spot = find(page, false, key, place)?;
+    if !spot.there {
+        return Ok(false);
+    }
+    remove(page, spot.at, spot.after);
+    Ok(true)
+}
+
+/// Takes an entry out of a leaf.
+pub fn take_from<S: Pages>(
+    space: &mut S,
+    page: PageId,
+    key: &[u8],
+    place: u64,
+) -> Result<bool, PageFault>
+    requires no_pins { NoPins (S.state space.old) }
+    requires free { (S.state space.old).told ≡ true → IsFree (S.state space.old) page }
+    requires sound { (S.state space.old).told ≡ true → (bytes : List ℕ) × (link : ℕ) × (es : List Entry) × ((S.state space.old).bytes (page_key page) ≡ Some bytes) × IsNode false bytes 0 link es }
+    ensures takes { IfOk result (λ gone. TakesFrom (S.state space.old) (S.state space.new) page (record { key = key.now; place = place; child = 0 }) gone) }
+    ensures err { OnErr result (Looks (S.state space.old) (S.state space.new)) }
+    ensures cause { HasCause (S.state space.old) (S.state space.new) (fault_of result) }
+    ensures fault { IfErr result (LookFault page.file) }
+{
+    let pin = open(space, page)?;
+    let answer = take_out(space.bytes_mut(&pin), key, place);
+    space.unpin(pin);
+    match answer {
+        Ok(true) => Ok(true),
+        Ok(false) => Ok(false),
+        Err(check) => Err(PageFault::Damaged { page, check }),
+    }
+}
