@@ -47,11 +47,11 @@ behind_other e t b s = not_before_itself t (before_then t e t b (same_not_behind
 
 -- ---- the leaf of a space that was only looked at
 
-record AtLeaf (file : File) (m : Space) (top : ℕ) (es : List Entry) (pages : List ℕ) (leaves leaf : ℕ) (t : Entry) : Type 0 where
-  tree : IsTree file m top es pages leaves
-  way : Reached top tree.levels t 0 leaf
+pub record AtLeaf (file : File) (m : Space) (top : ℕ) (es : List Entry) (pages : List ℕ) (leaves leaf : ℕ) (t : Entry) : Type 0 where
+  pub tree : IsTree file m top es pages leaves
+  pub way : Reached top tree.levels t 0 leaf
 
-at_leaf : (file : File) (a m : Space) (top : ℕ) (es : List Entry) (pages : List ℕ) (leaves leaf : ℕ) (t : Entry) → Looks a m → (h : IsTree file a top es pages leaves)
+pub at_leaf : (file : File) (a m : Space) (top : ℕ) (es : List Entry) (pages : List ℕ) (leaves leaf : ℕ) (t : Entry) → Looks a m → (h : IsTree file a top es pages leaves)
     → Reached top h.levels t 0 leaf → AtLeaf file m top es pages leaves leaf t
 at_leaf file a m top es pages leaves leaf t l h r = record {
   tree = tree_stays file a m top es pages leaves l h;
@@ -122,10 +122,10 @@ deleted file a m b page top es pages leaves leaf t false l h r pe ch = deleted_f
 
 -- ---- what else stays
 
-none_wider : (w : Mine) (a b : Space) → Steady none_mine a b → Steady w a b
+pub none_wider : (w : Mine) (a b : Space) → Steady none_mine a b → Steady w a b
 none_wider w a b s = Steady_wider none_mine w a b (λ q x. absurd x) (λ q x. absurd x) (λ q x. absurd x) s
 
-changed_steady : (file : File) (m b : Space) (page : PageId) (P : List ℕ → List ℕ → Type 0) (pages : List ℕ) (leaf : ℕ) (told : Bool) → m.told ≡ told
+pub changed_steady : (file : File) (m b : Space) (page : PageId) (P : List ℕ → List ℕ → Type 0) (pages : List ℕ) (leaf : ℕ) (told : Bool) → m.told ≡ told
     → page ≡ record { file = file; no = leaf } → (told ≡ true → has_page pages leaf ≡ true) → ChangesPage m b page P → Steady (pages_mine file pages) m b
 changed_steady file m b page P pages leaf true e pe h ch =
     Steady_wider (page_mine page) (pages_mine file pages) m b (λ q x. (leaf, x ∙ ap key pe, h refl)) (λ q x. absurd x) (λ q x. absurd x) ch.steady

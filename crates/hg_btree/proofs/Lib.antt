@@ -9,3 +9,5 @@ pub mod Leaves
 pub mod Deleting
 pub mod Living
 pub mod Splitting
+pub mod Inserting
+pub mod Halving

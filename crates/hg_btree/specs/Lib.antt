@@ -8,3 +8,4 @@ pub mod Leaf
 pub mod Deleting
 pub mod Life
 pub mod Cutting
+pub mod Putting

@@ -3,17 +3,18 @@ ghost use Rattle.std.specs.Prelude.{◌≡◌, ℕ, ◌+◌, ◌<◌, ◌≤◌,
 ghost use Rattle.hg_base.specs.Space.{NoPins, IsFree, key as page_key};
 ghost use Rattle.hg_base.specs.Causes.{HasCause, fault_of};
 ghost use Rattle.hg_btree.specs.Entries.{Entry};
-ghost use Rattle.hg_btree.specs.Nodes.{IsNode};
+ghost use Rattle.hg_btree.specs.Nodes.{number, IsNode};
 ghost use Rattle.hg_btree.specs.Leaf.{TakesOut, TakesFrom};
+ghost use Rattle.hg_btree.specs.Putting.{PutsIn, PutsInto};
 ghost use Rattle.hg_btree.specs.Steps.{Looks, IsTreeCheck, LookFault};
 
 use crate::look::open;
-use crate::node::{find, level_of};
-use crate::write::remove;
+use crate::node::{BEFORE_KEY, FREE, PAGE, find, level_of, number_at};
+use crate::write::{insert, remove};
 use hg_base::{Check, PageFault, PageId, Pages};
 
 /// Takes an entry out of a leaf whose bytes may be any. False where it is not there; the leaf then stays.
-fn take_out(page: &mut [u8], key: &[u8], place: u64) -> Result<bool, Check>
+pub fn take_out(page: &mut [u8], key: &[u8], place: u64) -> Result<bool, Check>
     requires { length page.old ≡ 4096 }
     ensures sound { (link : ℕ) (es : List Entry) → IsNode false page.old 0 link es → IsOk result }
     ensures takes { IfOk result (λ gone. (link : ℕ) (es : List Entry) → IsNode false page.old 0 link es
@@ -55,6 +56,71 @@ pub fn take_from<S: Pages>(
     match answer {
         Ok(true) => Ok(true),
         Ok(false) => Ok(false),
+        Err(check) => Err(PageFault::Damaged { page, check }),
+    }
+}
+
+/// What came of putting an entry into a leaf.
+#[derive(Clone, Copy, PartialEq, Eq, Debug)]
+pub enum Put {
+    /// It is there now.
+    New,
+    /// It was there before.
+    Old,
+    /// It does not fit.
+    NoRoom,
+}
+
+/// Puts an entry into a leaf whose bytes may be any. The leaf stays where it is not new, or does not fit.
+pub fn put_in(page: &mut [u8], key: &[u8], place: u64) -> Result<Put, Check>
+    requires whole { length page.old ≡ 4096 }
+    requires short { length key.now ≤ 512 }
+    ensures sound { (link : ℕ) (es : List Entry) → IsNode false page.old 0 link es → IsOk result }
+    ensures puts { IfOk result (λ how. (link : ℕ) (es : List Entry) → IsNode false page.old 0 link es
+        → PutsIn page.old page.new link es (record { key = key.now; place = place; child = 0 }) how) }
+    ensures old { result ≡ Ok Put.Old → page.new ≡ page.old }
+    ensures no_room { result ≡ Ok Put.NoRoom → (page.new ≡ page.old) × (4096 < number page.old 4 + 10 + length key.now) }
+    ensures err { OnErr result (page.new ≡ page.old) }
+    ensures wrong { IfErr result IsTreeCheck }
+{
+    let level = level_of(page)?;
+    if level != 0 {
+        return Err(Check::Level);
+    }
+    let spot = find(page, false, key, place)?;
+    if spot.there {
+        return Ok(Put::Old);
+    }
+    if number_at(page, FREE) + BEFORE_KEY + key.len() > PAGE {
+        return Ok(Put::NoRoom);
+    }
+    insert(page, spot.at, false, key, place, 0);
+    Ok(Put::New)
+}
+
+/// Puts an entry into a leaf.
+pub fn put_into<S: Pages>(
+    space: &mut S,
+    page: PageId,
+    key: &[u8],
+    place: u64,
+) -> Result<Put, PageFault>
+    requires no_pins { NoPins (S.state space.old) }
+    requires short { length key.now ≤ 512 }
+    requires free { (S.state space.old).told ≡ true → IsFree (S.state space.old) page }
+    requires sound { (S.state space.old).told ≡ true → (bytes : List ℕ) × (link : ℕ) × (es : List Entry) × ((S.state space.old).bytes (page_key page) ≡ Some bytes) × IsNode false bytes 0 link es }
+    ensures puts { IfOk result (λ how. PutsInto (S.state space.old) (S.state space.new) page (record { key = key.now; place = place; child = 0 }) how) }
+    ensures err { OnErr result (Looks (S.state space.old) (S.state space.new)) }
+    ensures cause { HasCause (S.state space.old) (S.state space.new) (fault_of result) }
+    ensures fault { IfErr result (LookFault page.file) }
+{
+    let pin = open(space, page)?;
+    let answer = put_in(space.bytes_mut(&pin), key, place);
+    space.unpin(pin);
+    match answer {
+        Ok(Put::New) => Ok(Put::New),
+        Ok(Put::Old) => Ok(Put::Old),
+        Ok(Put::NoRoom) => Ok(Put::NoRoom),
         Err(check) => Err(PageFault::Damaged { page, check }),
     }
 }
