@@ -97,7 +97,7 @@ sorted_in : (front : List Entry) (x s : Entry) (behind : List Entry) → Ordered
 sorted_in [] x s behind o f a = ((f, o.0), (a, o.1))
 sorted_in (y ∷ front) x s behind o f a =
     let here = all_behind (NotBehind y) front (x ∷ behind) o.0 in (
-      all_append (NotBehind y) front (x ∷ s ∷ behind) (all_front (NotBehind y) front (x ∷ behind) o.0) (here.0, not_behind_trans y x s here.0 f, here.1),
+      all_append (NotBehind y) front (x ∷ s ∷ behind) (all_front (NotBehind y) front (x ∷ behind) o.0) (here.0, (not_behind_trans y x s here.0 f, here.1)),
       sorted_in front x s behind o.1 f a,
     )
 

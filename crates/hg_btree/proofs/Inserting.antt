@@ -16,7 +16,7 @@ use Rattle.hg_btree.specs.Trees.{pages_of, first_page, AllBefore, IsTree, HasTre
 use Rattle.hg_btree.specs.Steps.{Looks}
 use Rattle.hg_btree.specs.Leaf.{ChangesPage, LooksAt}
 use Rattle.hg_btree.specs.Deleting.{pages_mine}
-use Rattle.hg_btree.specs.Putting.{Adds, Has, PutsIn, PutsInto, PutIn, IsTreeWith, Puts}
+use Rattle.hg_btree.specs.Putting.{Adds, Has, PutsInto, PutIn, IsTreeWith, Puts}
 use Rattle.hg_btree.proofs.Reading.{all_append}
 use Rattle.hg_btree.proofs.Walking.{leaf_here, reached_used, times_has, ordered_front, ordered_behind}
 use Rattle.hg_btree.proofs.Changing.{ordered_with, all_from, before_with, from_with}

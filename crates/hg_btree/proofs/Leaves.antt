@@ -14,7 +14,7 @@ use Rattle.hg_btree.specs.Entries.{Entry, AllBy, Before, Ordered, NotBehind, IsS
 use Rattle.hg_btree.specs.Nodes.{number, spelled, spelling, IsNode, IsBehind, IsSpot, IsThere}
 use Rattle.hg_btree.specs.Trees.{pages_of, first_page, AllBefore, IsLeafAt, Leaves, Chained, root, uses, uses_in, times, IsTree, Reached}
 use Rattle.hg_btree.specs.Steps.{Looks, none_mine, page_mine}
-use Rattle.hg_btree.specs.Leaf.{Removes, Misses, TakesOut, ChangesPage, Holds}
+use Rattle.hg_btree.specs.Leaf.{Removes, Misses, ChangesPage, Holds}
 use Rattle.hg_btree.proofs.Reading.{all_append, all_front, all_behind}
 use Rattle.hg_btree.proofs.Walking.{leaf_here, none_behind, uses-append, uses_in-append, uses_here, reached_used, LeafHere}
 use Rattle.hg_btree.proofs.Changing.{Agree, AreChained, leaves_same, chained_same, chained_swap}

@@ -11,3 +11,4 @@ pub mod Living
 pub mod Splitting
 pub mod Inserting
 pub mod Halving
+pub mod Touching

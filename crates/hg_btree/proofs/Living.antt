@@ -55,7 +55,7 @@ makes file a b page small m =
             chained = ([], [], record { page = h.bytes; told = ap b.bytes (sym k) ∙ h.told; node = h.are; from = tt; to = tt }, refl, refl);
             sorted = tt;
             ascending = tt;
-            owns = λ y. refl;
+            owns = λ y. omega arith;
             count = refl;
             leaf_count = refl;
             known = m.steady.told ∙ told;

@@ -24,10 +24,6 @@ pub record Misses (es : List Entry) (t : Entry) : Type 0 where
   pub below : AllBy (λ e. Before e t) done
   pub behind : IsBehind todo t
 
-abbrev pub TakesOut : List ℕ → List ℕ → ℕ → List Entry → Entry → Bool → Type 0
-TakesOut old new link es t true = Removes new link es t
-TakesOut old new link es t false = (new ≡ old) × Misses es t
-
 -- the page holds bytes that are so
 pub record Holds (b : Space) (page : PageId) (P : List ℕ → Type 0) : Type 0 where
   pub bytes : List ℕ

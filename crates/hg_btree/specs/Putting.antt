@@ -31,11 +31,6 @@ pub record Has (es : List Entry) (t : Entry) : Type 0 where
 abbrev pub IsFullFor : List ℕ → Entry → Type 0
 IsFullFor page t = 4096 < number page 4 + 10 + length t.key
 
-abbrev pub PutsIn : List ℕ → List ℕ → ℕ → List Entry → Entry → Put → Type 0
-PutsIn old new link es t New = Adds new link es t
-PutsIn old new link es t Old = (new ≡ old) × Has es t
-PutsIn old new link es t NoRoom = (new ≡ old) × IsFullFor old t
-
 abbrev pub PutsInto : Space → Space → PageId → Entry → Put → Type 0
 PutsInto a b page t New = ChangesPage a b page (λ old new. (link : ℕ) (es : List Entry) → IsNode false old 0 link es → Adds new link es t)
 PutsInto a b page t Old = LooksAt a b page (λ bytes. (link : ℕ) (es : List Entry) → IsNode false bytes 0 link es → Has es t)

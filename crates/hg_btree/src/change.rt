@@ -4,8 +4,8 @@ ghost use Rattle.hg_base.specs.Space.{NoPins, IsFree, key as page_key};
 ghost use Rattle.hg_base.specs.Causes.{HasCause, fault_of};
 ghost use Rattle.hg_btree.specs.Entries.{Entry};
 ghost use Rattle.hg_btree.specs.Nodes.{number, IsNode};
-ghost use Rattle.hg_btree.specs.Leaf.{TakesOut, TakesFrom};
-ghost use Rattle.hg_btree.specs.Putting.{PutsIn, PutsInto};
+ghost use Rattle.hg_btree.specs.Leaf.{Removes, Misses, TakesFrom};
+ghost use Rattle.hg_btree.specs.Putting.{Adds, Has, PutsInto};
 ghost use Rattle.hg_btree.specs.Steps.{Looks, IsTreeCheck, LookFault};
 
 use crate::look::open;
@@ -16,10 +16,15 @@ use hg_base::{Check, PageFault, PageId, Pages};
 /// Takes an entry out of a leaf whose bytes may be any. False where it is not there; the leaf then stays.
 pub fn take_out(page: &mut [u8], key: &[u8], place: u64) -> Result<bool, Check>
     requires { length page.old ≡ 4096 }
-    ensures sound { (link : ℕ) (es : List Entry) → IsNode false page.old 0 link es → IsOk result }
-    ensures takes { IfOk result (λ gone. (link : ℕ) (es : List Entry) → IsNode false page.old 0 link es
-        → TakesOut page.old page.new link es (record { key = key.now; place = place; child = 0 }) gone) }
+    ensures taken { result ≡ Ok true → (link : ℕ) (es : List Entry)
+        → IsNode false page.old 0 link es
+        → Removes page.new link es (record { key = key.now; place = place; child = 0 }) }
+    ensures missed { result ≡ Ok false → (link : ℕ) (es : List Entry)
+        → IsNode false page.old 0 link es
+        → Misses es (record { key = key.now; place = place; child = 0 }) }
     ensures kept { result ≡ Ok false → page.new ≡ page.old }
+    ensures damaged { IfErr result (λ c. (link : ℕ) (es : List Entry)
+        → IsNode false page.old 0 link es → ⊥) }
     ensures err { OnErr result (page.new ≡ page.old) }
     ensures wrong { IfErr result IsTreeCheck }
 {
@@ -75,11 +80,17 @@ pub enum Put {
 pub fn put_in(page: &mut [u8], key: &[u8], place: u64) -> Result<Put, Check>
     requires whole { length page.old ≡ 4096 }
     requires short { length key.now ≤ 512 }
-    ensures sound { (link : ℕ) (es : List Entry) → IsNode false page.old 0 link es → IsOk result }
-    ensures puts { IfOk result (λ how. (link : ℕ) (es : List Entry) → IsNode false page.old 0 link es
-        → PutsIn page.old page.new link es (record { key = key.now; place = place; child = 0 }) how) }
+    ensures new { result ≡ Ok Put.New → (link : ℕ) (es : List Entry)
+        → IsNode false page.old 0 link es
+        → Adds page.new link es (record { key = key.now; place = place; child = 0 }) }
+    ensures had { result ≡ Ok Put.Old → (link : ℕ) (es : List Entry)
+        → IsNode false page.old 0 link es
+        → Has es (record { key = key.now; place = place; child = 0 }) }
     ensures old { result ≡ Ok Put.Old → page.new ≡ page.old }
-    ensures no_room { result ≡ Ok Put.NoRoom → (page.new ≡ page.old) × (4096 < number page.old 4 + 10 + length key.now) }
+    ensures no_room { result ≡ Ok Put.NoRoom → (page.new ≡ page.old)
+        × (4096 < number page.old 4 + 10 + length key.now) }
+    ensures damaged { IfErr result (λ c. (link : ℕ) (es : List Entry)
+        → IsNode false page.old 0 link es → ⊥) }
     ensures err { OnErr result (page.new ≡ page.old) }
     ensures wrong { IfErr result IsTreeCheck }
 {
