@@ -1,5 +1,5 @@
 -- How a tree changes with a leaf.
-use Rattle.std.specs.Prelude.{◌≡◌, ◌≢◌, ℕ, ◌+◌, ◌<◌, ◌≤◌, ◌==◌, zero, suc, Bool, true, false, List, [], ◌∷◌, ◌++◌, ◌||◌, length, Option, Some, None, ⊤, if◌then◌else◌}
+use Rattle.std.specs.Prelude.{◌≡◌, ◌≢◌, ℕ, ◌+◌, ◌<◌, ◌≤◌, ◌==◌, zero, suc, Bool, true, false, List, [], ◌∷◌, ◌++◌, ◌||◌, length, Option, Some, None, Result, Ok, Err, IfErr, ⊤, if◌then◌else◌}
 use Rattle.std.specs.List.{AllByRecursion}
 use Rattle.std.proofs.Common.{sym, ◌∙◌, ap, subst, refl, arith, append_assoc, length-append, inl, inr}
 use Rattle.std.proofs.lemmas.Bool.{false≢true, cases_eq, ne_eqb, eq-eqb}
@@ -159,3 +159,8 @@ tree_leaf file a b page P top es pages leaves leaf t h r l pe ch new own told no
       known = ch.steady.told ∙ h.known;
       numbers = let e = ap (λ (g : File → ℕ). g file) ch.steady.limit in let n = h.numbers in omega arith;
     }
+
+-- a fact that does not speak of the error
+pub if_err : {T E : Type 0} (r : Result T E) (X : Type 0) → X → IfErr r (λ _. X)
+if_err (Ok v) X x = tt
+if_err (Err e) X x = x

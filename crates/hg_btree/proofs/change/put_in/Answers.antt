@@ -1,8 +1,9 @@
-use Rattle.std.specs.Prelude.{◌≡◌, ℕ, false, true}
+use Rattle.std.specs.Prelude.{◌≡◌, ℕ, List, false, true}
 use Rattle.std.proofs.Common.{sym, ◌∙◌, subst, refl, arith}
 use Rattle.std.proofs.lemmas.Bool.{false≢true}
 use Rattle.hg_btree.specs.Entries.{Entry}
-use Rattle.hg_btree.specs.Nodes.{IsSpot}
+use Rattle.hg_btree.specs.Nodes.{IsNode, IsSpot}
+use Rattle.hg_btree.proofs.Leaves.{if_err}
 use Rattle.hg_btree.proofs.Inserting.{has_spot, adds_spot}
 use Rattle.hg_btree.proofs.change.put_in.Goals as goal
 
@@ -20,7 +21,9 @@ returns-clause-new c = λ _ link es h.
     (λ level l done todo n a. c.insert.ensures level l done todo n a (omega arith) (omega arith))
 
 pub returns-in_err-level-clause-damaged : goal.returns-in_err-level-clause-damaged
-returns-in_err-level-clause-damaged c = λ link es h. false≢true (c.in_err-level.ensures.leaf 0 link es h refl)
+returns-in_err-level-clause-damaged c =
+    if_err c.from_residual.result ((link : ℕ) (es : List Entry) → IsNode false c.args.page.now 0 link es → ⊥) (λ link es h. false≢true (c.in_err-level.ensures.leaf 0 link es h refl))
 
 pub returns-in_err-spot-clause-damaged : goal.returns-in_err-spot-clause-damaged
-returns-in_err-spot-clause-damaged c = λ link es h. false≢true (c.in_err-spot.ensures.sound 0 link es h)
+returns-in_err-spot-clause-damaged c =
+    if_err c.from_residual-in_err-spot.result ((link : ℕ) (es : List Entry) → IsNode false c.args.page.now 0 link es → ⊥) (λ link es h. false≢true (c.in_err-spot.ensures.sound 0 link es h))

@@ -23,7 +23,7 @@ returns-in-Ok-New-clause-puts g c =
     let e : d ≡ without_pin (with_bytes m (key c.args.page) new) (key c.args.page) =
     c.unpin.ensures ∙ ap (λ s. without_pin s k) law ∙ ap (λ q. without_pin (with_bytes m q new) q) ke in
     changed a m d c.args.page old new _ c.requires.no_pins i value e c.in_ok-pin.ensures.cause.later
-    (λ link es h. c.in-Ok-New.ensures.new refl link es h)
+    (λ link es h. c.put_in-answer.ensures.new (c.in-Ok-New.is ∙ ap Ok c.in-Ok-New.field-0-is) link es h)
 
 pub returns-in-Ok-Old-clause-puts : goal.returns-in-Ok-Old-clause-puts
 returns-in-Ok-Old-clause-puts g c =
@@ -41,7 +41,7 @@ returns-in-Ok-Old-clause-puts g c =
     let e : d ≡ without_pin (with_bytes m (key c.args.page) new) (key c.args.page) =
     c.unpin.ensures ∙ ap (λ s. without_pin s k) law ∙ ap (λ q. without_pin (with_bytes m q new) q) ke in
     looked a m d c.args.page old new _ c.requires.no_pins i value e c.in_ok-pin.ensures.cause.later
-    (c.in-Ok-Old.ensures.old refl) (λ link es h. c.in-Ok-Old.ensures.had refl link es h)
+    (c.put_in-answer.ensures.old (c.in-Ok-Old.is ∙ ap Ok c.in-Ok-Old.field-0-is)) (λ link es h. c.put_in-answer.ensures.had (c.in-Ok-Old.is ∙ ap Ok c.in-Ok-Old.field-0-is) link es h)
 
 pub returns-in-Err-clause-cause : goal.returns-in-Err-clause-cause
 returns-in-Err-clause-cause g c =

@@ -1,9 +1,9 @@
-use Rattle.std.specs.Prelude.{◌≡◌, ℕ, Bool, false, true, not}
+use Rattle.std.specs.Prelude.{◌≡◌, ℕ, List, Bool, false, true, not}
 use Rattle.std.proofs.Common.{sym, ◌∙◌, subst, refl}
 use Rattle.std.proofs.lemmas.Bool.{false≢true}
 use Rattle.hg_btree.specs.Entries.{Entry}
-use Rattle.hg_btree.specs.Nodes.{IsSpot}
-use Rattle.hg_btree.proofs.Leaves.{removes_spot, misses_spot}
+use Rattle.hg_btree.specs.Nodes.{IsNode, IsSpot}
+use Rattle.hg_btree.proofs.Leaves.{removes_spot, misses_spot, if_err}
 use Rattle.hg_btree.proofs.change.take_out.Goals as goal
 
 not_true : (b : Bool) → not b ≡ true → b ≡ false
@@ -28,7 +28,9 @@ returns-clause-taken c = λ _ link es h.
     c.remove.ensures
 
 pub returns-in_err-level-clause-damaged : goal.returns-in_err-level-clause-damaged
-returns-in_err-level-clause-damaged c = λ link es h. false≢true (c.in_err-level.ensures.leaf 0 link es h refl)
+returns-in_err-level-clause-damaged c =
+    if_err c.from_residual.result ((link : ℕ) (es : List Entry) → IsNode false c.args.page.now 0 link es → ⊥) (λ link es h. false≢true (c.in_err-level.ensures.leaf 0 link es h refl))
 
 pub returns-in_err-spot-clause-damaged : goal.returns-in_err-spot-clause-damaged
-returns-in_err-spot-clause-damaged c = λ link es h. false≢true (c.in_err-spot.ensures.sound 0 link es h)
+returns-in_err-spot-clause-damaged c =
+    if_err c.from_residual-in_err-spot.result ((link : ℕ) (es : List Entry) → IsNode false c.args.page.now 0 link es → ⊥) (λ link es h. false≢true (c.in_err-spot.ensures.sound 0 link es h))
