@@ -120,3 +120,10 @@ put_steady file a m b page top pages leaf t put.Old l r has pe line ch =
     Steady_then (pages_mine file pages) a m b (none_wider (pages_mine file pages) a m l.steady) (none_wider (pages_mine file pages) m b ch.looks.steady)
 put_steady file a m b page top pages leaf t put.NoRoom l r has pe line ch =
     Steady_then (pages_mine file pages) a m b (none_wider (pages_mine file pages) a m l.steady) (none_wider (pages_mine file pages) m b ch.looks.steady)
+
+-- by the three ways in which it may end
+pub into : (a d : Space) (page : PageId) (t : Entry) (how : Put) → (how ≡ put.New → PutsInto a d page t put.New) → (how ≡ put.Old → PutsInto a d page t put.Old)
+    → (how ≡ put.NoRoom → PutsInto a d page t put.NoRoom) → PutsInto a d page t how
+into a d page t put.New f g h = f refl
+into a d page t put.Old f g h = g refl
+into a d page t put.NoRoom f g h = h refl

@@ -129,9 +129,7 @@ pub fn put_into<S: Pages>(
     let answer = put_in(space.bytes_mut(&pin), key, place);
     space.unpin(pin);
     match answer {
-        Ok(Put::New) => Ok(Put::New),
-        Ok(Put::Old) => Ok(Put::Old),
-        Ok(Put::NoRoom) => Ok(Put::NoRoom),
+        Ok(how) => Ok(how),
         Err(check) => Err(PageFault::Damaged { page, check }),
     }
 }

@@ -3,12 +3,14 @@ use Rattle.std.proofs.Common.{sym, ◌∙◌, ap, subst, refl, arith}
 use Rattle.hg_base.specs.Space.{Space, key, with_bytes, without_pin}
 use Rattle.hg_btree.specs.Entries.{Entry}
 use Rattle.hg_btree.specs.Nodes.{IsNode}
+use Rattle.hg_btree.specs.Putting.{Adds, Has, IsFullFor}
+use Rattle.hg_btree.proofs.Inserting.{into}
 use Rattle.hg_btree.proofs.Seeking.{damage_cause}
 use Rattle.hg_btree.proofs.Touching.{changed, looked, cause_behind, told_is, pinned_here}
 use Rattle.hg_btree.proofs.change.put_into.Goals as goal
 
-pub returns-in-Ok-New-clause-puts : goal.returns-in-Ok-New-clause-puts
-returns-in-Ok-New-clause-puts g c =
+pub returns-in-Ok-clause-puts : goal.returns-in-Ok-clause-puts
+returns-in-Ok-clause-puts g c =
     let a : Space = g.S.Pages.state c.args.space.now in
     let m : Space = g.S.Pages.state c.open.new.space in
     let d : Space = g.S.Pages.state c.unpin.new.self in
@@ -22,26 +24,14 @@ returns-in-Ok-New-clause-puts g c =
     g.met.S.Pages.writes c.open.new.space k old new c.bytes_mut.ensures.value (ap m.pinned ke ∙ pinned_here a m (key c.args.page) i) c.put_in-answer.auto.page in
     let e : d ≡ without_pin (with_bytes m (key c.args.page) new) (key c.args.page) =
     c.unpin.ensures ∙ ap (λ s. without_pin s k) law ∙ ap (λ q. without_pin (with_bytes m q new) q) ke in
-    changed a m d c.args.page old new _ c.requires.no_pins i value e c.in_ok-pin.ensures.cause.later
-    (λ link es h. c.put_in-answer.ensures.new (c.in-Ok-New.is ∙ ap Ok c.in-Ok-New.field-0-is) link es h)
-
-pub returns-in-Ok-Old-clause-puts : goal.returns-in-Ok-Old-clause-puts
-returns-in-Ok-Old-clause-puts g c =
-    let a : Space = g.S.Pages.state c.args.space.now in
-    let m : Space = g.S.Pages.state c.open.new.space in
-    let d : Space = g.S.Pages.state c.unpin.new.self in
-    let k : ℕ = key (g.S.Pages.pin_page c.in_ok-pin.pin) in
-    let ke : k ≡ key c.args.page = ap key c.in_ok-pin.ensures.names in
-    let old : List ℕ = c.bytes_mut.result.now in
-    let new : List ℕ = c.put_in-answer.new.page in
-    let i = c.in_ok-pin.ensures.ok in
-    let value : m.bytes (key c.args.page) ≡ Some old = ap m.bytes (sym ke) ∙ c.bytes_mut.ensures.value in
-    let law : g.S.Pages.state (g.S.Pages.after_write c.open.new.space k new) ≡ with_bytes m k new =
-    g.met.S.Pages.writes c.open.new.space k old new c.bytes_mut.ensures.value (ap m.pinned ke ∙ pinned_here a m (key c.args.page) i) c.put_in-answer.auto.page in
-    let e : d ≡ without_pin (with_bytes m (key c.args.page) new) (key c.args.page) =
-    c.unpin.ensures ∙ ap (λ s. without_pin s k) law ∙ ap (λ q. without_pin (with_bytes m q new) q) ke in
-    looked a m d c.args.page old new _ c.requires.no_pins i value e c.in_ok-pin.ensures.cause.later
-    (c.put_in-answer.ensures.old (c.in-Ok-Old.is ∙ ap Ok c.in-Ok-Old.field-0-is)) (λ link es h. c.put_in-answer.ensures.had (c.in-Ok-Old.is ∙ ap Ok c.in-Ok-Old.field-0-is) link es h)
+    let t : Entry = record { key = c.args.key.now; place = c.args.place; child = 0 } in
+    into a d c.args.page t c.in-Ok.how
+    (λ q. changed a m d c.args.page old new (λ b n. (link : ℕ) (es : List Entry) → IsNode false b 0 link es → Adds n link es t) c.requires.no_pins i value e c.in_ok-pin.ensures.cause.later
+    (λ link es h. c.in-Ok.ensures.new (ap Ok q) link es h))
+    (λ q. looked a m d c.args.page old new (λ b. (link : ℕ) (es : List Entry) → IsNode false b 0 link es → Has es t) c.requires.no_pins i value e c.in_ok-pin.ensures.cause.later
+    (c.in-Ok.ensures.old (ap Ok q)) (λ link es h. c.in-Ok.ensures.had (ap Ok q) link es h))
+    (λ q. looked a m d c.args.page old new (λ b. IsFullFor b t) c.requires.no_pins i value e c.in_ok-pin.ensures.cause.later
+    ((c.in-Ok.ensures.no_room (ap Ok q)).0) ((c.in-Ok.ensures.no_room (ap Ok q)).1))
 
 pub returns-in-Err-clause-cause : goal.returns-in-Err-clause-cause
 returns-in-Err-clause-cause g c =
