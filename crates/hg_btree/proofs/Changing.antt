@@ -1,13 +1,12 @@
 -- How a tree stays one when leaves change.
-use Rattle.std.specs.Prelude.{◌≡◌, ◌≢◌, ℕ, ◌+◌, ◌^◌, ◌<◌, ◌≤◌, ◌==◌, zero, suc, Bool, true, false, List, [], ◌∷◌, ◌++◌, ◌||◌, length, Option, Some, None, ⊤, if◌then◌else◌}
-use Rattle.std.proofs.Common.{sym, ◌∙◌, ap, subst, refl, arith, append_assoc, length-append, inl, inr}
-use Rattle.std.proofs.lemmas.Bool.{false≢true, cases_eq, ne_eqb}
-use Rattle.hg_btree.specs.Entries.{Entry, AllBy, Before, Ordered, NotBehind, IsSame}
-use Rattle.hg_btree.specs.Nodes.{IsNode, IsBehind}
-use Rattle.hg_btree.specs.Trees.{first_page, AllBefore, IsLeafAt, IsInnerAt, Leaves, Inners, Chained, root, uses, uses_in, times, width_of}
-use Rattle.hg_btree.proofs.Orders.{before_then, not_behind_trans, before_not_behind}
+use Rattle.std.specs.Prelude.{◌≡◌, ℕ, ◌≤◌, List, [], ◌∷◌, ◌++◌, length, Option}
+use Rattle.std.proofs.Common.{◌∙◌, subst, arith, length-append}
+use Rattle.hg_btree.specs.Entries.{Entry, AllBy, Before, Ordered, NotBehind}
+use Rattle.hg_btree.specs.Nodes.{IsBehind}
+use Rattle.hg_btree.specs.Trees.{AllBefore, IsLeafAt, IsInnerAt, Leaves, Inners, Chained, uses, uses_in}
+use Rattle.hg_btree.proofs.Orders.{before_then, before_not_behind}
 use Rattle.hg_btree.proofs.Reading.{all_append, all_front, all_behind}
-use Rattle.hg_btree.proofs.Walking.{all_weaker, ordered_behind, ordered_front, uses-append, uses_in-append, uses_here}
+use Rattle.hg_btree.proofs.Walking.{all_weaker, uses_here}
 
 -- pages that are used are the same
 pub inner_same : (b c : ℕ → Option (List ℕ)) (n : ℕ) (x : Entry) (kids : List Entry) → c x.child ≡ b x.child → IsInnerAt b n x kids → IsInnerAt c n x kids

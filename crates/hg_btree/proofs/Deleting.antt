@@ -1,7 +1,7 @@
 -- A deletion, from the leaf to the tree.
-use Rattle.std.specs.Prelude.{◌≡◌, ◌≢◌, ℕ, ◌+◌, ◌<◌, ◌≤◌, zero, suc, Bool, true, false, List, [], ◌∷◌, ◌++◌, length, Option, Some, None, ⊤}
-use Rattle.std.proofs.Common.{sym, ◌∙◌, ap, subst, refl, arith, append_assoc, length-append}
-use Rattle.hg_base.specs.Space.{Space, NoPins, IsFree, key, key_in}
+use Rattle.std.specs.Prelude.{◌≡◌, ℕ, Bool, true, false, List, ◌∷◌, ◌++◌, Some}
+use Rattle.std.proofs.Common.{sym, ◌∙◌, ap, subst, refl, arith, append_assoc}
+use Rattle.hg_base.specs.Space.{Space, NoPins, key, key_in}
 use Rattle.hg_base.specs.Steadiness.{Mine, Steady}
 use Rattle.hg_base.specs.SteadyLaws.{Steady_wider, Steady_then}
 use Rattle.hg_base.specs.Lines.{IsLine, has_page}
@@ -9,16 +9,16 @@ use Rattle.hg_base.specs.LineLaws.{line_one}
 use Rattle.hg_base.specs.declared.File.{File}
 use Rattle.hg_base.specs.declared.PageId.{PageId}
 use Rattle.hg_btree.specs.Entries.{Entry, AllBy, Before, Ordered, NotBehind, IsSame}
-use Rattle.hg_btree.specs.Nodes.{IsNode, IsBehind}
+use Rattle.hg_btree.specs.Nodes.{IsBehind}
 use Rattle.hg_btree.specs.Trees.{pages_of, first_page, AllBefore, IsTree, HasTree, Reached}
 use Rattle.hg_btree.specs.Steps.{Looks, none_mine, page_mine}
-use Rattle.hg_btree.specs.Leaf.{Removes, Misses, ChangesPage, LooksAt, Holds, TakesFrom}
-use Rattle.hg_btree.specs.Deleting.{TakenOut, Lacks, IsTreeWithout, Deletes, pages_mine}
-use Rattle.hg_btree.proofs.Orders.{same_not_behind, same_back, before_not_behind, not_before_itself, before_then}
-use Rattle.hg_btree.proofs.Reading.{all_append, all_front, all_behind}
+use Rattle.hg_btree.specs.Leaf.{ChangesPage, TakesFrom}
+use Rattle.hg_btree.specs.Deleting.{Lacks, IsTreeWithout, Deletes, pages_mine}
+use Rattle.hg_btree.proofs.Orders.{same_not_behind, same_back, not_before_itself, before_then}
+use Rattle.hg_btree.proofs.Reading.{all_append}
 use Rattle.hg_btree.proofs.Walking.{leaf_here, reached_used, times_has, all_weaker, ordered_front, ordered_behind}
 use Rattle.hg_btree.proofs.Changing.{ordered_without, all_from, before_without, from_without}
-use Rattle.hg_btree.proofs.Seeking.{AskedLeaf, used_free, free_stays, bytes_stay, looks_then}
+use Rattle.hg_btree.proofs.Seeking.{AskedLeaf, used_free, free_stays, bytes_stay}
 use Rattle.hg_btree.proofs.Leaves.{tree_stays, tree_stays-levels, tree_leaf}
 
 -- the leaf where the way has come to may be looked at

@@ -1,13 +1,13 @@
 -- Steps of the way along the entries of a page.
-use Rattle.std.specs.Prelude.{◌≡◌, ℕ, ◌+◌, ◌-◌, ◌^◌, ◌<◌, ◌≤◌, Bool, true, false, List, [], ◌∷◌, ◌++◌, length, take, drop, Option, Some, None, ⊤}
+use Rattle.std.specs.Prelude.{◌≡◌, ℕ, ◌+◌, ◌-◌, ◌<◌, ◌≤◌, Bool, true, false, List, [], ◌∷◌, ◌++◌, length, take, drop, Some, None}
 use Rattle.std.specs.declared.cmp.Ordering.TheVariants.{Less, Equal, Greater}
 use Rattle.std.proofs.Common.{sym, ◌∙◌, ap, subst, refl, arith, append_assoc, length-append}
 use Rattle.std.proofs.lemmas.Bool.{false≢true}
 use Rattle.hg_btree.specs.Entries.{Entry, AllBy, Before, NotBehind, IsSame, order}
 use Rattle.std.specs.Ordering.{is_gt}
-use Rattle.hg_btree.specs.Nodes.{number, page_number, place_at, width, spelled, spelling, last_child, IsProper, IsNode, Reads, Passed, IsSpot, IsThere, IsBehind, IsWay, IsFirst}
+use Rattle.hg_btree.specs.Nodes.{number, page_number, place_at, width, spelled, spelling, last_child, IsNode, Reads, Passed, IsSpot, IsThere, IsBehind, IsWay, IsFirst}
 use Rattle.std.specs.declared.cmp.Ordering.{Ordering}
-use Rattle.hg_btree.proofs.Orders.{less_before, greater_before, equal_same, same_not_behind, same_back, before_not_behind, gt_not_behind}
+use Rattle.hg_btree.proofs.Orders.{greater_before, same_not_behind, same_back, before_not_behind}
 use Rattle.hg_btree.proofs.Reading.{reads, end_is, spelling-none, spelling-more, spelling-append, length-spelled, all_append}
 
 pub passed_none : (inner : Bool) (es : List Entry) (R : Entry → Type 0) → Passed inner es R 16

@@ -1,13 +1,13 @@
 -- How a tree stays one when a page is cut in two: its level has one page more, and the levels above and
 -- below hold what they held.
-use Rattle.std.specs.Prelude.{◌≡◌, ◌≢◌, ℕ, ◌+◌, ◌<◌, ◌≤◌, ◌==◌, Bool, true, false, List, [], ◌∷◌, ◌++◌, length, Option, Some, None, ⊤, if◌then◌else◌}
+use Rattle.std.specs.Prelude.{◌≡◌, ℕ, ◌<◌, true, false, List, [], ◌∷◌, ◌++◌, length, Option, Some, ⊤}
 use Rattle.std.proofs.Common.{sym, ◌∙◌, ap, subst, refl, arith, append_assoc, length-append}
 use Rattle.hg_btree.specs.Entries.{Entry, AllBy, Before, Ordered, NotBehind}
-use Rattle.hg_btree.specs.Nodes.{last_child, IsNode, IsBehind}
-use Rattle.hg_btree.specs.Trees.{first_page, AllBefore, IsLeafAt, with_page, IsInnerAt, Leaves, Inners, uses}
-use Rattle.hg_btree.proofs.Orders.{not_behind_trans, before_then, before_not_behind, not_behind_itself, page_first, page_second}
+use Rattle.hg_btree.specs.Nodes.{IsNode}
+use Rattle.hg_btree.specs.Trees.{first_page, AllBefore, IsLeafAt, with_page, IsInnerAt, Leaves, Inners}
+use Rattle.hg_btree.proofs.Orders.{not_behind_trans, before_not_behind, not_behind_itself, page_second}
 use Rattle.hg_btree.proofs.Reading.{all_append, all_front, all_behind}
-use Rattle.hg_btree.proofs.Walking.{all_weaker, inners_split, inners_join, leaves_split, leaves_join, none_behind, ordered_front, ordered_behind}
+use Rattle.hg_btree.proofs.Walking.{all_weaker, inners_join, leaves_join, none_behind, ordered_behind}
 
 -- a leaf knows of those behind it the first alone
 leaf_tail : (b : ℕ → Option (List ℕ)) (x y : Entry) (xs k j own : List Entry) → IsLeafAt b x (xs ++ y ∷ k) own → IsLeafAt b x (xs ++ y ∷ j) own

@@ -1,25 +1,24 @@
 -- How a tree changes with a leaf.
-use Rattle.std.specs.Prelude.{◌≡◌, ◌≢◌, ℕ, ◌+◌, ◌<◌, ◌≤◌, ◌==◌, zero, suc, Bool, true, false, List, [], ◌∷◌, ◌++◌, ◌||◌, length, Option, Some, None, Result, Ok, Err, IfErr, ⊤, if◌then◌else◌}
+use Rattle.std.specs.Prelude.{◌≡◌, ◌≢◌, ℕ, ◌+◌, ◌≤◌, Bool, true, false, List, [], ◌∷◌, ◌++◌, length, Option, Some, Result, Ok, Err, IfErr, if◌then◌else◌}
 use Rattle.std.specs.List.{AllByRecursion}
-use Rattle.std.proofs.Common.{sym, ◌∙◌, ap, subst, refl, arith, append_assoc, length-append, inl, inr}
-use Rattle.std.proofs.lemmas.Bool.{false≢true, cases_eq, ne_eqb, eq-eqb}
-use Rattle.hg_base.specs.Space.{Space, NoPins, IsFree, key, key_in}
-use Rattle.hg_base.specs.Steadiness.{Steady, IsPlain}
-use Rattle.hg_base.specs.TakenLaws.{AreDistinctPages, key_in-one}
-use Rattle.hg_base.specs.Lines.{IsLine, AreApart, has_page}
+use Rattle.std.proofs.Common.{sym, ◌∙◌, ap, subst, refl, arith, inl, inr}
+use Rattle.std.proofs.lemmas.Bool.{cases_eq, ne_eqb, eq-eqb}
+use Rattle.hg_base.specs.Space.{Space, key, key_in}
+use Rattle.hg_base.specs.Steadiness.{IsPlain}
+use Rattle.hg_base.specs.TakenLaws.{key_in-one}
+use Rattle.hg_base.specs.Lines.{IsLine, AreApart}
 use Rattle.hg_base.specs.LineLaws.{IsSameLink, line_stays, line-plain, all_map, distinct-apart}
 use Rattle.hg_base.specs.declared.File.{File}
 use Rattle.hg_base.specs.declared.PageId.{PageId}
-use Rattle.hg_btree.specs.Entries.{Entry, AllBy, Before, Ordered, NotBehind, IsSame}
-use Rattle.hg_btree.specs.Nodes.{number, spelled, spelling, IsNode, IsBehind, IsSpot, IsThere}
-use Rattle.hg_btree.specs.Trees.{pages_of, first_page, AllBefore, IsLeafAt, Leaves, Chained, root, uses, uses_in, times, IsTree, Reached}
-use Rattle.hg_btree.specs.Steps.{Looks, none_mine, page_mine}
-use Rattle.hg_btree.specs.Leaf.{Removes, Misses, ChangesPage, Holds}
-use Rattle.hg_btree.proofs.Reading.{all_append, all_front, all_behind}
-use Rattle.hg_btree.proofs.Walking.{leaf_here, none_behind, uses-append, uses_in-append, uses_here, reached_used, LeafHere}
+use Rattle.hg_btree.specs.Entries.{Entry, AllBy, Before, Ordered, NotBehind}
+use Rattle.hg_btree.specs.Nodes.{spelled, spelling, IsNode, IsSpot, IsThere}
+use Rattle.hg_btree.specs.Trees.{pages_of, first_page, AllBefore, IsLeafAt, Leaves, root, uses, uses_in, times, IsTree, Reached}
+use Rattle.hg_btree.specs.Steps.{Looks}
+use Rattle.hg_btree.specs.Leaf.{Removes, Misses, ChangesPage}
+use Rattle.hg_btree.proofs.Walking.{none_behind, uses-append, uses_in-append, uses_here, LeafHere}
 use Rattle.hg_btree.proofs.Changing.{Agree, AreChained, leaves_same, chained_same, chained_swap}
 use Rattle.hg_btree.proofs.Walking.{leaves_join}
-use Rattle.hg_btree.proofs.Seeking.{used_free, free_stays, bytes_stay}
+use Rattle.hg_btree.proofs.Seeking.{used_free, bytes_stay}
 
 -- ---- what stands at a spot
 

@@ -1,22 +1,16 @@
 -- A tree that begins, and one whose pages are given back.
-use Rattle.std.specs.Prelude.{◌≡◌, ◌≢◌, ℕ, ◌+◌, ◌^◌, ◌<◌, ◌≤◌, ◌==◌, zero, suc, Bool, true, false, List, [], ◌∷◌, ◌++◌, ◌||◌, length, Option, Some, None, ⊤, if◌then◌else◌}
+use Rattle.std.specs.Prelude.{◌≡◌, ◌≢◌, ℕ, ◌+◌, ◌^◌, ◌<◌, ◌≤◌, ◌==◌, Bool, true, false, List, [], ◌∷◌, ◌++◌, ◌||◌, length, Option, Some, None}
 use Rattle.std.specs.List.{AllByRecursion}
-use Rattle.std.proofs.Common.{sym, ◌∙◌, ap, subst, refl, arith, append_assoc, length-append}
-use Rattle.std.proofs.lemmas.Bool.{false≢true}
+use Rattle.std.proofs.Common.{sym, ◌∙◌, ap, subst, refl, arith, append_assoc}
 use Rattle.std.proofs.lemmas.Bool.Decides.{nat_tests}
 use Rattle.hg_base.specs.Space.{Space, NoPins, key, key_in, at, without_page, taken_in}
-use Rattle.hg_base.specs.Causes.{Later}
-use Rattle.hg_base.specs.Steadiness.{Mine, Steady, IsPlain, IsSamePage}
+use Rattle.hg_base.specs.Steadiness.{Steady}
 use Rattle.hg_base.specs.SteadyLaws.{Steady_same, Steady_then, Steady_wider, Later_same}
 use Rattle.hg_base.specs.TakenLaws.{key_in-one}
 use Rattle.hg_base.specs.Lines.{IsLine, has_page}
-use Rattle.hg_base.specs.LineLaws.{IsSameLink, line_stays, line_few, all_map, all_more, line_one}
+use Rattle.hg_base.specs.LineLaws.{IsSameLink, line_stays, line_few, all_map, all_more}
 use Rattle.hg_base.specs.declared.File.{File}
 use Rattle.hg_base.specs.declared.PageId.{PageId}
-use Rattle.hg_base.specs.declared.Tree.{Tree}
-use Rattle.hg_btree.specs.Entries.{Entry}
-use Rattle.hg_btree.specs.Nodes.{IsNode}
-use Rattle.hg_btree.specs.Trees.{pages_of, first_page, IsTree, Leaves, root, uses_in, times}
 use Rattle.hg_btree.specs.Steps.{page_mine}
 use Rattle.hg_btree.specs.Life.{MakesLeaf, Makes, Ends, Releases}
 use Rattle.hg_btree.specs.Deleting.{pages_mine}

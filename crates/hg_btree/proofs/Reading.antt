@@ -1,12 +1,11 @@
 -- What is read of a page that holds entries.
-use Rattle.std.specs.Prelude.{◌≡◌, ℕ, ◌+◌, ◌-◌, ◌^◌, ◌<◌, ◌≤◌, zero, suc, Bool, true, false, List, [], ◌∷◌, ◌++◌, length, take, drop, ⊤}
+use Rattle.std.specs.Prelude.{◌≡◌, ℕ, ◌+◌, ◌^◌, ◌<◌, ◌≤◌, Bool, true, false, List, [], ◌∷◌, ◌++◌, length, take, drop}
 use Rattle.std.specs.Int.{w16, w32, w64, from_le_bytes, to_le_bytes}
-use Rattle.std.proofs.Common.{sym, ◌∙◌, ap, subst, refl, arith, append_assoc, length-append, length-take, length-drop}
+use Rattle.std.proofs.Common.{sym, ◌∙◌, ap, subst, refl, arith, append_assoc, length-append}
 use Rattle.std.proofs.lemmas.List.{take-take, take_at, drop_at, drop-take, drop-drop}
 use Rattle.std.proofs.lemmas.Nat.{from_le_bytes-to_le_bytes_2, from_le_bytes-to_le_bytes_4, from_le_bytes-to_le_bytes_8}
-use Rattle.hg_base.specs.Parts.{parts}
-use Rattle.hg_btree.specs.Entries.{Entry, AllBy, Before, is_below}
-use Rattle.hg_btree.specs.Nodes.{number, page_number, place_at, width, child_bytes, spelled, spelling, IsProper, IsNode, Reads, Passed}
+use Rattle.hg_btree.specs.Entries.{Entry, AllBy}
+use Rattle.hg_btree.specs.Nodes.{number, page_number, place_at, width, child_bytes, spelled, spelling, IsProper, IsNode, Reads}
 
 -- a part of bytes that is u and then v begins with u
 pub front : (b u v : List ℕ) (at n : ℕ) → take n (drop at b) ≡ u ++ v → length u + length v ≡ n → take (length u) (drop at b) ≡ u

@@ -1,20 +1,17 @@
 -- What is known of the pages of a tree over a space that is only looked at.
-use Rattle.std.specs.Prelude.{◌≡◌, ℕ, ◌+◌, ◌^◌, ◌<◌, ◌≤◌, ◌==◌, zero, suc, Bool, true, false, List, [], ◌∷◌, ◌++◌, ◌||◌, length, Option, Some, None, ⊤, if◌then◌else◌}
-use Rattle.std.specs.List.{AllByRecursion}
+use Rattle.std.specs.Prelude.{◌≡◌, ℕ, ◌+◌, ◌<◌, ◌≤◌, zero, suc, Bool, true, false, List, [], ◌∷◌, ◌++◌, length, Option, Some, None}
 use Rattle.std.proofs.Common.{sym, ◌∙◌, ap, subst, refl, arith, append_assoc, length-append}
-use Rattle.hg_base.specs.Space.{Space, NoPins, IsFree, IsSame, key, key_in, taken_in, taken_below}
-use Rattle.hg_base.specs.Causes.{Later, HasCause}
+use Rattle.hg_base.specs.Space.{Space, NoPins, IsFree, key, key_in, taken_in, taken_below}
+use Rattle.hg_base.specs.Causes.{HasCause}
 use Rattle.hg_base.specs.declared.Check.{Check}
 use Rattle.hg_base.specs.declared.pages.PageFault.TheVariants as fault
-use Rattle.hg_base.specs.Steadiness.{Steady, IsPlain, IsSamePage}
-use Rattle.hg_base.specs.SteadyLaws.{Steady_same, Steady_then, Steady_refused}
-use Rattle.hg_base.specs.Lines.{IsLine, has_page}
+use Rattle.hg_base.specs.SteadyLaws.{Steady_same, Steady_then}
 use Rattle.hg_base.specs.LineLaws.{line_free, line_few}
 use Rattle.hg_base.specs.declared.File.{File}
 use Rattle.hg_base.specs.declared.PageId.{PageId}
-use Rattle.hg_btree.specs.Entries.{Entry, AllBy, Before, Ordered, NotBehind}
+use Rattle.hg_btree.specs.Entries.{Entry, AllBy, Before}
 use Rattle.hg_btree.specs.Nodes.{IsNode, IsFirst}
-use Rattle.hg_btree.specs.Trees.{pages_of, first_page, IsTree, HasTree, Reached, LedTo, Along, Leaves, root, uses, uses_in, times, width_of, IsLeafAt}
+use Rattle.hg_btree.specs.Trees.{pages_of, first_page, IsTree, HasTree, Reached, LedTo, Along, Leaves, uses, uses_in, times, width_of, IsLeafAt}
 use Rattle.hg_btree.specs.Looking.{IsTreePage, LeadsFrom, SeeksOn}
 use Rattle.hg_btree.specs.declared.look.OnLeaf.TheVariants as on
 use Rattle.hg_btree.specs.Steps.{Looks, none_mine}

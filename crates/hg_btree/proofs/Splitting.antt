@@ -1,11 +1,11 @@
 -- What the parts of a page that is cut hold.
-use Rattle.std.specs.Prelude.{◌≡◌, ℕ, ◌+◌, ◌-◌, ◌^◌, ◌<◌, ◌≤◌, zero, suc, Bool, true, false, List, [], ◌∷◌, ◌++◌, length, take, drop, slice_index, ◌⊎◌, ⊤}
+use Rattle.std.specs.Prelude.{◌≡◌, ℕ, ◌+◌, ◌-◌, ◌^◌, ◌<◌, ◌≤◌, Bool, true, false, List, [], ◌∷◌, ◌++◌, length, take, drop, ◌⊎◌}
 use Rattle.std.specs.Int.{w16, w32, from_le_bytes, to_le_bytes}
-use Rattle.std.proofs.Common.{sym, ◌∙◌, ap, subst, refl, arith, append_assoc, length-append, length-take, length-drop, inl, inr}
+use Rattle.std.proofs.Common.{sym, ◌∙◌, ap, subst, refl, arith, append_assoc, length-append, inl, inr}
 use Rattle.std.proofs.lemmas.Nat.{from_le_bytes-to_le_bytes_4}
 use Rattle.hg_base.specs.Parts.{below, above, within, length-written}
 use borrow.Rule.Slice.PartMut.{put_mid}
-use Rattle.hg_btree.specs.Entries.{Entry, AllBy}
+use Rattle.hg_btree.specs.Entries.{Entry}
 use Rattle.hg_btree.specs.Nodes.{number, page_number, width, link_at, spelled, spelling, IsProper, IsNode, Reads}
 use Rattle.hg_btree.specs.Writing.{KeepsHead, SetsHead}
 use Rattle.hg_btree.specs.Cutting.{IsCut, Counted}

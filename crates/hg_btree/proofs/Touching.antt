@@ -1,14 +1,14 @@
 -- A page that was pinned, written and given back.
-use Rattle.std.specs.Prelude.{◌≡◌, ◌≢◌, ℕ, ◌+◌, ◌-◌, ◌==◌, Bool, true, false, List, length, Option, Some, None}
+use Rattle.std.specs.Prelude.{◌≡◌, ◌≢◌, ℕ, Bool, true, false, List, Option, Some, None}
 use Rattle.std.proofs.Common.{sym, ◌∙◌, ap, subst, refl, arith, inl, inr}
 use Rattle.std.proofs.lemmas.Bool.{cases_eq}
 use Rattle.std.proofs.lemmas.Bool.Decides.{nat_tests}
 use Rattle.hg_base.specs.Space.{Space, Counts, NoPins, IsPinned, key, at, unpinned_bytes, with_pin, with_counts, with_bytes, without_pin}
 use Rattle.hg_base.specs.Causes.{Later, HasCause}
-use Rattle.hg_base.specs.Steadiness.{Mine, Steady, IsPlain}
+use Rattle.hg_base.specs.Steadiness.{Mine, Steady}
 use Rattle.hg_base.specs.declared.PageId.{PageId}
-use Rattle.hg_btree.specs.Steps.{Looks, none_mine, page_mine}
-use Rattle.hg_btree.specs.Leaf.{ChangesPage, LooksAt, Holds}
+use Rattle.hg_btree.specs.Steps.{none_mine, page_mine}
+use Rattle.hg_btree.specs.Leaf.{ChangesPage, LooksAt}
 
 at-other : {X : Type 0} (f : ℕ → X) (p : ℕ) (x : X) (q : ℕ) → q ≢ p → at f p x q ≡ f q
 at-other f p x q h = grind (arith, nat_tests)

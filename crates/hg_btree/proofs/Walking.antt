@@ -1,13 +1,12 @@
 -- The way down a tree.
-use Rattle.std.specs.Prelude.{◌≡◌, ℕ, ◌+◌, ◌<◌, ◌≤◌, ◌==◌, zero, suc, Bool, true, false, List, [], ◌∷◌, ◌++◌, ◌||◌, length, Option, Some, None, ⊤, if◌then◌else◌}
-use Rattle.std.proofs.Common.{sym, ◌∙◌, ap, subst, refl, arith, append_assoc, length-append}
+use Rattle.std.specs.Prelude.{◌≡◌, ℕ, ◌+◌, ◌≤◌, ◌==◌, Bool, true, false, List, [], ◌∷◌, ◌++◌, ◌||◌, length, Option, if◌then◌else◌}
+use Rattle.std.proofs.Common.{sym, ◌∙◌, ap, subst, refl, arith, append_assoc}
 use Rattle.hg_btree.specs.Entries.{Entry, AllBy, Ordered, Before, NotBehind}
-use Rattle.hg_btree.specs.Nodes.{last_child, IsNode, IsBehind, IsWay, Passed}
-use Rattle.hg_btree.specs.Trees.{first_page, AllBefore, IsLeafAt, with_page, IsInnerAt, Leaves, Inners, Chained, root, AllSorted, Reached}
+use Rattle.hg_btree.specs.Nodes.{last_child, IsBehind, IsWay}
+use Rattle.hg_btree.specs.Trees.{IsLeafAt, with_page, IsInnerAt, Leaves, Inners, Chained, root, AllSorted, Reached}
 use Rattle.hg_base.specs.Lines.{has_page}
 use Rattle.hg_btree.specs.Trees.{uses, uses_in, times, width_of}
-use Rattle.hg_btree.proofs.Orders.{least_first, not_behind_trans, before_then, then_before, page_first, page_second}
-use Rattle.std.proofs.lemmas.Bool.{false≢true}
+use Rattle.hg_btree.proofs.Orders.{least_first, before_then, page_second}
 use Rattle.std.proofs.lemmas.Bool.Decides.{nat_tests}
 use Rattle.hg_btree.proofs.Reading.{all_behind, all_front, all_append}
 

@@ -1,5 +1,5 @@
 -- What a deletion does to a tree. Our own rule.
-use Rattle.std.specs.Prelude.{◌≡◌, ℕ, Bool, true, false, List, ◌∷◌, ◌++◌, Option, Some}
+use Rattle.std.specs.Prelude.{◌≡◌, ℕ, Bool, true, false, List, ◌∷◌, ◌++◌}
 use Rattle.hg_base.specs.Space.{Space, key_in}
 use Rattle.hg_base.specs.Steadiness.{Mine, these_pages}
 use Rattle.hg_base.specs.Lines.{has_page}

@@ -1,5 +1,5 @@
 -- What is found on single pages of a tree. Our own rule.
-use Rattle.std.specs.Prelude.{◌≡◌, ℕ, ◌+◌, ◌<◌, Bool, true, false, List, Option, Some, None, ⊤}
+use Rattle.std.specs.Prelude.{◌≡◌, ℕ, ◌<◌, Bool, true, false, List, Some, None}
 use Rattle.hg_btree.specs.Entries.{Entry}
 use Rattle.hg_btree.specs.Nodes.{IsNode, IsWay, IsFirst}
 use Rattle.hg_btree.specs.declared.look.OnLeaf.{OnLeaf}

@@ -1,6 +1,6 @@
 -- What putting an entry into a leaf does to it, to a space, and to a tree. Our own rule.
-use Rattle.std.specs.Prelude.{◌≡◌, ℕ, ◌+◌, ◌<◌, Bool, true, false, List, ◌∷◌, ◌++◌, length, Option, Some}
-use Rattle.hg_base.specs.Space.{Space, key}
+use Rattle.std.specs.Prelude.{◌≡◌, ℕ, ◌+◌, ◌<◌, false, List, ◌∷◌, ◌++◌, length}
+use Rattle.hg_base.specs.Space.{Space}
 use Rattle.hg_base.specs.declared.File.{File}
 use Rattle.hg_base.specs.declared.PageId.{PageId}
 use Rattle.hg_btree.specs.Entries.{Entry, AllBy, Before, IsSame}

@@ -1,9 +1,8 @@
 -- What the small calls do that the calls on a tree are made of. Our own rule.
-use Rattle.std.specs.Prelude.{◌≡◌, ◌≢◌, ℕ, ◌+◌, ◌<◌, ◌≤◌, Bool, true, false, List, Option, Some, None, ⊤}
-use Rattle.hg_base.specs.Space.{Space, key, key_in, at, IsFree, IsFull}
+use Rattle.std.specs.Prelude.{◌≡◌, ⊤}
+use Rattle.hg_base.specs.Space.{Space, key}
 use Rattle.hg_base.specs.Steadiness.{Mine, Steady, these_pages}
 use Rattle.hg_base.specs.declared.File.{File}
-use Rattle.hg_base.specs.declared.File.TheVariants as file
 use Rattle.hg_base.specs.declared.PageId.{PageId}
 use Rattle.hg_base.specs.declared.Check.{Check}
 use Rattle.hg_base.specs.declared.Check.TheVariants.{Kind, Size, Frame, Link, Level, Order, RowBytes}

@@ -6,7 +6,7 @@
 --
 -- A level is the list of its pages, each with the bound that its entries are not before: an entry whose
 -- child is the page. The bound of the first page of a level is the least entry.
-use Rattle.std.specs.Prelude.{◌≡◌, ℕ, ◌+◌, ◌*◌, ◌^◌, ◌<◌, ◌≤◌, ◌==◌, zero, suc, Bool, true, false, List, [], ◌∷◌, ◌++◌, length, Option, Some, None, ⊤, if◌then◌else◌}
+use Rattle.std.specs.Prelude.{◌≡◌, ℕ, ◌+◌, ◌^◌, ◌<◌, ◌≤◌, ◌==◌, true, false, List, [], ◌∷◌, ◌++◌, length, Option, Some, ⊤, if◌then◌else◌}
 use Rattle.hg_base.specs.Space.{Space, key_in}
 use Rattle.hg_base.specs.Lines.{IsLine}
 use Rattle.hg_base.specs.declared.File.{File}

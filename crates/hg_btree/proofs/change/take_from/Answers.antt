@@ -1,7 +1,6 @@
-use Rattle.std.specs.Prelude.{◌≡◌, ◌≢◌, ℕ, List, true, false, Some, None, Ok, length}
-use Rattle.std.proofs.Common.{sym, ◌∙◌, ap, subst, refl, arith}
+use Rattle.std.specs.Prelude.{◌≡◌, ℕ, List, false, Some, Ok}
+use Rattle.std.proofs.Common.{sym, ◌∙◌, ap, subst}
 use Rattle.hg_base.specs.Space.{Space, key, with_bytes, without_pin}
-use Rattle.hg_btree.specs.Entries.{Entry}
 use Rattle.hg_btree.specs.Nodes.{IsNode}
 use Rattle.hg_btree.proofs.Seeking.{damage_cause}
 use Rattle.hg_btree.proofs.Touching.{changed, looked, cause_behind, told_is, pinned_here}

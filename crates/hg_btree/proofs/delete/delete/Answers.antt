@@ -1,7 +1,4 @@
-use Rattle.std.specs.Prelude.{◌≡◌, ℕ}
-use Rattle.std.proofs.Common.{sym, ◌∙◌, subst, refl}
-use Rattle.hg_base.specs.Space.{Space}
-use Rattle.hg_btree.specs.Entries.{Entry}
+use Rattle.std.proofs.Common.{sym, ◌∙◌}
 use Rattle.hg_btree.proofs.Deleting.{asked_here, deleted, taken_steady}
 use Rattle.hg_btree.proofs.delete.delete.Goals as goal
 

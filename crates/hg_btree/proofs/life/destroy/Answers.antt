@@ -1,5 +1,5 @@
-use Rattle.std.specs.Prelude.{◌≡◌, ℕ, ◌+◌, true, List, Option, Some, None}
-use Rattle.std.proofs.Common.{sym, ◌∙◌, ap, subst, refl, arith}
+use Rattle.std.specs.Prelude.{◌≡◌, ℕ, ◌+◌}
+use Rattle.std.proofs.Common.{sym, ◌∙◌, ap, subst, arith}
 use Rattle.hg_base.specs.Space.{Space, key, key_in, without_page}
 use Rattle.hg_btree.specs.Life.{Releases}
 use Rattle.hg_btree.proofs.Living.{releases_none, first_of, releases_more, ends_none, ends_few}

@@ -1,4 +1,4 @@
-use Rattle.std.proofs.Common.{sym, ◌∙◌, arith}
+use Rattle.std.proofs.Common.{◌∙◌}
 use Rattle.hg_btree.proofs.look.lead.Goals as goal
 
 pub returns-clause-leads : goal.returns-clause-leads

@@ -1,8 +1,7 @@
-use Rattle.std.specs.Prelude.{◌≡◌, ℕ, ◌-◌, List}
-use Rattle.std.proofs.Common.{sym, ◌∙◌, ap, subst, refl, arith}
+use Rattle.std.specs.Prelude.{◌-◌}
+use Rattle.std.proofs.Common.{sym, ◌∙◌, ap, arith}
 use Rattle.std.proofs.lemmas.Bool.{false≢true}
 use Rattle.hg_btree.specs.Entries.{Entry, Before}
-use Rattle.hg_btree.specs.Nodes.{IsNode, Passed}
 use Rattle.hg_btree.proofs.Orders.{less_before, greater_before, equal_same}
 use Rattle.hg_btree.proofs.Finding.{passed_none, here, order_here, after_is, passed_more, spot_last, spot_there, spot_before}
 use Rattle.hg_btree.proofs.node.find.Goals as goal

@@ -1,4 +1,4 @@
-use Rattle.std.specs.Prelude.{ℕ, Bool, List, ◌≤◌, ◌-◌}
+use Rattle.std.specs.Prelude.{ℕ, List, ◌≤◌, ◌-◌}
 use Rattle.hg_btree.specs.Entries.{Entry, Before}
 use Rattle.hg_btree.specs.Nodes.{IsNode, Passed}
 use Rattle.hg_btree.proofs.node.find.Given as goal

@@ -1,8 +1,7 @@
-use Rattle.std.specs.Prelude.{◌≡◌, ℕ, ◌+◌, ◌-◌, ◌++◌, take, drop, false, List}
-use Rattle.std.proofs.Common.{sym, ◌∙◌, ap, subst, refl, arith}
+use Rattle.std.specs.Prelude.{◌+◌, ◌-◌, ◌++◌, take, drop, false}
+use Rattle.std.proofs.Common.{◌∙◌, ap, arith}
 use Rattle.std.proofs.lemmas.Bool.{false≢true}
 use Rattle.hg_btree.specs.Entries.{Entry}
-use Rattle.hg_btree.specs.Nodes.{IsNode, Passed}
 use Rattle.hg_btree.proofs.Finding.{here, spot_first, spot_none}
 use Rattle.hg_btree.proofs.node.first_from.Goals as goal
 

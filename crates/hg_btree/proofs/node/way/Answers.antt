@@ -1,9 +1,8 @@
-use Rattle.std.specs.Prelude.{◌≡◌, ℕ, ◌-◌, true, List}
+use Rattle.std.specs.Prelude.{◌-◌, true}
 use Rattle.std.specs.Ordering.{is_gt}
-use Rattle.std.proofs.Common.{sym, ◌∙◌, ap, subst, refl, arith}
+use Rattle.std.proofs.Common.{sym, ◌∙◌, ap, refl, arith}
 use Rattle.std.proofs.lemmas.Bool.{false≢true}
-use Rattle.hg_btree.specs.Entries.{Entry, Before, NotBehind}
-use Rattle.hg_btree.specs.Nodes.{IsNode, Passed}
+use Rattle.hg_btree.specs.Entries.{Entry, NotBehind}
 use Rattle.hg_btree.proofs.Orders.{gt_not_behind}
 use Rattle.hg_btree.proofs.Finding.{passed_none, here, order_here, after_is, passed_more, way_before, way_last, gt_greater}
 use Rattle.hg_btree.proofs.node.way.Goals as goal

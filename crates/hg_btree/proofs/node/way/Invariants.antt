@@ -1,4 +1,4 @@
-use Rattle.std.specs.Prelude.{ℕ, Bool, true, List, ◌≤◌, ◌-◌}
+use Rattle.std.specs.Prelude.{ℕ, true, List, ◌≤◌, ◌-◌}
 use Rattle.hg_btree.specs.Entries.{Entry, NotBehind}
 use Rattle.hg_btree.specs.Nodes.{IsNode, Passed}
 use Rattle.hg_btree.proofs.node.way.Given as goal

@@ -1,7 +1,6 @@
-use Rattle.std.specs.Prelude.{◌≡◌, ℕ, ◌+◌, ◌-◌, true, List, Some, None}
-use Rattle.std.proofs.Common.{sym, ◌∙◌, ap, subst, refl, arith}
+use Rattle.std.specs.Prelude.{◌-◌, None}
+use Rattle.std.proofs.Common.{sym, ◌∙◌, ap, arith}
 use Rattle.hg_base.specs.Space.{Space, key}
-use Rattle.hg_base.specs.Causes.{HasCause}
 use Rattle.hg_base.specs.SteadyLaws.{HasCause_behind}
 use Rattle.hg_btree.specs.Entries.{Entry}
 use Rattle.hg_btree.proofs.Seeking.{asked_first, asked_below, told_before, led_first, led_next, looks_then, damage_cause}

@@ -1,4 +1,4 @@
-use Rattle.std.specs.Prelude.{ℕ, List, None, ◌<◌}
+use Rattle.std.specs.Prelude.{ℕ, List, None}
 use Rattle.hg_base.specs.Causes.{HasCause}
 use Rattle.hg_btree.specs.Entries.{Entry}
 use Rattle.hg_btree.specs.Trees.{IsTree, Along, pages_of}

@@ -1,5 +1,4 @@
-use Rattle.std.specs.Prelude.{◌≡◌, ℕ, List}
-use Rattle.std.proofs.Common.{sym, ◌∙◌, ap, subst, refl, arith}
+use Rattle.std.proofs.Common.{arith}
 use Rattle.hg_btree.proofs.Splitting.{counted_none, counted_more, cut_here}
 use Rattle.hg_btree.proofs.split.cut.Goals as goal
 

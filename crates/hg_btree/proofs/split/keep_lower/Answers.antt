@@ -1,5 +1,5 @@
-use Rattle.std.specs.Prelude.{◌≡◌, ℕ, ◌+◌, ◌-◌, List, take, drop}
-use Rattle.std.proofs.Common.{sym, ◌∙◌, ap, subst, refl, arith, length-take, length-drop}
+use Rattle.std.specs.Prelude.{ℕ, ◌-◌, List, drop}
+use Rattle.std.proofs.Common.{◌∙◌, refl, arith, length-take, length-drop}
 use borrow.Rule.Slice.PartMut.{put_mid}
 use Rattle.hg_btree.proofs.Splitting.{lower_kept}
 use Rattle.hg_btree.proofs.split.keep_lower.Goals as goal

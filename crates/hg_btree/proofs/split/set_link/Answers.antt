@@ -1,6 +1,4 @@
-use Rattle.std.specs.Prelude.{◌≡◌, ℕ}
-use Rattle.std.specs.Int.{w32, to_le_bytes}
-use Rattle.std.proofs.Common.{sym, ◌∙◌, ap, subst, refl, arith}
+use Rattle.std.proofs.Common.{sym, subst, arith}
 use Rattle.hg_btree.specs.Nodes.{IsNode}
 use Rattle.hg_btree.proofs.Splitting.{linked}
 use Rattle.hg_btree.proofs.split.set_link.Goals as goal

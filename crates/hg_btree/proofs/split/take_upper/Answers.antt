@@ -1,5 +1,5 @@
-use Rattle.std.specs.Prelude.{◌≡◌, ℕ, ◌+◌, ◌-◌, List, take, drop}
-use Rattle.std.proofs.Common.{sym, ◌∙◌, ap, subst, refl, arith}
+use Rattle.std.specs.Prelude.{ℕ, ◌+◌, ◌-◌}
+use Rattle.std.proofs.Common.{ap, refl}
 use borrow.Rule.Slice.PartMut.{put_mid}
 use Rattle.hg_btree.proofs.Splitting.{upper_taken}
 use Rattle.hg_btree.proofs.split.take_upper.Goals as goal

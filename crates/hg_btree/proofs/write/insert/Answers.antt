@@ -1,8 +1,7 @@
 use Rattle.std.specs.Prelude.{ℕ, ◌≡◌, ◌+◌, ◌-◌, List, length}
-use Rattle.std.proofs.Common.{sym, ◌∙◌, ap, subst, refl, arith}
+use Rattle.std.proofs.Common.{sym, ◌∙◌, ap, arith}
 use borrow.Rule.Slice.PartMut.{put_mid}
 use Rattle.hg_btree.specs.Entries.{Entry}
-use Rattle.hg_btree.specs.Nodes.{spelled}
 use Rattle.hg_btree.proofs.Reading.{length-spelled}
 use Rattle.hg_btree.proofs.Writing.{inserted}
 use Rattle.hg_btree.proofs.write.insert.Goals as goal

@@ -1,5 +1,5 @@
-use Rattle.std.specs.Prelude.{ℕ, ◌≡◌, ◌+◌, ◌-◌, List, length, take, drop}
-use Rattle.std.proofs.Common.{sym, ◌∙◌, ap, subst, refl, arith, length-take, length-drop}
+use Rattle.std.specs.Prelude.{ℕ, ◌-◌, List, drop}
+use Rattle.std.proofs.Common.{◌∙◌, refl, arith, length-take, length-drop}
 use borrow.Rule.Slice.PartMut.{put_mid}
 use Rattle.hg_btree.proofs.Writing.{removed}
 use Rattle.hg_btree.proofs.write.remove.Goals as goal

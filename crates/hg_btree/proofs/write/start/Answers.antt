@@ -1,5 +1,5 @@
 use Rattle.std.specs.Prelude.{ℕ, List, slice_set}
-use Rattle.std.proofs.Common.{sym, ◌∙◌, ap, subst, refl, arith}
+use Rattle.std.proofs.Common.{◌∙◌, refl, arith}
 use Rattle.hg_btree.proofs.Writing.{started}
 use Rattle.hg_btree.proofs.write.start.Goals as goal
 
