@@ -1,0 +1,14 @@
+pub mod Orders
+pub mod Reading
+pub mod Finding
+pub mod Writing
+pub mod Walking
+pub mod Seeking
+pub mod Changing
+pub mod Leaves
+pub mod Deleting
+pub mod Living
+pub mod Splitting
+pub mod Inserting
+pub mod Halving
+pub mod Touching

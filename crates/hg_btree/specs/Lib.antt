@@ -1,0 +1,11 @@
+pub mod Entries
+pub mod Nodes
+pub mod Writing
+pub mod Trees
+pub mod Looking
+pub mod Steps
+pub mod Leaf
+pub mod Deleting
+pub mod Life
+pub mod Cutting
+pub mod Putting

@@ -1,0 +1,43 @@
+//! Ordered trees of keys and places on pages. It stands on `hg_base` (and `arrayvec`) alone; the
+//! contract that the layers above use is that of [`TreeCalls`].
+//!
+//! ```text
+//! level 2                     [ top ]
+//! level 1           [ a ]                [ b ]
+//! level 0    [ c ] -> [ d ] -> [ e ] -> [ f ] -> none        leaves, each names the next one
+//!
+//! a page     | L or N | level | entries | first free byte | .. | next leaf | first child | entries ..
+//!   byte     0        1       2         4                 6    8           12            16
+//! an entry   | length of the key | place | key | child, on an inner page |
+//!   bytes    2                   8             4
+//! ```
+//!
+//! A child's entries are not before its own entry, and before the next one. Entries have no fixed length
+//! and no directory, so an entry is found by one pass over the page's bytes: about half of the entries of
+//! one page a level are compared, in place. Twelve bytes of key give 185 entries a leaf.
+//!
+//! A tree is seen as its entries in order, its pages as a line of successors from the top on, and its
+//! number of leaves (`IsTree` of `specs/Trees.antt`). Over levels, not over nodes: each level is the list
+//! of its pages with their bounds, and each level is the children of the one above it, one page behind
+//! the other. So a page that is cut in two changes its own level's list by one place and leaves the
+//! lists above and below as they were.
+//!
+//! This crate makes, reads, thins out and ends trees, and puts entries where they fit their leaf. The
+//! call that cuts full pages in two is not here yet; its steps on single pages are (`split`).
+#![tactic(auto)]
+
+mod calls;
+mod change;
+mod delete;
+mod life;
+mod look;
+mod node;
+mod put;
+mod seek;
+mod split;
+#[cfg(test)]
+mod tests;
+mod write;
+
+pub use calls::TreeCalls;
+pub use life::make;
