@@ -33,7 +33,7 @@ pub fn fitting_lines_never_fill()
     ensures { laws.FittingLinesNeverFill }
 {}
 
-/// No turn ends with the limit error where the ceiling is at least the floor of each open cursor.
+/// No turn ends with the limit error where the ceiling is at least the floor of the cursor at the front.
 pub fn floors_prevent_the_limit()
     ensures { laws.FloorsPreventTheLimit }
 {}

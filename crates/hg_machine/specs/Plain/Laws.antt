@@ -115,12 +115,14 @@ abbrev pub FittingLinesNeverFill : Type 0
 FittingLinesNeverFill = (built : CommandTree → Bool) (old new : State) (line : Line) (lines : List ReplyLine)
     → RunsLine (exactly built) old line lines new → IsBetweenLines old → LineFits old line → NeverFull lines
 
--- no turn ends with the limit error where the ceiling is at least the floor of each open cursor
-abbrev pub FloorsFit : State → Type 0
-FloorsFit s = AllByRecursion (λ (c : CursorState). c.floor ≤ ceiling s) s.cursors
+-- no turn ends with the limit error where the ceiling is at least the floor of the cursor at the front,
+-- whatever those of the others are
+abbrev pub FloorFits : State → Type 0
+FloorFits s = (name : CursorName) (others : List CursorName) (c : CursorState) → s.round ≡ name ∷ others → cursor_named s.cursors name ≡ Some c
+    → c.floor ≤ ceiling s
 
 abbrev pub FloorsPreventTheLimit : Type 0
-FloorsPreventTheLimit = (old new : State) (lines : List ReplyLine) → Turn old lines new → FloorsFit old → code_lines 16 lines ≡ 0
+FloorsPreventTheLimit = (old new : State) (lines : List ReplyLine) → Turn old lines new → FloorFits old → code_lines 16 lines ≡ 0
 
 -- ---- over devices that do not tell, the machine's own steps are among those that may come
 
