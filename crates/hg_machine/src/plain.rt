@@ -16,6 +16,13 @@ pub fn runs_are_steady()
     ensures lines { laws.LinesKeepSteady }
 {}
 
+/// And each step of a line by itself keeps that: its beginning, each turn and its closing; over devices
+/// that do not tell as well.
+pub fn steps_keep_steady()
+    ensures exact { laws.ExactStepsKeepSteady }
+    ensures loose { laws.LooseStepsKeepSteady }
+{}
+
 /// A command at work can always finish, and no device need fail for that; so what a run says that stops in
 /// the midst of a line is a front of what a whole run says.
 pub fn commands_can_finish()

@@ -59,6 +59,18 @@ abbrev pub LinesKeepSteady : Type 0
 LinesKeepSteady = (built : CommandTree → Bool) (old new : State) (script : List Line) (lines : List ReplyLine)
     → RunsLines (exactly built) old script lines new → IsSteady old → IsSteady new
 
+-- so does each step of a line by itself, and each over devices that do not tell
+pub record StepsKeepSteady (m : Manner) : Type 0 where
+  pub begins : (old new : State) (line : Line) (lines : List ReplyLine) → m.begins old line lines new → IsSteady old → IsSteady new
+  pub turns : (old new : State) (lines : List ReplyLine) → m.turn old lines new → IsSteady old → IsSteady new
+  pub closes : (old new : State) (lines : List ReplyLine) → m.closes old lines new → IsSteady old → IsSteady new
+
+abbrev pub ExactStepsKeepSteady : Type 0
+ExactStepsKeepSteady = (built : CommandTree → Bool) → StepsKeepSteady (exactly built)
+
+abbrev pub LooseStepsKeepSteady : Type 0
+LooseStepsKeepSteady = (built : CommandTree → Bool) → StepsKeepSteady (loosely (exactly built))
+
 -- Between two lines no command is at work, and every open cursor has a name.
 pub record IsBetweenLines (s : State) : Type 0 where
   pub idle : s.task ≡ None
