@@ -8,7 +8,7 @@ use Rattle.hg_machine.specs.Plain.Limits.{ceiling}
 use Rattle.hg_machine.specs.Plain.Refused.{too_many_line}
 use Rattle.hg_machine.specs.Plain.Replies.{ReplyLine, CursorName, row, done, ended, closed, device_fault, file_full, is_code, code_lines}
 use Rattle.hg_machine.specs.Plain.Rounds.{wants_more, one_less}
-use Rattle.hg_machine.specs.Plain.State.{State, CursorState}
+use Rattle.hg_machine.specs.Plain.State.{State}
 use Rattle.hg_machine.specs.Plain.Turn.{Turn, gives_row, ends, groups_too_many, reaches_limit, fails, HasTurn, done_line}
 use Rattle.hg_model.specs.CommandNeeds.{needs}
 use Rattle.hg_model.specs.Order.{Pair}

@@ -13,3 +13,4 @@ pub mod WorkedRows
 pub mod Rooms
 pub mod TurnRooms
 pub mod Owing
+pub mod Raising

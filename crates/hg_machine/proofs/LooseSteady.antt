@@ -1,17 +1,15 @@
 -- Each step of a line keeps what every state of a run is like, over devices that do not tell as well.
-use Rattle.std.proofs.Common.{◌≡◌, ◌≤◌, Bool, true, false, List, [], ◌∷◌, Option, Some, None, length, map, refl, sym, ap, ◌∙◌, subst, ◌⊎◌, inl, inr}
+use Rattle.std.proofs.Common.{◌≡◌, ◌≤◌, Bool, true, false, List, [], ◌∷◌, Some, None, length, map, refl, sym, ap, ◌∙◌, subst, ◌⊎◌}
 use Rattle.std.specs.List.{AllByRecursion}
 use Rattle.hg_machine.proofs.Cursors.{all_weaker}
 use Rattle.hg_machine.proofs.Steady.{becomes_so, turn_steady}
 use Rattle.hg_machine.proofs.StepsSteady.{begins_steady, close_steady}
 use Rattle.hg_machine.specs.Plain.Laws.{WantsRows, IsSteady, StepsKeepSteady, ExactStepsKeepSteady, LooseStepsKeepSteady}
-use Rattle.hg_machine.specs.Plain.Loose.{bare_cursor, bare, Alike, without_uniques, Loosely, with_any_rows, finds_damage, misses_doubles, loosely}
+use Rattle.hg_machine.specs.Plain.Loose.{bare_cursor, Alike, without_uniques, Loosely, with_any_rows, finds_damage, misses_doubles, loosely}
 use Rattle.hg_machine.specs.Plain.Replies.{ReplyLine, CursorName, device_fault}
 use Rattle.hg_machine.specs.Plain.Rounds.{wants_more}
 use Rattle.hg_machine.specs.Plain.Run.{Manner, exactly}
 use Rattle.hg_machine.specs.Plain.State.{State, CursorState, same_cursor, cursor_named}
-use Rattle.hg_model.specs.Script.{Line}
-use Rattle.hg_model.specs.Statements.{CommandTree}
 
 same_some : {X : Type 0} (a b : X) → Some a ≡ Some b → a ≡ b
 same_some a b e = cc

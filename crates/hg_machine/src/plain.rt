@@ -40,6 +40,12 @@ pub fn fitting_lines_never_fill()
     ensures { laws.FittingLinesNeverFill }
 {}
 
+/// A line raises the counts of pages taken and of pages left behind by no more than it needs at most, and
+/// past no limit.
+pub fn lines_raise_at_most_their_need()
+    ensures { laws.LinesRaiseAtMostTheirNeed }
+{}
+
 /// No turn ends with the limit error where the ceiling is at least the floor of the cursor at the front.
 pub fn floors_prevent_the_limit()
     ensures { laws.FloorsPreventTheLimit }

@@ -127,6 +127,25 @@ abbrev pub FittingLinesNeverFill : Type 0
 FittingLinesNeverFill = (built : CommandTree → Bool) (old new : State) (line : Line) (lines : List ReplyLine)
     → RunsLine (exactly built) old line lines new → IsBetweenLines old → LineFits old line → NeverFull lines
 
+-- A whole line raises the counts of pages taken and of pages left behind by no more than it needs at most,
+-- and neither passes the limit of its file where it did not before.
+pub record RaisesAtMost (most : PageNeed) (old new : State) : Type 0 where
+  pub main : new.used ≤ old.used + most.main
+  pub temp : new.over ≤ old.over + most.temp
+  pub main_fits : old.used ≤ old.main_limit → new.used ≤ new.main_limit
+  pub temp_fits : old.over ≤ old.temp_limit → new.over ≤ new.temp_limit
+
+abbrev pub NeedsAtMost : PageNeed → PageNeed → Type 0
+NeedsAtMost most need = (need.main ≤ most.main) × (need.temp ≤ most.temp)
+
+-- whatever command a line asks for, it needs at most so many pages
+abbrev pub LineNeeds : PageNeed → State → Line → Type 0
+LineNeeds most s line = (c : CommandTree) (texts : List ℕ) → ReadsLine s.max line (ReadAs (Statement c texts)) → NeedsAtMost most (need_of s c texts)
+
+abbrev pub LinesRaiseAtMostTheirNeed : Type 0
+LinesRaiseAtMostTheirNeed = (built : CommandTree → Bool) (old new : State) (line : Line) (lines : List ReplyLine) (most : PageNeed)
+    → RunsLine (exactly built) old line lines new → LineNeeds most old line → RaisesAtMost most old new
+
 -- no turn ends with the limit error where the ceiling is at least the floor of the cursor at the front,
 -- whatever those of the others are
 abbrev pub FloorFits : State → Type 0
