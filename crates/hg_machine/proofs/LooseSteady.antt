@@ -4,11 +4,12 @@ use Rattle.std.specs.List.{AllByRecursion}
 use Rattle.hg_machine.proofs.Cursors.{all_weaker}
 use Rattle.hg_machine.proofs.Steady.{becomes_so, turn_steady}
 use Rattle.hg_machine.proofs.StepsSteady.{begins_steady, close_steady}
-use Rattle.hg_machine.specs.Plain.Laws.{WantsRows, IsSteady, StepsKeepSteady, ExactStepsKeepSteady, LooseStepsKeepSteady}
+use Rattle.hg_machine.specs.Plain.Laws.{WantsRows, IsSteady, StepsKeepSteady, ExactStepsKeepSteady, LooseStepsKeepSteady, LooseLinesKeepSteady}
 use Rattle.hg_machine.specs.Plain.Loose.{bare_cursor, Alike, without_uniques, Loosely, with_any_rows, finds_damage, misses_doubles, loosely}
 use Rattle.hg_machine.specs.Plain.Replies.{ReplyLine, CursorName, device_fault}
 use Rattle.hg_machine.specs.Plain.Rounds.{wants_more}
-use Rattle.hg_machine.specs.Plain.Run.{Manner, exactly}
+use Rattle.hg_machine.specs.Plain.Run.{Manner, exactly, GivesTurns, RunsLine, RunsLines}
+use Rattle.hg_model.specs.Script.{Line}
 use Rattle.hg_machine.specs.Plain.State.{State, CursorState, same_cursor, cursor_named}
 
 same_some : {X : Type 0} (a b : X) → Some a ≡ Some b → a ≡ b
@@ -104,3 +105,25 @@ exact_steps_keep_steady built = record { begins = begins_steady built; turns = t
 
 pub loose_steps_keep_steady : LooseStepsKeepSteady
 loose_steps_keep_steady built = steps_loosely (exactly built) (exact_steps_keep_steady built)
+
+-- ---- whole lines
+
+turns_keep : (m : Manner) → StepsKeepSteady m → (old new : State) (turns : List (List ReplyLine)) → GivesTurns m old turns new → IsSteady old → IsSteady new
+unfolding GivesTurns
+turns_keep m steps old new [] given steady = becomes_so IsSteady new old given steady
+turns_keep m steps old new (turn ∷ turns) given steady = turns_keep m steps given.0 new turns given.2 (steps.turns old given.0 turn given.1 steady)
+
+line_keeps : (m : Manner) → StepsKeepSteady m → (old new : State) (line : Line) (lines : List ReplyLine) → RunsLine m old line lines new → IsSteady old → IsSteady new
+line_keeps m steps old new line lines runs steady =
+    let f = runs.finishes in
+    steps.closes f.between new f.last f.close
+    (turns_keep m steps runs.between f.between f.turns f.given (steps.begins old runs.between line runs.first runs.begins steady))
+
+lines_keep : (m : Manner) → StepsKeepSteady m → (old new : State) (script : List Line) (lines : List ReplyLine) → RunsLines m old script lines new → IsSteady old → IsSteady new
+unfolding RunsLines
+lines_keep m steps old new [] lines runs steady = becomes_so IsSteady new old runs.1 steady
+lines_keep m steps old new (line ∷ script) lines runs steady =
+    lines_keep m steps runs.2 new script runs.1 runs.4 (line_keeps m steps old runs.2 line runs.0 runs.3 steady)
+
+pub loose_lines_keep_steady : LooseLinesKeepSteady
+loose_lines_keep_steady built = lines_keep (loosely (exactly built)) (loose_steps_keep_steady built)

@@ -21,6 +21,7 @@ pub fn runs_are_steady()
 pub fn steps_keep_steady()
     ensures exact { laws.ExactStepsKeepSteady }
     ensures loose { laws.LooseStepsKeepSteady }
+    ensures loose_lines { laws.LooseLinesKeepSteady }
 {}
 
 /// A command at work can always finish, and no device need fail for that; so what a run says that stops in

@@ -71,6 +71,10 @@ ExactStepsKeepSteady = (built : CommandTree → Bool) → StepsKeepSteady (exact
 abbrev pub LooseStepsKeepSteady : Type 0
 LooseStepsKeepSteady = (built : CommandTree → Bool) → StepsKeepSteady (loosely (exactly built))
 
+abbrev pub LooseLinesKeepSteady : Type 0
+LooseLinesKeepSteady = (built : CommandTree → Bool) (old new : State) (script : List Line) (lines : List ReplyLine)
+    → RunsLines (loosely (exactly built)) old script lines new → IsSteady old → IsSteady new
+
 -- Between two lines no command is at work, and every open cursor has a name.
 pub record IsBetweenLines (s : State) : Type 0 where
   pub idle : s.task ≡ None
