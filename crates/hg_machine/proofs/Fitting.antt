@@ -14,7 +14,7 @@ use Rattle.hg_machine.specs.Plain.CreateTable.{CreatesTable, table_need, refused
 use Rattle.hg_machine.specs.Plain.Delete.{deletion}
 use Rattle.hg_machine.specs.Plain.Fetch.{BeginsFetch, refused as fetch_refused, begun as fetch_begun}
 use Rattle.hg_machine.specs.Plain.Insert.{insertion}
-use Rattle.hg_machine.specs.Plain.Laws.{IsBetweenLines, need_of, NeedFits, LineFits, NeverFull, FittingLinesNeverFill, FloorsFit, FloorsPreventTheLimit}
+use Rattle.hg_machine.specs.Plain.Laws.{IsBetweenLines, need_of, NeedFits, LineFits, NeverFull, FittingLinesNeverFill, FloorsPreventTheLimit}
 use Rattle.hg_machine.specs.Plain.Licences.{Asks, Allowance, Spends, Licensed, device_failed, main_is_full, temp_is_full, temp_taken, temp_alone}
 use Rattle.hg_machine.specs.Plain.Limits.{ceiling}
 use Rattle.hg_machine.specs.Plain.Open.{Opens, taken, no_more as open_no_more, refused as open_refused, made as open_made, cursor_of, with_opened}

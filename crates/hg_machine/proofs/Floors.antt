@@ -1,33 +1,18 @@
--- No turn ends with the limit error where the ceiling is at least the floor of each open cursor.
-use Rattle.std.proofs.Common.{◌≡◌, ℕ, ◌≤◌, Bool, true, false, List, [], ◌∷◌, Option, Some, None, refl, sym, ap, ◌∙◌, subst, arith}
-use Rattle.std.specs.List.{AllByRecursion}
+-- No turn ends with the limit error where the ceiling is at least the floor of the cursor at the front.
+use Rattle.std.proofs.Common.{◌≡◌, ℕ, ◌≤◌, Bool, true, false, List, [], ◌∷◌, Option, refl, sym, subst, arith}
 use Rattle.hg_base.specs.declared.File.{File}
 use Rattle.hg_base.specs.declared.File.TheVariants as file
-use Rattle.hg_machine.specs.Plain.Laws.{FloorsFit, FloorsPreventTheLimit}
+use Rattle.hg_machine.specs.Plain.Laws.{FloorFits, FloorsPreventTheLimit}
 use Rattle.hg_machine.specs.Plain.Licences.{Licensed, device_failed, main_is_full, temp_is_full, temp_alone}
 use Rattle.hg_machine.specs.Plain.Limits.{ceiling}
 use Rattle.hg_machine.specs.Plain.Refused.{too_many_line}
 use Rattle.hg_machine.specs.Plain.Replies.{ReplyLine, CursorName, row, done, ended, closed, device_fault, file_full, is_code, code_lines}
 use Rattle.hg_machine.specs.Plain.Rounds.{wants_more, one_less}
-use Rattle.hg_machine.specs.Plain.State.{State, CursorState, same_cursor, cursor_named}
+use Rattle.hg_machine.specs.Plain.State.{State}
 use Rattle.hg_machine.specs.Plain.Turn.{Turn, gives_row, ends, groups_too_many, reaches_limit, fails, HasTurn, done_line}
 use Rattle.hg_model.specs.CommandNeeds.{needs}
 use Rattle.hg_model.specs.Order.{Pair}
 use Rattle.hg_model.specs.declared.trees.Count.TheVariants as count
-
-named_has : (P : CursorState → Type 0) (cursors : List CursorState) (name : CursorName) (c : CursorState) → cursor_named cursors name ≡ Some c → AllByRecursion P cursors → P c
-named_has P [] name c is all = absurd (none_is_not_some is)
-  where
-    none_is_not_some : None ≡ Some c → ⊥
-    none_is_not_some e = cc
-named_has P (x ∷ cs) name c is all = go (same_cursor name x.name) refl (λ later. named_has P cs name c later all.1)
-  where
-    go : (b : Bool) → same_cursor name x.name ≡ b → (cursor_named cs name ≡ Some c → P c) → P c
-    go true e f =
-        let at : Some x ≡ Some c = sym (rw e refl) ∙ is in
-        let here : x ≡ c = cc in
-        subst P here all.0
-    go false e f = let later : cursor_named cs name ≡ Some c = sym (rw e refl) ∙ is in f later
 
 abbrev NoLimit : List ReplyLine → Type 0
 NoLimit lines = code_lines 16 lines ≡ 0
@@ -63,12 +48,12 @@ failed_no_limit s line name (device_failed f is) = subst (λ l. NoLimit (l ∷ c
 failed_no_limit s line name (main_is_full may over is) = subst (λ l. NoLimit (l ∷ closed name ∷ [])) (sym is) (full_no_limit file.Main name)
 failed_no_limit s line name (temp_is_full may over is) = subst (λ l. NoLimit (l ∷ closed name ∷ [])) (sym is) (full_no_limit file.Temp name)
 
-turn_no_limit : (old new : State) (lines : List ReplyLine) → Turn old lines new → FloorsFit old → NoLimit lines
+turn_no_limit : (old new : State) (lines : List ReplyLine) → Turn old lines new → FloorFits old → NoLimit lines
 turn_no_limit old new lines (gives_row name c others pair left held has fine may took holds said is) fits = subst NoLimit (sym said) (row_no_limit name pair (one_less c.wanted))
 turn_no_limit old new lines (ends name c others held has fine none holds said is) fits = subst NoLimit (sym said) (end_no_limit name)
 turn_no_limit old new lines (groups_too_many name c others has many said is) fits = subst NoLimit (sym said) (many_no_limit name)
 turn_no_limit old new lines (reaches_limit name c others held has above below need said is) fits =
-    let low : c.floor ≤ ceiling old = named_has (λ (c : CursorState). c.floor ≤ ceiling old) old.cursors name c has.is_there fits in
+    let low : c.floor ≤ ceiling old = fits name others c has.front has.is_there in
     absurd (omega arith)
 turn_no_limit old new lines (fails name c others line has licensed said is) fits = subst NoLimit (sym said) (failed_no_limit old line name licensed)
 

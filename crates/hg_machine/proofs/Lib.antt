@@ -8,7 +8,9 @@ pub mod Fitting
 pub mod Resting
 pub mod Floors
 pub mod LooseRuns
+pub mod LooseSteady
 pub mod WorkedRows
 pub mod Rooms
 pub mod TurnRooms
 pub mod Owing
+pub mod Raising

@@ -151,12 +151,12 @@ with_t = state (one_table [] 0) 0 [] [] [] None 4
 make_t : RunsCommand begun create_t (created ∷ []) with_t
 unfolding create_table_refusal first_cause
 make_t = at_once begun with_t create_t (created ∷ [])
-    (table_made refl refl (record { used = 1; over = 0; versions = 0; main = within_none 1 0; temp = within_none 0 0; rows = within_none 0 0; after = refl })) refl
+    (table_made refl refl (record { used = 1; over = 0; versions = 0; main = within_none 1 0; temp = within_none 0 0; rows = within_none 0 0; main_fits = λ e. e; temp_fits = λ e. e; after = refl })) refl
 
 fill_three : RunsCommand with_t (insert_into_t (literal.Int (pos 1) ∷ literal.Int (pos 2) ∷ literal.Int (pos 3) ∷ []) (1 ∷ 2 ∷ 3 ∷ [])) (rows 3 ∷ []) (state three 1 [] [] [] None 4)
 unfolding insertion insert_refusal insert_meaning insert_change first_cause
 fill_three = at_once with_t (state three 1 [] [] [] None 4) _ (rows 3 ∷ [])
-    (rows_made all_three 3 refl refl refl (record { used = 1; over = 0; versions = 3; main = within_none 1 3; temp = within_none 0 0; rows = within_all 0 3; after = refl })) refl
+    (rows_made all_three 3 refl refl refl (record { used = 1; over = 0; versions = 3; main = within_none 1 3; temp = within_none 0 0; rows = within_all 0 3; main_fits = λ e. e; temp_fits = λ e. e; after = refl })) refl
 
 open_c : RunsCommand (state three 1 [] [] [] None 4) (OpenCursor c a_of_t) (opened c ∷ []) (state three 1 (cursor (Some c) all_three (Some 0) ∷ []) [] [] None 4)
 unfolding select_refusal first_cause meaning kept_rows keeps_row row_values pair_of row_pair pairs_of too_many floor_of select_need intake binary_digits digits_within
@@ -279,7 +279,7 @@ one_two = number 1 ∷ number 2 ∷ []
 fill_two : RunsCommand with_t (insert_into_t (literal.Int (pos 1) ∷ literal.Int (pos 2) ∷ []) (1 ∷ 2 ∷ [])) (rows 2 ∷ []) (state (one_table one_two 2) 1 [] [] [] None 4)
 unfolding insertion insert_refusal insert_meaning insert_change first_cause
 fill_two = at_once with_t (state (one_table one_two 2) 1 [] [] [] None 4) _ (rows 2 ∷ [])
-    (rows_made one_two 2 refl refl refl (record { used = 1; over = 0; versions = 2; main = within_none 1 2; temp = within_none 0 0; rows = within_all 0 2; after = refl })) refl
+    (rows_made one_two 2 refl refl refl (record { used = 1; over = 0; versions = 2; main = within_none 1 2; temp = within_none 0 0; rows = within_all 0 2; main_fits = λ e. e; temp_fits = λ e. e; after = refl })) refl
 
 open_over_two : RunsCommand (state (one_table one_two 2) 1 [] [] [] None 4) (OpenCursor c a_of_t) (opened c ∷ []) (state (one_table one_two 2) 1 (cursor_c one_two (Some 0) ∷ []) [] [] None 4)
 unfolding select_refusal first_cause meaning kept_rows keeps_row row_values pair_of row_pair pairs_of too_many floor_of select_need intake binary_digits digits_within
@@ -289,7 +289,7 @@ one_row_more : RunsCommand (state (one_table one_two 2) 1 (cursor_c one_two (Som
     (state three 2 (cursor_c one_two (Some 0) ∷ []) [] [] None 4)
 unfolding insertion insert_refusal insert_meaning insert_change first_cause
 one_row_more = at_once (state (one_table one_two 2) 1 (cursor_c one_two (Some 0) ∷ []) [] [] None 4) (state three 2 (cursor_c one_two (Some 0) ∷ []) [] [] None 4) _ (rows 1 ∷ [])
-    (rows_made all_three 1 refl refl refl (record { used = 1; over = 0; versions = 3; main = within_none 1 1; temp = within_none 0 0; rows = within_all 2 1; after = refl })) refl
+    (rows_made all_three 1 refl refl refl (record { used = 1; over = 0; versions = 3; main = within_none 1 1; temp = within_none 0 0; rows = within_all 2 1; main_fits = λ e. e; temp_fits = λ e. e; after = refl })) refl
 
 abbrev after_delete : List CursorState → List CursorName → Option Task → State
 after_delete cursors round task = state (one_table two_three 3) 3 cursors round [] task 4
@@ -297,7 +297,7 @@ after_delete cursors round task = state (one_table two_three 3) 3 cursors round 
 one_row_less : RunsCommand (state three 2 (cursor_c one_two (Some 0) ∷ []) [] [] None 4) delete_one (rows 1 ∷ []) (after_delete (cursor_c one_two (Some 0) ∷ []) [] None)
 unfolding deletion delete_refusal delete_meaning delete_change first_cause binary_digits digits_within
 one_row_less = at_once (state three 2 (cursor_c one_two (Some 0) ∷ []) [] [] None 4) (after_delete (cursor_c one_two (Some 0) ∷ []) [] None) delete_one (rows 1 ∷ [])
-    (rows_made two_three 1 refl refl refl (record { used = 1; over = 0; versions = 3; main = within_none 1 0; temp = within_none 0 0; rows = within_none 3 0; after = refl })) refl
+    (rows_made two_three 1 refl refl refl (record { used = 1; over = 0; versions = 3; main = within_none 1 0; temp = within_none 0 0; rows = within_none 3 0; main_fits = λ e. e; temp_fits = λ e. e; after = refl })) refl
 
 open_after_delete : RunsCommand (after_delete (cursor_c one_two (Some 0) ∷ []) [] None) (OpenCursor d a_of_t) (opened d ∷ [])
     (after_delete (cursor_c one_two (Some 0) ∷ cursor_d two_three (Some 0) ∷ []) [] None)
@@ -395,13 +395,13 @@ r3 = Int (negsuc 3) ∷ Int (pos 0) ∷ []
 make_two : RunsCommand begun create_t_of_two (created ∷ []) with_two
 unfolding create_table_refusal first_cause
 make_two = at_once begun with_two create_t_of_two (created ∷ [])
-    (table_made refl refl (record { used = 1; over = 0; versions = 0; main = within_none 1 0; temp = within_none 0 0; rows = within_none 0 0; after = refl })) refl
+    (table_made refl refl (record { used = 1; over = 0; versions = 0; main = within_none 1 0; temp = within_none 0 0; rows = within_none 0 0; main_fits = λ e. e; temp_fits = λ e. e; after = refl })) refl
 
 first_rows : RunsCommand with_two (insert_into_t (literal.Int (pos 1) ∷ literal.Int (pos 2) ∷ literal.Int (pos 3) ∷ literal.Null ∷ []) (2 ∷ 4 ∷ [])) (rows 2 ∷ [])
     (state (two_columns (r1 ∷ r2 ∷ []) 2) 1 [] [] [] None 4)
 unfolding insertion insert_refusal insert_meaning insert_change first_cause
 first_rows = at_once with_two (state (two_columns (r1 ∷ r2 ∷ []) 2) 1 [] [] [] None 4) _ (rows 2 ∷ [])
-    (rows_made (r1 ∷ r2 ∷ []) 2 refl refl refl (record { used = 1; over = 0; versions = 2; main = within_none 1 2; temp = within_none 0 0; rows = within_all 0 2; after = refl })) refl
+    (rows_made (r1 ∷ r2 ∷ []) 2 refl refl refl (record { used = 1; over = 0; versions = 2; main = within_none 1 2; temp = within_none 0 0; rows = within_all 0 2; main_fits = λ e. e; temp_fits = λ e. e; after = refl })) refl
 
 abbrev filled : List TableState
 filled = two_columns (r1 ∷ r2 ∷ r3 ∷ []) 3
@@ -410,7 +410,7 @@ last_row : RunsCommand (state (two_columns (r1 ∷ r2 ∷ []) 2) 1 [] [] [] None
     (state filled 2 [] [] [] None 4)
 unfolding insertion insert_refusal insert_meaning insert_change first_cause
 last_row = at_once (state (two_columns (r1 ∷ r2 ∷ []) 2) 1 [] [] [] None 4) (state filled 2 [] [] [] None 4) _ (rows 1 ∷ [])
-    (rows_made (r1 ∷ r2 ∷ r3 ∷ []) 1 refl refl refl (record { used = 1; over = 0; versions = 3; main = within_none 1 1; temp = within_none 0 0; rows = within_all 2 1; after = refl })) refl
+    (rows_made (r1 ∷ r2 ∷ r3 ∷ []) 1 refl refl refl (record { used = 1; over = 0; versions = 3; main = within_none 1 1; temp = within_none 0 0; rows = within_all 2 1; main_fits = λ e. e; temp_fits = λ e. e; after = refl })) refl
 
 abbrev selecting : List (List Value) → State
 selecting left = state filled 2 (cursor None left None ∷ []) (None ∷ []) [] (Some (Fetches None)) 4

@@ -16,6 +16,14 @@ pub fn runs_are_steady()
     ensures lines { laws.LinesKeepSteady }
 {}
 
+/// And each step of a line by itself keeps that: its beginning, each turn and its closing; over devices
+/// that do not tell as well.
+pub fn steps_keep_steady()
+    ensures exact { laws.ExactStepsKeepSteady }
+    ensures loose { laws.LooseStepsKeepSteady }
+    ensures loose_lines { laws.LooseLinesKeepSteady }
+{}
+
 /// A command at work can always finish, and no device need fail for that; so what a run says that stops in
 /// the midst of a line is a front of what a whole run says.
 pub fn commands_can_finish()
@@ -33,7 +41,13 @@ pub fn fitting_lines_never_fill()
     ensures { laws.FittingLinesNeverFill }
 {}
 
-/// No turn ends with the limit error where the ceiling is at least the floor of each open cursor.
+/// A line raises the counts of pages taken and of pages left behind by no more than it needs at most, and
+/// past no limit.
+pub fn lines_raise_at_most_their_need()
+    ensures { laws.LinesRaiseAtMostTheirNeed }
+{}
+
+/// No turn ends with the limit error where the ceiling is at least the floor of the cursor at the front.
 pub fn floors_prevent_the_limit()
     ensures { laws.FloorsPreventTheLimit }
 {}

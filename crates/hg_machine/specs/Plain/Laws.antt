@@ -59,6 +59,22 @@ abbrev pub LinesKeepSteady : Type 0
 LinesKeepSteady = (built : CommandTree → Bool) (old new : State) (script : List Line) (lines : List ReplyLine)
     → RunsLines (exactly built) old script lines new → IsSteady old → IsSteady new
 
+-- so does each step of a line by itself, and each over devices that do not tell
+pub record StepsKeepSteady (m : Manner) : Type 0 where
+  pub begins : (old new : State) (line : Line) (lines : List ReplyLine) → m.begins old line lines new → IsSteady old → IsSteady new
+  pub turns : (old new : State) (lines : List ReplyLine) → m.turn old lines new → IsSteady old → IsSteady new
+  pub closes : (old new : State) (lines : List ReplyLine) → m.closes old lines new → IsSteady old → IsSteady new
+
+abbrev pub ExactStepsKeepSteady : Type 0
+ExactStepsKeepSteady = (built : CommandTree → Bool) → StepsKeepSteady (exactly built)
+
+abbrev pub LooseStepsKeepSteady : Type 0
+LooseStepsKeepSteady = (built : CommandTree → Bool) → StepsKeepSteady (loosely (exactly built))
+
+abbrev pub LooseLinesKeepSteady : Type 0
+LooseLinesKeepSteady = (built : CommandTree → Bool) (old new : State) (script : List Line) (lines : List ReplyLine)
+    → RunsLines (loosely (exactly built)) old script lines new → IsSteady old → IsSteady new
+
 -- Between two lines no command is at work, and every open cursor has a name.
 pub record IsBetweenLines (s : State) : Type 0 where
   pub idle : s.task ≡ None
@@ -115,12 +131,33 @@ abbrev pub FittingLinesNeverFill : Type 0
 FittingLinesNeverFill = (built : CommandTree → Bool) (old new : State) (line : Line) (lines : List ReplyLine)
     → RunsLine (exactly built) old line lines new → IsBetweenLines old → LineFits old line → NeverFull lines
 
--- no turn ends with the limit error where the ceiling is at least the floor of each open cursor
-abbrev pub FloorsFit : State → Type 0
-FloorsFit s = AllByRecursion (λ (c : CursorState). c.floor ≤ ceiling s) s.cursors
+-- A whole line raises the counts of pages taken and of pages left behind by no more than it needs at most,
+-- and neither passes the limit of its file where it did not before.
+pub record RaisesAtMost (most : PageNeed) (old new : State) : Type 0 where
+  pub main : new.used ≤ old.used + most.main
+  pub temp : new.over ≤ old.over + most.temp
+  pub main_fits : old.used ≤ old.main_limit → new.used ≤ new.main_limit
+  pub temp_fits : old.over ≤ old.temp_limit → new.over ≤ new.temp_limit
+
+abbrev pub NeedsAtMost : PageNeed → PageNeed → Type 0
+NeedsAtMost most need = (need.main ≤ most.main) × (need.temp ≤ most.temp)
+
+-- whatever command a line asks for, it needs at most so many pages
+abbrev pub LineNeeds : PageNeed → State → Line → Type 0
+LineNeeds most s line = (c : CommandTree) (texts : List ℕ) → ReadsLine s.max line (ReadAs (Statement c texts)) → NeedsAtMost most (need_of s c texts)
+
+abbrev pub LinesRaiseAtMostTheirNeed : Type 0
+LinesRaiseAtMostTheirNeed = (built : CommandTree → Bool) (old new : State) (line : Line) (lines : List ReplyLine) (most : PageNeed)
+    → RunsLine (exactly built) old line lines new → LineNeeds most old line → RaisesAtMost most old new
+
+-- no turn ends with the limit error where the ceiling is at least the floor of the cursor at the front,
+-- whatever those of the others are
+abbrev pub FloorFits : State → Type 0
+FloorFits s = (name : CursorName) (others : List CursorName) (c : CursorState) → s.round ≡ name ∷ others → cursor_named s.cursors name ≡ Some c
+    → c.floor ≤ ceiling s
 
 abbrev pub FloorsPreventTheLimit : Type 0
-FloorsPreventTheLimit = (old new : State) (lines : List ReplyLine) → Turn old lines new → FloorsFit old → code_lines 16 lines ≡ 0
+FloorsPreventTheLimit = (old new : State) (lines : List ReplyLine) → Turn old lines new → FloorFits old → code_lines 16 lines ≡ 0
 
 -- ---- over devices that do not tell, the machine's own steps are among those that may come
 

@@ -48,6 +48,10 @@ pub record Within (lowers : Bool) (before now more : ℕ) : Type 0 where
   pub not_less : lowers ≡ false → before ≤ now
   pub few : now ≤ before + more
 
+-- a count of pages stays within the limit of its file, where it was so before
+abbrev pub StaysWithin : (before now limit : ℕ) → Type 0
+StaysWithin before now limit = before ≤ limit → now ≤ limit
+
 -- The state is as before but for these counts: the main pages taken, the temporary pages left behind, the
 -- versions of the command's table, the stamps.
 pub record Spends (allowed : Allowance) (table : List ℕ) (old new : State) : Type 0 where
@@ -57,6 +61,8 @@ pub record Spends (allowed : Allowance) (table : List ℕ) (old new : State) : T
   pub main : Within allowed.lowers old.used used allowed.main
   pub temp : Within allowed.lowers old.over over allowed.temp
   pub rows : Within allowed.lowers (versions_of old table) versions allowed.versions
+  pub main_fits : StaysWithin old.used used old.main_limit
+  pub temp_fits : StaysWithin old.over over old.temp_limit
   pub after : new ≡ record old { tables = versions_set old.tables table versions; used = used; over = over; stamps = old.stamps + allowed.stamps }
 
 -- the name of no table

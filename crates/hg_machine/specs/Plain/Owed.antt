@@ -8,7 +8,7 @@ use Rattle.hg_machine.specs.Plain.Turn.{Turn}
 use Rattle.hg_model.specs.Bag.{TakesOne}
 use Rattle.hg_model.specs.Order.{Pair, MayComeNext}
 
--- a pair that might come next was given to that cursor, and the others are left
+-- a pair that might come next was given under that name, and the others are left to its cursor
 pub record TookOne (name : CursorName) (before now : CursorState) (lines : List ReplyLine) : Type 0 where
   pub pair : Pair
   pub may : MayComeNext pair before.left
@@ -19,4 +19,4 @@ pub record TookOne (name : CursorName) (before now : CursorState) (lines : List 
 abbrev pub TurnsTakeWhatTheyGive : Type 0
 TurnsTakeWhatTheyGive = (old new : State) (lines : List ReplyLine) → Turn old lines new → (name : CursorName) (before now : CursorState)
     → cursor_named old.cursors name ≡ Some before → cursor_named new.cursors name ≡ Some now
-    → (now.left ≡ before.left) ⊎ ((front : CursorName) × TookOne front before now lines)
+    → (now.left ≡ before.left) ⊎ TookOne name before now lines
