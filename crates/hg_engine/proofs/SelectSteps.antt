@@ -1,5 +1,5 @@
 -- SELECT and its turns are steps of the plain machine.
-use Rattle.std.specs.Prelude.{◌≡◌, ◌≢◌, ℕ, ◌+◌, ◌*◌, ◌<◌, ◌≤◌, Bool, true, false, List, [], ◌∷◌, length, All, Option, Some, None, Result, Ok, Err, IfOk, MatchOption, slice_get}
+use Rattle.std.specs.Prelude.{◌≡◌, ◌≢◌, ℕ, ◌+◌, ◌*◌, ◌<◌, ◌≤◌, Bool, true, false, List, [], ◌∷◌, length, All, Option, Some, None, Result, Ok, Err, IfOk, IfSome, MatchOption, slice_get}
 use Rattle.std.proofs.Common.{sym, ◌∙◌, ap, subst, refl}
 use Rattle.std.proofs.lemmas.Option.{none-some}
 use Rattle.hg_base.specs.Space.{Space, taken_in}
@@ -14,10 +14,11 @@ use Rattle.hg_machine.specs.Run.{Turn}
 use Rattle.hg_machine.specs.Select.{Selects, rows_found, rows_unknown}
 use Rattle.hg_table.specs.Marks.{last, committed}
 use Rattle.hg_table.specs.Calls.{none_mine, TakesNone}
+use Rattle.hg_table.specs.Chains.{IsChain}
 use Rattle.hg_table.specs.Versions.{Placed}
 use Rattle.hg_engine.specs.Named.{IsNamedAt}
 use Rattle.hg_engine.specs.Seen.{seen_rows}
-use Rattle.hg_engine.specs.Scanning.{Position, ScanFault}
+use Rattle.hg_engine.specs.Scanning.{Position, GoesOn, ScanFault}
 use Rattle.hg_engine.specs.Standing.{Stands}
 use Rattle.hg_engine.specs.Stepping.{TablesAre, StepsTo, line_of}
 use Rattle.hg_engine.specs.declared.entries.Entry.{Entry}
@@ -77,12 +78,13 @@ module _ (a b : Space) (old new : Tables) (scan : Scan) (work_is : old.scan ≡ 
 
   pub turn-gives : (values : List Value) (f : Found) → new.scan ≡ Some (record { table = scan.table; at = Some f.place; budget = f.budget })
       → ((e : Entry) → slice_get old.entries.items scan.table ≡ Some e → FindsAll a b old.stamps e scan values f)
+      → ((e : Entry) (pages : List ℕ) → slice_get old.entries.items scan.table ≡ Some e → IsChain a e.data pages → GoesOn pages f)
       → StepsTo a b old new Turn (row values ∷ [])
-  turn-gives values f is finds = record {
+  turn-gives values f is finds goes = record {
     to = λ before st.
         let work = busy before st in
         let e = scanned before work in
-        let step = turn-row a b old.entries.items old.stamps scan before e.0 values f steady none work e.1 (finds e.0 e.1) in
+        let step = turn-row a b old.entries.items old.stamps scan before e.0 values f steady none work e.1 (finds e.0 e.1) (λ pages chain. goes e.0 pages e.1 chain) in
         (step.0, now (Some (record { table = scan.table; at = Some f.place; budget = f.budget })) step.0 is step.1, step.2);
   }
 
@@ -119,6 +121,9 @@ map-ok (Err e) P Q f h = h
 
 pub at-some : (o : Option Found) (f : Found) (A : Type 0) (P : Found → Type 0) → o ≡ Some f → MatchOption o A P → P f
 at-some o f A P e m = subst (λ x. MatchOption x A P) e m
+
+pub given-some : (o : Option Found) (f : Found) (P : Found → Type 0) → o ≡ Some f → IfSome o P → P f
+given-some o f P e m = subst (λ x. IfSome x P) e m
 
 pub at-none : (o : Option Found) (A : Type 0) (P : Found → Type 0) → o ≡ None → MatchOption o A P → A
 at-none o A P e m = subst (λ x. MatchOption x A P) e m

@@ -1,8 +1,9 @@
 -- A SELECT begins, and its turns are turns of the plain machine.
-use Rattle.std.specs.Prelude.{◌≡◌, ℕ, zero, suc, ◌*◌, ◌<◌, ◌≤◌, Bool, true, false, List, [], ◌∷◌, ◌++◌, length, Option, Some, None, slice_get}
+use Rattle.std.specs.Prelude.{◌≡◌, ℕ, zero, suc, ◌*◌, ◌<◌, ◌≤◌, Bool, true, false, List, [], ◌∷◌, ◌++◌, length, Option, Some, None, slice_get, slice_index_or}
 use Rattle.std.specs.List.Sorted.{IsPermutation}
 use Rattle.std.proofs.Common.{sym, ◌∙◌, ap, subst, refl, arith, length-append}
 use Rattle.std.proofs.lemmas.Bool.{false≢true}
+use Rattle.std.proofs.lemmas.Option.{slice_get_within, slice_get-get_or}
 use Rattle.std.proofs.lemmas.List.Sorted.{IsPermutation-refl, length_permutation}
 use Rattle.hg_base.specs.Space.{Space, taken_in, taken_below}
 use Rattle.hg_base.specs.Steadiness.{Steady}
@@ -17,10 +18,11 @@ use Rattle.hg_machine.specs.Reply.{device_fault, damaged, row, at_end, closed}
 use Rattle.hg_machine.specs.Run.{Turn, gives_row, ends, fails, gives_any_row, ends_any_time, finds_damage}
 use Rattle.hg_table.specs.Marks.{last, committed}
 use Rattle.hg_table.specs.Versions.{Placed, RowVersion, IsTable, in_slot, in_slots, in_pages, most_slots}
-use Rattle.hg_table.specs.Calls.{none_mine, TakesNone}
+use Rattle.hg_table.specs.Calls.{none_mine, TakesNone, HasWay}
+use Rattle.hg_table.specs.Chains.{IsChain}
 use Rattle.hg_table.specs.TableLaws.{chain_stays, table_stays}
 use Rattle.hg_engine.specs.Seen.{seen_rows}
-use Rattle.hg_engine.specs.Scanning.{Position, IsScan, Finds}
+use Rattle.hg_engine.specs.Scanning.{Position, IsScan, Finds, GoesOn}
 use Rattle.hg_engine.specs.Standing.{TableStands, TablesStand, HasLeft, ScanStands, LeftStands, Stands}
 use Rattle.hg_engine.specs.declared.entries.Entry.{Entry}
 use Rattle.hg_engine.specs.declared.next.Found.{Found}
@@ -113,6 +115,8 @@ select-stands s entries marks state k budget st f inside big = record {
   tables = st.tables;
   left = record {
     table = inside;
+    on = tt;
+    more = omega arith;
     rows = λ told e he.
         let one : TableStands s marks e f.table (st.pages k) = st.tables.each k e f.table he f.at_table in
         let h = one.rows told in
@@ -139,12 +143,38 @@ scan-left s entries marks scan state st = here state.left refl st.left
     here None e h = absurd h
     here (Some left) e h = (left, e, h)
 
+-- the pages of the table that is scanned
+pub scan-chain : (s : Space) (entries : List Entry) (marks : List Bool) (scan : Scan) (state : State) (e : Entry) → (st : Stands s entries marks (Some scan) state)
+    → slice_get entries scan.table ≡ Some e → IsChain s e.data (st.pages scan.table)
+scan-chain s entries marks scan state e st he =
+    let inside : scan.table < length entries = slice_get_within entries scan.table e he in
+    let counted : length state.tables ≡ length entries = st.tables.count in
+    let t : TableState = slice_index_or state.tables scan.table (record { name = []; columns = []; rows = [] }) in
+    let at : slice_get state.tables scan.table ≡ Some t = slice_get-get_or state.tables scan.table (record { name = []; columns = []; rows = [] }) (omega arith) in
+    (st.tables.each scan.table e t he at).chain
+
 pub scan-is : (s : Space) (entries : List Entry) (marks : List Bool) (scan : Scan) (state : State) (e : Entry) → Stands s entries marks (Some scan) state
     → slice_get entries scan.table ≡ Some e → s.told ≡ true → IsScan s e.data (length e.columns.items) scan.at scan.budget
 scan-is s entries marks scan state e st he told =
     let left = scan-left s entries marks scan state st in
     let h = left.2.rows told e he in
     record { pages = st.pages scan.table; done = h.done; rest = h.rest; position = h.position; few = h.few }
+
+-- what the search asks
+pub scan-way : (s : Space) (entries : List Entry) (marks : List Bool) (scan : Scan) (state : State) (e : Entry) → Stands s entries marks (Some scan) state
+    → slice_get entries scan.table ≡ Some e → HasWay s e.data (length e.columns.items) scan.at
+scan-way s entries marks scan state e st he =
+    let left = scan-left s entries marks scan state st in
+    let chain = scan-chain s entries marks scan state e st he in
+    record {
+      pages = st.pages scan.table;
+      chain = chain;
+      on = left.2.on;
+      rows = λ told. let h = left.2.rows told e he in (h.done ++ h.rest, h.position.table);
+    }
+
+pub scan-more : (s : Space) (entries : List Entry) (marks : List Bool) (scan : Scan) (state : State) → Stands s entries marks (Some scan) state → 0 < scan.budget
+scan-more s entries marks scan state st = let left = scan-left s entries marks scan state st in left.2.more
 
 -- what is found of a scan
 abbrev pub FindsAll : Space → Space → List Bool → Entry → Scan → List Value → Found → Type 0
@@ -155,11 +185,14 @@ FindsAll a b marks e scan values f =
 -- a turn gives a row
 pub turn-row : (a b : Space) (entries : List Entry) (marks : List Bool) (scan : Scan) (state : State) (e : Entry) (values : List Value) (f : Found)
     → Steady none_mine a b → TakesNone a b → Stands a entries marks (Some scan) state → slice_get entries scan.table ≡ Some e
-    → FindsAll a b marks e scan values f
+    → FindsAll a b marks e scan values f → ((pages : List ℕ) → IsChain a e.data pages → GoesOn pages f)
     → (after : State) × Stands b entries marks (Some (record { table = scan.table; at = Some f.place; budget = f.budget })) after
     × Turn state (row values ∷ []) after
-turn-row a b entries marks scan state e values f steady none st he finds = by-told a.told refl
+turn-row a b entries marks scan state e values f steady none st he finds goes = by-told a.told refl
   where
+    on : GoesOn (st.pages scan.table) f
+    on = goes (st.pages scan.table) (scan-chain a entries marks scan state e st he)
+
     left : (l : List (List Value)) × (state.left ≡ Some l) × ScanStands a marks entries st.pages scan l
     left = scan-left a entries marks scan state st
 
@@ -169,6 +202,8 @@ turn-row a b entries marks scan state e values f steady none st he finds = by-to
       record state { left = Some [] },
       moved a b entries marks (Some scan) (Some (record { table = scan.table; at = Some f.place; budget = f.budget })) state (Some []) steady none st (record {
         table = left.2.table;
+        on = on.on;
+        more = on.more;
         rows = λ told g hg. absurd (false≢true (sym untold ∙ sym steady.told ∙ told));
       }),
       gives_any_row left.0 [] values (st.told ∙ untold) left.1 refl refl,
@@ -180,6 +215,8 @@ turn-row a b entries marks scan state e values f steady none st he finds = by-to
           record state { left = Some others },
           moved a b entries marks (Some scan) (Some (record { table = scan.table; at = Some f.place; budget = f.budget })) state (Some others) steady none st (record {
             table = left.2.table;
+            on = on.on;
+            more = on.more;
             rows = λ told g hg.
                 let same : e ≡ g = Rattle.hg_engine.proofs.Creating.some-one e g (sym he ∙ hg) in
                 subst (λ w. HasLeft b marks w (st.pages scan.table) (record { table = scan.table; at = Some f.place; budget = f.budget }) others) same (record {

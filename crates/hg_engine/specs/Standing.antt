@@ -10,6 +10,7 @@ use Rattle.hg_base.specs.declared.File.TheVariants.{Main}
 use Rattle.hg_model.specs.declared.values.Value.{Value}
 use Rattle.hg_machine.specs.State.{State, TableState}
 use Rattle.hg_table.specs.Marks.{last, committed}
+use Rattle.hg_table.specs.Calls.{StandsOn}
 use Rattle.hg_table.specs.Chains.{IsChain}
 use Rattle.hg_table.specs.Versions.{Placed, IsTable}
 use Rattle.hg_engine.specs.Seen.{seen_rows, IsPast}
@@ -46,9 +47,11 @@ pub record HasLeft (s : Space) (marks : List Bool) (e : Entry) (pages : List ℕ
   pub few : length rest < scan.budget
   pub seen : IsPermutation left (seen_rows (committed marks) (last marks) rest)
 
--- a scan of a table
+-- a scan of a table: over every space its place is on one of the pages of the table, and a budget is left
 pub record ScanStands (s : Space) (marks : List Bool) (entries : List Entry) (pages : ℕ → List ℕ) (scan : Scan) (left : List (List Value)) : Type 0 where
   pub table : scan.table < length entries
+  pub on : StandsOn (pages scan.table) scan.at
+  pub more : 0 < scan.budget
   pub rows : s.told ≡ true → (e : Entry) → slice_get entries scan.table ≡ Some e → HasLeft s marks e (pages scan.table) scan left
 
 -- what the SELECT at work has still to give

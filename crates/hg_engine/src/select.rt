@@ -19,11 +19,12 @@ impl Tables {
     ghost use Rattle.hg_machine.specs.Run.{Turn};
     ghost use Rattle.hg_machine.specs.Select.{Selects};
     ghost use Rattle.hg_machine.specs.State.{State};
-    ghost use Rattle.hg_table.specs.Calls.{none_mine, TakesNone};
+    ghost use Rattle.hg_table.specs.Calls.{none_mine, TakesNone, HasWay, LookFault, NamesOneOf};
+    ghost use Rattle.hg_table.specs.Chains.{IsChain};
     ghost use Rattle.hg_table.specs.Marks.{last, committed};
     ghost use Rattle.hg_table.specs.Versions.{Placed};
     ghost use Rattle.hg_engine.specs.Seen.{seen_rows};
-    ghost use Rattle.hg_engine.specs.Scanning.{Position, IsScan, Finds, ScanFault};
+    ghost use Rattle.hg_engine.specs.Scanning.{Position, IsScan, Finds, GoesOn, ScanFault, IsScanCheck};
     ghost use Rattle.hg_engine.specs.declared.entries.Entry.{Entry as EntryOf};
     ghost use Rattle.hg_reply.specs.Steps.{HasLines};
     ghost use Rattle.hg_engine.specs.Stepping.{TablesAre, CountedIn, IsSameSpace, StepsTo, looks_left};
@@ -52,16 +53,24 @@ impl Tables {
     fn next<S: Pages>(&mut self, space: &mut S, scan: Scan) -> Result<Option<Found>, PageFault>
         requires inside { scan.table < length self.old.entries.items }
         requires out { NoPins (S.state space.old) }
+        requires way { (e : EntryOf) → slice_get self.old.entries.items scan.table ≡ Some e
+            → HasWay (S.state space.old) e.data (length e.columns.items) scan.at }
+        requires more { 0 < scan.budget }
         requires start { (e : EntryOf) → slice_get self.old.entries.items scan.table ≡ Some e → (S.state space.old).told ≡ true
             → IsScan (S.state space.old) e.data (length e.columns.items) scan.at scan.budget }
         ensures finds { IfOk result (λ found. (e : EntryOf) (pages : List ℕ) (done rest : List Placed) → slice_get self.old.entries.items scan.table ≡ Some e
             → Position (S.state space.old) e.data (length e.columns.items) pages done rest scan.at → length rest < scan.budget
             → MatchOption found (seen_rows (committed self.old.stamps) (last self.old.stamps) rest ≡ [])
             (λ f. Finds (S.state space.new) e.data (length e.columns.items) pages rest (committed self.old.stamps) (last self.old.stamps) self.new.row f)) }
+        ensures goes_on { IfOk result (λ found. IfSome found (λ f. (e : EntryOf) (pages : List ℕ) → slice_get self.old.entries.items scan.table ≡ Some e
+            → IsChain (S.state space.old) e.data pages → GoesOn pages f)) }
         ensures nearer { IfOk result (λ found. IfSome found (λ f. f.budget < scan.budget)) }
         ensures steady { Steady none_mine (S.state space.old) (S.state space.new) }
         ensures takes_none { TakesNone (S.state space.old) (S.state space.new) }
         ensures fault { IfErr result (ScanFault (S.state space.old) (S.state space.new)) }
+        ensures check { IfErr result (LookFault (IsScanCheck scan.budget)) }
+        ensures page { (e : EntryOf) (pages : List ℕ) → slice_get self.old.entries.items scan.table ≡ Some e
+            → IsChain (S.state space.old) e.data pages → IfErr result (NamesOneOf pages) }
         ensures entries { self.new.entries.items ≡ self.old.entries.items }
         ensures stamps { self.new.stamps ≡ self.old.stamps }
     {

@@ -5,8 +5,8 @@ use Rattle.hg_engine.specs.Standing.{Stands}
 use Rattle.hg_engine.specs.Stepping.{line_of}
 use Rattle.hg_engine.specs.declared.entries.Entry.{Entry}
 use Rattle.hg_engine.specs.declared.next.Found.{Found}
-use Rattle.hg_engine.proofs.Turns.{scan-is}
-use Rattle.hg_engine.proofs.SelectSteps.{turn-gives, turn-ends, turn-faults, at-some, at-none}
+use Rattle.hg_engine.proofs.Turns.{scan-is, scan-way, scan-more}
+use Rattle.hg_engine.proofs.SelectSteps.{turn-gives, turn-ends, turn-faults, at-some, at-none, given-some}
 use Rattle.hg_engine.proofs.Saying.{tells-one, tells-two, counted-plain, scan-counted, or-false}
 use Rattle.hg_engine.proofs.tables.Tables.turn.Goals as goal
 
@@ -16,6 +16,20 @@ next-requires-clause-start g c e he told =
     let old = c.args.self.now in
     scan-is a old.entries.items old.stamps c.in-Some.scan c.requires.stands.0 e
     (subst (λ x. Stands a old.entries.items old.stamps x c.requires.stands.0) c.in-Some.is c.requires.stands.1) he told
+
+pub next-requires-clause-way : goal.next-requires-clause-way
+next-requires-clause-way g c e he =
+    let a = g.S.Pages.state c.args.space.now in
+    let old = c.args.self.now in
+    scan-way a old.entries.items old.stamps c.in-Some.scan c.requires.stands.0 e
+    (subst (λ x. Stands a old.entries.items old.stamps x c.requires.stands.0) c.in-Some.is c.requires.stands.1) he
+
+pub next-requires-clause-more : goal.next-requires-clause-more
+next-requires-clause-more g c =
+    let a = g.S.Pages.state c.args.space.now in
+    let old = c.args.self.now in
+    scan-more a old.entries.items old.stamps c.in-Some.scan c.requires.stands.0
+    (subst (λ x. Stands a old.entries.items old.stamps x c.requires.stands.0) c.in-Some.is c.requires.stands.1)
 
 pub returns-in-Ok-Some-clause-step : goal.returns-in-Ok-Some-clause-step
 returns-in-Ok-Some-clause-step g c =
@@ -33,7 +47,8 @@ returns-in-Ok-Some-clause-step g c =
           c.next.ensures.steady c.next.ensures.takes_none c.next.new.self.row c.in-Ok-Some.found
           (c.go_on.ensures.scan ∙ ap (λ (f : Found). Some (record { table = c.in-Some.scan.table; at = Some f.place; budget = f.budget })) c.in-Ok-Some.found-is)
           (λ e he pages done rest p few. at-some c.in-Ok-Some.field-0 c.in-Ok-Some.found _ _ c.in-Ok-Some.field-0-is
-          ((c.in-Ok-Some.ensures {u = tt}).finds e pages done rest he p few)),
+          ((c.in-Ok-Some.ensures {u = tt}).finds e pages done rest he p few))
+          (λ e pages he chain. given-some c.in-Ok-Some.field-0 c.in-Ok-Some.found _ c.in-Ok-Some.field-0-is (c.in-Ok-Some.ensures {u = tt}).goes_on e pages he chain),
     )
 
 pub returns-in-Ok-None-clause-step : goal.returns-in-Ok-None-clause-step
