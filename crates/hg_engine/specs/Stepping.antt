@@ -1,5 +1,5 @@
 -- What a step of an engine promises: it says lines, and is a step of the plain machine. Our own rule.
-use Rattle.std.specs.Prelude.{◌≡◌, ◌≢◌, ℕ, ◌<◌, ◌≤◌, List, length, All, ◌+◌, Option, None, Some, Result, MatchResult, IsTrue, ⊤, slice_get, slice_set}
+use Rattle.std.specs.Prelude.{◌≡◌, ◌≢◌, ℕ, ◌<◌, List, length, All, ◌+◌, Option, None, Some, Result, MatchResult, IsTrue, ⊤, slice_get, slice_set}
 use Rattle.std.specs.List.{AllByRecursion}
 use Rattle.hg_base.specs.Space.{Space, NoPins}
 use Rattle.hg_base.specs.Causes.{Later}
