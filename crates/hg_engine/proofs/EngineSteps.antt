@@ -9,7 +9,7 @@ use Rattle.hg_reply.specs.declared.reply.Reply.{Reply}
 use Rattle.hg_io.specs.declared.device.PageDevice.{Ghosts}
 use Rattle.hg_machine.specs.State.{State}
 use Rattle.hg_engine.specs.declared.kept.Kept.{Kept}
-use Rattle.hg_engine.specs.Shown.{IsLater, EngineSteps}
+use Rattle.hg_engine.specs.Shown.{IsLater, EngineSteps, EngineTurns}
 use Rattle.hg_engine.specs.Stepping.{faults_in, CountedIn, IsSameSpace}
 
 pub says-so : (a b : Space) (reply : Reply) (lines : List ReplyOf) → HasLines reply lines → CountedIn a b lines → Says reply (faults_in a) (faults_in b) lines
@@ -37,4 +37,20 @@ counted-steps {M = M} {T = T} m t old mid new reply Step steps tables pool =
       says = steps.says;
       full = steps.full;
       moves = record { to = λ before st. let there = steps.moves.to before st in (there.0, there.1, there.2) };
+    })
+
+pub counted-turns : {M T : Type 0} (m : Ghosts M) (t : Ghosts T) (old mid new : Kept M T) (reply : Reply)
+    → EngineTurns m t old mid reply → new.tables ≡ mid.tables → new.pool ≡ mid.pool → EngineTurns m t old new reply
+counted-turns {M = M} {T = T} m t old mid new reply turns tables pool =
+    let counted : Kept M T = record { tables = mid.tables; pool = mid.pool; said = new.said } in
+    let same : counted ≡ new = λ i. record { tables = sym tables i; pool = sym pool i; said = new.said } in
+    let steps = turns.step in
+    subst (λ e. EngineTurns m t old e reply) same (record {
+      step = record {
+        lines = steps.lines;
+        says = steps.says;
+        full = steps.full;
+        moves = record { to = λ before st. let there = steps.moves.to before st in (there.0, there.1, there.2) };
+      };
+      damage = turns.damage;
     })

@@ -2,7 +2,6 @@ pub mod SeenLaws
 pub mod PutLaws
 pub mod StandLaws
 pub mod Looking
-pub mod Scans
 pub mod Filling
 pub mod Creating
 pub mod Stepping

@@ -1,5 +1,6 @@
 -- SELECT and its turns are steps of the plain machine.
 use Rattle.std.specs.Prelude.{◌≡◌, ◌≢◌, ℕ, ◌+◌, ◌*◌, ◌<◌, ◌≤◌, Bool, true, false, List, [], ◌∷◌, length, All, Option, Some, None, Result, Ok, Err, IfOk, IfSome, MatchOption, slice_get}
+use Rattle.std.specs.List.{AllByRecursion}
 use Rattle.std.proofs.Common.{sym, ◌∙◌, ap, subst, refl}
 use Rattle.std.proofs.lemmas.Option.{none-some}
 use Rattle.hg_base.specs.Space.{Space, taken_in}
@@ -9,18 +10,18 @@ use Rattle.hg_base.specs.declared.pages.PageFault.{PageFault}
 use Rattle.hg_base.specs.declared.pages.PageFault.TheVariants as fault
 use Rattle.hg_model.specs.declared.values.Value.{Value}
 use Rattle.hg_machine.specs.State.{State, IsTableAt}
-use Rattle.hg_machine.specs.Reply.{unknown_table, row, at_end, closed}
+use Rattle.hg_machine.specs.Reply.{Reply as ReplyOf, unknown_table, row, at_end, closed}
 use Rattle.hg_machine.specs.Run.{Turn}
 use Rattle.hg_machine.specs.Select.{Selects, rows_found, rows_unknown}
 use Rattle.hg_table.specs.Marks.{last, committed}
-use Rattle.hg_table.specs.Calls.{none_mine, TakesNone}
+use Rattle.hg_table.specs.Calls.{none_mine, TakesNone, LookFault, NamesOneOf}
 use Rattle.hg_table.specs.Chains.{IsChain}
 use Rattle.hg_table.specs.Versions.{Placed}
 use Rattle.hg_engine.specs.Named.{IsNamedAt}
 use Rattle.hg_engine.specs.Seen.{seen_rows}
-use Rattle.hg_engine.specs.Scanning.{Position, GoesOn, ScanFault}
+use Rattle.hg_engine.specs.Scanning.{Position, GoesOn, ScanFault, IsScanCheck}
 use Rattle.hg_engine.specs.Standing.{Stands}
-use Rattle.hg_engine.specs.Stepping.{TablesAre, StepsTo, line_of}
+use Rattle.hg_engine.specs.Stepping.{TablesAre, StepsTo, TellsDamageIn, TellsScanDamage, line_of}
 use Rattle.hg_engine.specs.declared.entries.Entry.{Entry}
 use Rattle.hg_engine.specs.declared.next.Found.{Found}
 use Rattle.hg_engine.specs.declared.scan.Scan.{Scan}
@@ -127,3 +128,26 @@ given-some o f P e m = subst (λ x. IfSome x P) e m
 
 pub at-none : (o : Option Found) (A : Type 0) (P : Found → Type 0) → o ≡ None → MatchOption o A P → A
 at-none o A P e m = subst (λ x. MatchOption x A P) e m
+
+-- a damaged page that is named in a reply line
+line-told : (pages : List ℕ) (budget : ℕ) (f : PageFault) → LookFault (IsScanCheck budget) f → NamesOneOf pages f → TellsDamageIn pages budget (line_of f)
+line-told pages budget fault.MainFault h n = tt
+line-told pages budget fault.TempFault h n = tt
+line-told pages budget fault.MainFull h n = tt
+line-told pages budget fault.TempFull h n = tt
+line-told pages budget (fault.Damaged page check) h n = (n.0, n.1, h)
+
+pub damage-told : (s : Space) (x : Tables) (scan : Scan) (f : PageFault) → x.scan ≡ Some scan → LookFault (IsScanCheck scan.budget) f
+    → ((e : Entry) (pages : List ℕ) → slice_get x.entries.items scan.table ≡ Some e → IsChain s e.data pages → NamesOneOf pages f)
+    → TellsScanDamage s x (line_of f ∷ closed ∷ [])
+damage-told s x scan f is checks names other pages also scanned =
+    let same : scan ≡ other = one-scan scan other (sym is ∙ also) in
+    let at = subst (λ (w : Scan). slice_get x.entries.items w.table ≡ Some scanned.entry) (sym same) scanned.at in
+    let told : TellsDamageIn pages scan.budget (line_of f) = line-told pages scan.budget f checks (names scanned.entry pages at scanned.chain) in
+    subst (λ (w : Scan). AllByRecursion (TellsDamageIn pages w.budget) (line_of f ∷ closed ∷ [])) same (told, (tt, tt))
+  where
+    one-scan : (a b : Scan) → ◌≡◌ {A = Option Scan} (Some a) (Some b) → a ≡ b
+    one-scan a b e = cc
+
+pub none-told : (s : Space) (x : Tables) (line : ReplyOf) → ((pages : List ℕ) (budget : ℕ) → TellsDamageIn pages budget line) → TellsScanDamage s x (line ∷ [])
+none-told s x line plain scan pages is scanned = (plain pages scan.budget, tt)

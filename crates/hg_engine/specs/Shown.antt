@@ -3,12 +3,13 @@
 use Rattle.std.specs.Prelude.{◌≤◌, ℕ, Bool, List, is_some}
 use Rattle.hg_base.specs.Space.{Space}
 use Rattle.hg_io.specs.declared.device.PageDevice.{Ghosts}
+use Rattle.hg_machine.specs.Run.{Turn}
 use Rattle.hg_machine.specs.State.{State}
 use Rattle.hg_pool.specs.Shown.{state_of, main_device, temp_device}
 use Rattle.hg_machine.specs.Reply.{Reply as ReplyOf}
 use Rattle.hg_reply.specs.Steps.{DeviceFacts, NoneFell, Says, FullOnlyWhereFull, Moves}
 use Rattle.hg_reply.specs.declared.reply.Reply.{Reply}
-use Rattle.hg_engine.specs.Stepping.{TablesAre, faults_in, looks_left}
+use Rattle.hg_engine.specs.Stepping.{TablesAre, faults_in, looks_left, TellsScanDamage}
 use Rattle.hg_engine.specs.declared.kept.Kept.{Kept}
 
 module _ {M T : Type 0} where
@@ -55,6 +56,11 @@ module _ {M T : Type 0} where
     pub says : Says reply (faults_of m t old) (faults_of m t new) lines
     pub full : FullOnlyWhereFull (fulls_of m t old) (fulls_of m t new) lines
     pub moves : Moves (IsEngineOf m t) old new Step lines
+
+  -- one turn of the SELECT at work: a step, and which damage its lines tell of
+  pub record EngineTurns (m : Ghosts M) (t : Ghosts T) (old new : Kept M T) (reply : Reply) : Type 0 where
+    pub step : EngineSteps m t old new reply Turn
+    pub damage : TellsScanDamage (space_of m t old) old.tables step.lines
 
 -- no count falls, and the devices have as many pages as before
 pub record IsLater (a b : Space) : Type 0 where

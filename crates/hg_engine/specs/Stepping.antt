@@ -1,18 +1,22 @@
 -- What a step of an engine promises: it says lines, and is a step of the plain machine. Our own rule.
-use Rattle.std.specs.Prelude.{◌≡◌, ◌≢◌, ℕ, ◌<◌, ◌≤◌, List, length, All, ◌+◌, Option, None, Some, Result, MatchResult, slice_get, slice_set}
+use Rattle.std.specs.Prelude.{◌≡◌, ◌≢◌, ℕ, ◌<◌, List, length, All, ◌+◌, Option, None, Some, Result, MatchResult, IsTrue, ⊤, slice_get, slice_set}
+use Rattle.std.specs.List.{AllByRecursion}
 use Rattle.hg_base.specs.Space.{Space, NoPins}
 use Rattle.hg_base.specs.Causes.{Later}
 use Rattle.hg_base.specs.declared.File.TheVariants.{Main, Temp}
 use Rattle.hg_machine.specs.CreateTable.{AllDifferent}
-use Rattle.hg_machine.specs.Reply.{Reply as ReplyOf, device_fault, main_full, damaged}
+use Rattle.hg_machine.specs.Reply.{Reply as ReplyOf, created, inserted, row, at_end, closed, syntax_error, line_too_long, unknown_table, device_fault, main_full, damaged, stamps_used_up}
 use Rattle.hg_machine.specs.State.{State}
 use Rattle.hg_reply.specs.Steps.{DeviceFacts, Counted, FullOnlyWhereFull}
 use Rattle.hg_base.specs.declared.Table.{Table}
 use Rattle.hg_base.specs.declared.pages.PageFault.{PageFault}
 use Rattle.hg_base.specs.declared.pages.PageFault.TheVariants as fault
 use Rattle.hg_model.specs.declared.values.Value.{Value}
+use Rattle.hg_base.specs.Lines.{has_page}
+use Rattle.hg_table.specs.Calls.{main_page}
 use Rattle.hg_table.specs.Chains.{IsChain}
 use Rattle.hg_engine.specs.Putting.{HaveColumns, CanPut, Puts, PutsSome}
+use Rattle.hg_engine.specs.Scanning.{IsScanCheck}
 use Rattle.hg_engine.specs.Standing.{Stands}
 use Rattle.hg_engine.specs.declared.entries.Entry.{Entry}
 use Rattle.hg_engine.specs.declared.scan.Scan.{Scan}
@@ -69,6 +73,34 @@ pub record PutsInto (a b : Space) (old new : List Entry) (k stamp : ℕ) (rows :
   pub after : new ≡ slice_set old k (with_ends e ends)
   pub put : (pages : List ℕ) (columns : ℕ) → IsChain a e.data pages → HaveColumns columns rows
       → MatchResult r (λ u. Puts a b e.data ends pages stamp columns rows) (λ f. PutsSome a b e.data ends pages stamp columns rows f)
+
+-- A line of a turn that tells of damage names one of these pages, with a check that a scan finds. The
+-- other lines tell of none.
+abbrev pub TellsDamageIn : List ℕ → ℕ → ReplyOf → Type 0
+TellsDamageIn pages budget created = ⊤
+TellsDamageIn pages budget (inserted count) = ⊤
+TellsDamageIn pages budget (row values) = ⊤
+TellsDamageIn pages budget at_end = ⊤
+TellsDamageIn pages budget closed = ⊤
+TellsDamageIn pages budget syntax_error = ⊤
+TellsDamageIn pages budget line_too_long = ⊤
+TellsDamageIn pages budget (unknown_table name) = ⊤
+TellsDamageIn pages budget (device_fault file) = ⊤
+TellsDamageIn pages budget main_full = ⊤
+TellsDamageIn pages budget (damaged page check) = (page ≡ main_page page.no) × IsTrue (has_page pages page.no) × IsScanCheck budget check
+TellsDamageIn pages budget stamps_used_up = ⊤
+
+-- these are the pages of the table that is scanned
+pub record IsScanned (s : Space) (entries : List Entry) (scan : Scan) (pages : List ℕ) : Type 0 where
+  pub entry : Entry
+  pub at : slice_get entries scan.table ≡ Some entry
+  pub chain : IsChain s entry.data pages
+
+-- The lines of a turn tell of no damage but of a page of the table that is scanned: it is no slotted page
+-- (Kind, Size), or a record on it is no version of a row (RowBytes), or the budget is used up (Order).
+abbrev pub TellsScanDamage : Space → Tables → List ReplyOf → Type 0
+TellsScanDamage s x lines = (scan : Scan) (pages : List ℕ) → x.scan ≡ Some scan → IsScanned s x.entries.items scan pages
+    → AllByRecursion (TellsDamageIn pages scan.budget) lines
 
 -- what no step changes: whether the space tells, and how many pages it may have; and no count falls
 pub record IsSameSpace (a b : Space) : Type 0 where

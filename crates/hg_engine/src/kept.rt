@@ -19,10 +19,10 @@ impl<M: PageDevice, T: PageDevice> Kept<M, T> {
     ghost use Rattle.hg_io.specs.Count.{raised};
     ghost use Rattle.hg_machine.specs.CreateTable.{CreatesTable};
     ghost use Rattle.hg_machine.specs.Insert.{Inserts};
-    ghost use Rattle.hg_machine.specs.Run.{Begins, Turn};
+    ghost use Rattle.hg_machine.specs.Run.{Begins};
     ghost use Rattle.hg_machine.specs.Select.{Selects};
     ghost use Rattle.hg_reply.specs.Steps.{statement_in, DropsCommand};
-    ghost use Rattle.hg_engine.specs.Shown.{space_of, IsEngineOf, IsSomeEngine, is_pending, turns_left, EngineSteps, IsLater};
+    ghost use Rattle.hg_engine.specs.Shown.{space_of, IsEngineOf, IsSomeEngine, is_pending, turns_left, EngineSteps, EngineTurns, IsLater};
 
     /// Whether a SELECT is at work.
     fn next(&self) -> Next
@@ -93,7 +93,7 @@ impl<M: PageDevice, T: PageDevice> Kept<M, T> {
     fn turn(&mut self, reply: &mut Reply)
         requires pending { is_pending self.old ≡ true }
         requires stands { IsSomeEngine M.PageDevice T.PageDevice self.old }
-        ensures step { EngineSteps M.PageDevice T.PageDevice self.old self.new reply.new Turn }
+        ensures turns { EngineTurns M.PageDevice T.PageDevice self.old self.new reply.new }
         ensures nearer { turns_left self.new < turns_left self.old }
         ensures later { IsLater (space_of M.PageDevice T.PageDevice self.old) (space_of M.PageDevice T.PageDevice self.new) }
         ensures said { self.new.said ≡ self.old.said }
@@ -130,7 +130,7 @@ impl<M: PageDevice, T: PageDevice> Kept<M, T> {
     pub(crate) fn more(&mut self, reply: &mut Reply) -> Next
         requires pending { is_pending self.old ≡ true }
         requires stands { IsSomeEngine M.PageDevice T.PageDevice self.old }
-        ensures step { EngineSteps M.PageDevice T.PageDevice self.old self.new reply.new Turn }
+        ensures turns { EngineTurns M.PageDevice T.PageDevice self.old self.new reply.new }
         ensures nearer { turns_left self.new < turns_left self.old }
         ensures more { (result ≡ Next.More) ↔ (is_pending self.new ≡ true) }
         ensures later { IsLater (space_of M.PageDevice T.PageDevice self.old) (space_of M.PageDevice T.PageDevice self.new) }

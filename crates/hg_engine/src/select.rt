@@ -27,7 +27,7 @@ impl Tables {
     ghost use Rattle.hg_engine.specs.Scanning.{Position, IsScan, Finds, GoesOn, ScanFault, IsScanCheck};
     ghost use Rattle.hg_engine.specs.declared.entries.Entry.{Entry as EntryOf};
     ghost use Rattle.hg_reply.specs.Steps.{HasLines};
-    ghost use Rattle.hg_engine.specs.Stepping.{TablesAre, CountedIn, IsSameSpace, StepsTo, looks_left};
+    ghost use Rattle.hg_engine.specs.Stepping.{TablesAre, CountedIn, IsSameSpace, StepsTo, TellsScanDamage, looks_left};
 
     /// SELECT of all rows: they are left to give from the next turn on.
     pub fn select<S: Pages>(&mut self, space: &S, name: &Name, reply: &mut Reply)
@@ -107,7 +107,7 @@ impl Tables {
         requires empty { reply.old.text.items ≡ [] }
         requires no_error { reply.old.has_error ≡ false }
         ensures step { (lines : List ReplyOf) × HasLines reply.new lines × CountedIn (S.state space.old) (S.state space.new) lines
-            × StepsTo (S.state space.old) (S.state space.new) self.old self.new Turn lines }
+            × StepsTo (S.state space.old) (S.state space.new) self.old self.new Turn lines × TellsScanDamage (S.state space.old) self.old lines }
         ensures nearer { looks_left self.new.scan < looks_left self.old.scan }
         ensures same { IsSameSpace (S.state space.old) (S.state space.new) }
     {

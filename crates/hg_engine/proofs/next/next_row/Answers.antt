@@ -1,4 +1,4 @@
-use Rattle.std.proofs.Common.{ℕ, ◌+◌, ◌-◌, ◌<◌, ◌≡◌, Option, sym, subst, arith}
+use Rattle.std.proofs.Common.{◌-◌, Option, subst, arith}
 use Rattle.hg_base.specs.declared.Place.{Place}
 use Rattle.hg_table.specs.Marks.{committed}
 use Rattle.hg_engine.proofs.Looking.{Searched, search-finds, search-ends}

@@ -1,4 +1,3 @@
-use Rattle.hg_machine.specs.State.{State}
 use Rattle.hg_reply.specs.Steps.{without_command}
 use Rattle.hg_engine.proofs.engine.EngineMachine.drop_command.Goals as goal
 

@@ -5,7 +5,7 @@ use Rattle.hg_engine.proofs.engine.EngineMachine.more.Goals as goal
 pub invariant_of-self : goal.invariant_of-self
 invariant_of-self g c =
     let old = c.self.invariant in
-    let now = c.more.ensures.step.moves.to old.0 old.1 in
+    let now = c.more.ensures.turns.step.moves.to old.0 old.1 in
     (now.0, now.1)
 
 pub returns-clause-stood : goal.returns-clause-stood
