@@ -3,6 +3,9 @@
 
     python3 bench/bench.py [ROWS ..]        (100000 and 1000000 where none are given)
 
+Then a table of four times the pool's frames is read whole ten times, and the reads of its file are
+counted for each page and each time.
+
 It builds the program with `rt run` where that has changed, runs each script in a temporary folder
 with its output in a file, and prints a Markdown table. Where there is no `sqlite3` on the path, its
 columns say so; without `strace` nothing is said of reads and writes.
@@ -20,6 +23,9 @@ CRATE = Path(__file__).resolve().parent.parent / "crates" / "heapgov"
 PROGRAM = CRATE / "out" / "heapgov"
 ROWS = [100_000, 1_000_000]
 ROWS_OF_INSERT = 64
+ROWS_OF_PAGE = 128
+POOL = 128
+SCANS = 10
 FILES = ["heapgov.main", "heapgov.temp"]
 ABSENT = "not there"
 
@@ -40,7 +46,7 @@ def build():
         sys.exit(done.stdout + "\nbench: the program could not be built")
 
 
-def write_script(path, rows, head=""):
+def write_script(path, rows, head="", scans=1):
     """The statements, one in a line. Row n is n and a number that comes in no order."""
     with open(path, "w") as script:
         script.write(head)
@@ -49,7 +55,7 @@ def write_script(path, rows, head=""):
             last = min(first + ROWS_OF_INSERT, rows)
             values = ", ".join(f"({n}, {n * 7919 % 1_000_003})" for n in range(first, last))
             script.write(f"INSERT INTO t VALUES {values};\n")
-        script.write("SELECT * FROM t;\n")
+        script.write("SELECT * FROM t;\n" * scans)
 
 
 def peak_so_far(pid):
@@ -142,6 +148,19 @@ def bench(rows, folder):
     return cells
 
 
+def bench_scans(folder):
+    """Says how often each page of a table of four times the pool is read when it is scanned."""
+    pages = 4 * POOL
+    script = folder / "scans.sql"
+    counts = []
+    for scans in (0, SCANS):
+        write_script(script, pages * ROWS_OF_PAGE, scans=scans)
+        counts.append(count_calls([str(PROGRAM)], script, folder)["heapgov.main"]["read"])
+    reads = (counts[1] - counts[0]) / (pages * SCANS)
+    print(f"A table of {pages} pages, read whole {SCANS} times with {POOL} frames: "
+          f"{reads:.2f} reads a page and scan.")
+
+
 def main():
     rows = [int(word) for word in sys.argv[1:]] or ROWS
     build()
@@ -153,6 +172,9 @@ def main():
     for number in rows:
         with tempfile.TemporaryDirectory() as folder:
             print("| " + " | ".join(bench(number, Path(folder))) + " |", flush=True)
+    if shutil.which("strace"):
+        with tempfile.TemporaryDirectory() as folder:
+            bench_scans(Path(folder))
 
 
 if __name__ == "__main__":
