@@ -98,7 +98,8 @@ impl<M: PageDevice, T: PageDevice> Engine<M, T> {
 }
 
 impl<M: PageDevice, T: PageDevice> Machine for Engine<M, T> {
-    ghost use Rattle.hg_engine.specs.Shown.{IsEngineOf, faults_of, fulls_of, said_by_engine, is_pending, turns_left};
+    ghost use Rattle.hg_engine.specs.Shown.{space_of, IsEngineOf, faults_of, fulls_of, said_by_engine, is_pending, turns_left};
+    ghost use Rattle.hg_engine.specs.Stepping.{StatementFinds, TurnFinds};
     ghost use Rattle.hg_engine.specs.ShownLaws.{pends_of};
 
     ghost stands = { IsEngineOf M.PageDevice T.PageDevice };
@@ -112,6 +113,10 @@ impl<M: PageDevice, T: PageDevice> Machine for Engine<M, T> {
     ghost pending = { is_pending };
 
     ghost turns = { turns_left };
+
+    ghost found_by = { λ old new statement. StatementFinds (space_of M.PageDevice T.PageDevice old) new.tables statement };
+
+    ghost found_in_turn = { λ e. TurnFinds (space_of M.PageDevice T.PageDevice e) e.tables };
 
     fn command(&mut self, statement: &StatementRoom, reply: &mut Reply) -> Next {
         self.kept.command(statement, reply)
