@@ -3,7 +3,7 @@ use Rattle.hg_machine.specs.Run.{Begins}
 use Rattle.hg_reply.specs.Steps.{statement_in}
 use Rattle.hg_engine.specs.Shown.{space_of, IsSomeEngine, EngineSteps}
 use Rattle.hg_engine.specs.Stepping.{StatementFinds}
-use Rattle.hg_engine.proofs.engine.EngineMachine.command.Goals as goal
+use Rattle.hg_engine.proofs.database.DatabaseMachine.command.Goals as goal
 
 pub invariant_of-self : goal.invariant_of-self
 invariant_of-self g c =
