@@ -4,12 +4,13 @@ use Rattle.std.proofs.Common.{ap, sym, subst}
 use Rattle.hg_base.specs.declared.File.TheVariants.{Main, Temp}
 use Rattle.hg_base.specs.Space.{Space}
 use Rattle.hg_machine.specs.Reply.{Reply as ReplyOf}
-use Rattle.hg_reply.specs.Steps.{Says, HasLines}
+use Rattle.hg_reply.specs.Steps.{Says, HasLines, Findings}
 use Rattle.hg_reply.specs.declared.reply.Reply.{Reply}
 use Rattle.hg_io.specs.declared.device.PageDevice.{Ghosts}
 use Rattle.hg_machine.specs.State.{State}
 use Rattle.hg_engine.specs.declared.kept.Kept.{Kept}
-use Rattle.hg_engine.specs.Shown.{IsLater, EngineSteps, EngineTurns}
+use Rattle.hg_engine.specs.declared.tables.Tables.{Tables}
+use Rattle.hg_engine.specs.Shown.{IsLater, EngineSteps}
 use Rattle.hg_engine.specs.Stepping.{faults_in, CountedIn, IsSameSpace}
 
 pub says-so : (a b : Space) (reply : Reply) (lines : List ReplyOf) → HasLines reply lines → CountedIn a b lines → Says reply (faults_in a) (faults_in b) lines
@@ -27,30 +28,15 @@ is-later a b same = record {
 }
 
 -- that bytes were counted makes no difference
-pub counted-steps : {M T : Type 0} (m : Ghosts M) (t : Ghosts T) (old mid new : Kept M T) (reply : Reply) (Step : State → List ReplyOf → State → Type 0)
-    → EngineSteps m t old mid reply Step → new.tables ≡ mid.tables → new.pool ≡ mid.pool → EngineSteps m t old new reply Step
-counted-steps {M = M} {T = T} m t old mid new reply Step steps tables pool =
+pub counted-steps : {M T : Type 0} (m : Ghosts M) (t : Ghosts T) (old mid new : Kept M T) (reply : Reply) (Step : State → List ReplyOf → State → Type 0) (found : Tables → Findings)
+    → EngineSteps m t old mid reply Step found → new.tables ≡ mid.tables → new.pool ≡ mid.pool → EngineSteps m t old new reply Step found
+counted-steps {M = M} {T = T} m t old mid new reply Step found steps tables pool =
     let counted : Kept M T = record { tables = mid.tables; pool = mid.pool; said = new.said } in
     let same : counted ≡ new = λ i. record { tables = sym tables i; pool = sym pool i; said = new.said } in
-    subst (λ e. EngineSteps m t old e reply Step) same (record {
+    subst (λ e. EngineSteps m t old e reply Step found) same (record {
       lines = steps.lines;
       says = steps.says;
       full = steps.full;
       moves = record { to = λ before st. let there = steps.moves.to before st in (there.0, there.1, there.2) };
-    })
-
-pub counted-turns : {M T : Type 0} (m : Ghosts M) (t : Ghosts T) (old mid new : Kept M T) (reply : Reply)
-    → EngineTurns m t old mid reply → new.tables ≡ mid.tables → new.pool ≡ mid.pool → EngineTurns m t old new reply
-counted-turns {M = M} {T = T} m t old mid new reply turns tables pool =
-    let counted : Kept M T = record { tables = mid.tables; pool = mid.pool; said = new.said } in
-    let same : counted ≡ new = λ i. record { tables = sym tables i; pool = sym pool i; said = new.said } in
-    let steps = turns.step in
-    subst (λ e. EngineTurns m t old e reply) same (record {
-      step = record {
-        lines = steps.lines;
-        says = steps.says;
-        full = steps.full;
-        moves = record { to = λ before st. let there = steps.moves.to before st in (there.0, there.1, there.2) };
-      };
-      damage = turns.damage;
+      damage = steps.damage;
     })

@@ -10,15 +10,17 @@ use Rattle.hg_model.specs.declared.values.Value.{Value}
 use Rattle.hg_machine.specs.State.{State, TableState, IsTableAt, Draws}
 use Rattle.hg_machine.specs.Reply.{inserted, syntax_error, unknown_table, stamps_used_up}
 use Rattle.hg_machine.specs.Insert.{Inserts, MayInsert, rows_misfit, rows_nowhere, no_stamp_left, device_failed, file_full, page_damaged}
+use Rattle.hg_reply.specs.Steps.{TellsFound, TellOnlyFound}
 use Rattle.hg_table.specs.Marks.{last, Draws as DrawsStamp, Commits}
 use Rattle.hg_engine.specs.Named.{IsNamedAt}
-use Rattle.hg_engine.specs.Putting.{Puts, PutsSome, PutFault, HaveColumns, CanPut}
+use Rattle.hg_engine.specs.Putting.{Puts, PutsSome, PutFault, FindsLast, HaveColumns, CanPut}
 use Rattle.hg_engine.specs.Standing.{TableStands, Stands}
-use Rattle.hg_engine.specs.Stepping.{TablesAre, StepsTo, CanPutAt, PutsInto, IsSameSpace, with_ends, line_of}
+use Rattle.hg_engine.specs.Stepping.{TablesAre, StepsTo, CanPutAt, PutsInto, IsSameSpace, InsertFinds, with_ends, line_of}
 use Rattle.hg_engine.specs.declared.entries.Entry.{Entry}
 use Rattle.hg_engine.specs.declared.tables.Tables.{Tables}
 use Rattle.hg_engine.proofs.Creating.{FoundAt, found-at, unknown-entry, idle-left}
 use Rattle.hg_engine.proofs.Saying.{same-space}
+use Rattle.hg_engine.proofs.StandLaws.{get-set-here}
 use Rattle.hg_engine.proofs.Stepping.{may-insert, insert-joined, insert-failed}
 
 -- the state with nothing at work
@@ -179,6 +181,30 @@ failed-put a b x state entries k stamp rows d f st inside fit puts =
     let t = found-at a x.stamps x.entries.items state.tables st.pages k d st.tables inside in
     let p = (puts t.entry t.at_entry).put (st.pages k) (length t.entry.columns.items) t.stands.chain (fit t.entry t.at_entry) in
     record { same = same-space (Rattle.hg_engine.specs.Putting.table_mine a t.entry.data) a b p.puts.grows.steady; cause = p.cause }
+
+finds-last : (s : Space) (entries : List Entry) (name : List ℕ) (n k : ℕ) (t : Space) (e : Entry) (f : PageFault) → slice_get entries k ≡ Some e → e.name ≡ name
+    → PutFault s t n f → FindsLast e.data.last f → TellsFound (InsertFinds s entries name) (line_of f)
+finds-last s entries name n k t e fault.MainFault at named cause h = tt
+finds-last s entries name n k t e fault.TempFault at named cause h = tt
+finds-last s entries name n k t e fault.MainFull at named cause h = tt
+finds-last s entries name n k t e fault.TempFull at named cause h = tt
+finds-last s entries name n k t e (fault.Damaged page check) at named cause h =
+    record { untold = cause; table = k; entry = e; at = at; named = named; last = h.0; failed = h.1 }
+
+-- which damage an INSERT finds
+pub insert-found : (a b : Space) (x : Tables) (state : State) (entries : List Entry) (k stamp : ℕ) (name : List ℕ) (rows : List (List Value)) (d : Entry) (f : PageFault)
+    → TablesAre a x state → IsNamedAt x.entries.items name k → ((e : Entry) → slice_get x.entries.items k ≡ Some e → HaveColumns (length e.columns.items) rows)
+    → ((e : Entry) → slice_get x.entries.items k ≡ Some e → PutsInto a b x.entries.items entries k stamp rows (Err f) e)
+    → TellOnlyFound (InsertFinds a entries name) (line_of f ∷ [])
+insert-found a b x state entries k stamp name rows d f st here fit puts =
+    let t = found-at a x.stamps x.entries.items state.tables st.pages k d st.tables here.inside in
+    let into = puts t.entry t.at_entry in
+    let p = into.put (st.pages k) (length t.entry.columns.items) t.stands.chain (fit t.entry t.at_entry) in
+    let named : t.entry.name ≡ name = ap (λ (e : Entry). e.name) (Rattle.hg_engine.proofs.Creating.some-one t.entry (slice_index_or x.entries.items k d)
+    (sym t.at_entry ∙ slice_get-get_or x.entries.items k d here.inside)) ∙ here.named d in
+    let at : slice_get entries k ≡ Some (with_ends t.entry into.ends) =
+    ap (λ (l : List Entry). slice_get l k) into.after ∙ get-set-here x.entries.items k (with_ends t.entry into.ends) here.inside in
+    (finds-last a entries name (length rows) k b (with_ends t.entry into.ends) f at named p.cause into.found, tt)
 
 -- the same over an equal list of entries
 pub puts-over : (a b : Space) (l m new : List Entry) (k stamp : ℕ) (rows : List (List Value)) (r : Result (Unit {0}) PageFault) → l ≡ m

@@ -19,9 +19,9 @@ use Rattle.hg_table.specs.Chains.{IsChain}
 use Rattle.hg_base.specs.Causes.{Later, HasCause, one_more}
 use Rattle.hg_base.specs.declared.pages.PageFault.{PageFault}
 use Rattle.hg_base.specs.declared.pages.PageFault.TheVariants as fault
-use Rattle.hg_table.specs.Calls.{HasTable, InsertFault, IsNamed, Inserts, newborn, insert_mine, none_mine}
+use Rattle.hg_table.specs.Calls.{HasTable, InsertFault, NamesGiven, IsNamed, Inserts, newborn, insert_mine, none_mine}
 use Rattle.hg_table.specs.TableLaws.{chain_stays, table_stays}
-use Rattle.hg_engine.specs.Putting.{Grows, Puts, PutsSome, PutFault, OneMore, CanPut, HaveColumns, table_mine}
+use Rattle.hg_engine.specs.Putting.{Grows, Puts, PutsSome, PutFault, FindsLast, OneMore, CanPut, HaveColumns, table_mine}
 use Rattle.hg_engine.proofs.SeenLaws.{joined-none, joined-one, joined-then}
 
 -- a page that is named is among the pages
@@ -223,6 +223,14 @@ put-fault a b c n m fault.MainFull told limit later few less h k =
     (omega arith, let was = later.main_full in omega arith)
 put-fault a b c n m fault.TempFull told limit later few less h k = h
 put-fault a b c n m (fault.Damaged page check) told limit later few less h k = sym told ∙ k.damage
+
+-- which damage an insertion finds
+pub finds-last : (b : Space) (last : Option ℕ) (f : PageFault) → InsertFault b f → NamesGiven last f → FindsLast last f
+finds-last b last fault.MainFault h n = tt
+finds-last b last fault.TempFault h n = tt
+finds-last b last fault.MainFull h n = tt
+finds-last b last fault.TempFull h n = tt
+finds-last b last (fault.Damaged page check) h n = (n, h)
 
 -- an insertion that failed leaves what was put before it
 pub puts-failed : (a b c : Space) (old mid : Table) (pages : List ℕ) (stamp columns : ℕ) (done rows : List (List Value)) (f : PageFault)

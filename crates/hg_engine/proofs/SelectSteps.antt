@@ -1,8 +1,7 @@
 -- SELECT and its turns are steps of the plain machine.
-use Rattle.std.specs.Prelude.{◌≡◌, ◌≢◌, ℕ, ◌+◌, ◌*◌, ◌<◌, ◌≤◌, Bool, true, false, List, [], ◌∷◌, length, All, Option, Some, None, Result, Ok, Err, IfOk, IfSome, MatchOption, slice_get}
-use Rattle.std.specs.List.{AllByRecursion}
+use Rattle.std.specs.Prelude.{◌≡◌, ◌≢◌, ℕ, ◌+◌, ◌*◌, ◌<◌, ◌≤◌, Bool, true, false, List, [], ◌∷◌, length, All, Option, Some, None, Result, Ok, Err, IfOk, IfSome, MatchOption, slice_get, slice_index_or}
 use Rattle.std.proofs.Common.{sym, ◌∙◌, ap, subst, refl}
-use Rattle.std.proofs.lemmas.Option.{none-some}
+use Rattle.std.proofs.lemmas.Option.{none-some, slice_get-get_or}
 use Rattle.hg_base.specs.Space.{Space, taken_in}
 use Rattle.hg_base.specs.Steadiness.{Steady}
 use Rattle.hg_base.specs.declared.File.TheVariants.{Main, Temp}
@@ -13,6 +12,7 @@ use Rattle.hg_machine.specs.State.{State, IsTableAt}
 use Rattle.hg_machine.specs.Reply.{Reply as ReplyOf, unknown_table, row, at_end, closed}
 use Rattle.hg_machine.specs.Run.{Turn}
 use Rattle.hg_machine.specs.Select.{Selects, rows_found, rows_unknown}
+use Rattle.hg_reply.specs.Steps.{TellsFound, TellOnlyFound}
 use Rattle.hg_table.specs.Marks.{last, committed}
 use Rattle.hg_table.specs.Calls.{none_mine, TakesNone, LookFault, NamesOneOf}
 use Rattle.hg_table.specs.Chains.{IsChain}
@@ -21,14 +21,14 @@ use Rattle.hg_engine.specs.Named.{IsNamedAt}
 use Rattle.hg_engine.specs.Seen.{seen_rows}
 use Rattle.hg_engine.specs.Scanning.{Position, GoesOn, ScanFault, IsScanCheck}
 use Rattle.hg_engine.specs.Standing.{Stands}
-use Rattle.hg_engine.specs.Stepping.{TablesAre, StepsTo, TellsDamageIn, TellsScanDamage, line_of}
+use Rattle.hg_engine.specs.Stepping.{TablesAre, StepsTo, TurnFinds, IsScanned, line_of}
 use Rattle.hg_engine.specs.declared.entries.Entry.{Entry}
 use Rattle.hg_engine.specs.declared.next.Found.{Found}
 use Rattle.hg_engine.specs.declared.scan.Scan.{Scan}
 use Rattle.hg_engine.specs.declared.tables.Tables.{Tables}
 use Rattle.hg_engine.proofs.Creating.{FoundAt, found-at, unknown-entry, idle-left}
 use Rattle.hg_engine.proofs.Inserting.{resting}
-use Rattle.hg_engine.proofs.Turns.{FindsAll, select-stands, scan-left, turn-row, turn-end, turn-fails, turn-damaged}
+use Rattle.hg_engine.proofs.Turns.{FindsAll, select-stands, scan-left, scan-chain, turn-row, turn-end, turn-fails, turn-damaged}
 
 -- no table has the name
 pub select-nowhere : (s : Space) (x : Tables) (name : List ℕ) (d : Entry) → All (λ (e : Entry). e.name ≢ name) x.entries.items
@@ -130,24 +130,25 @@ pub at-none : (o : Option Found) (A : Type 0) (P : Found → Type 0) → o ≡ N
 at-none o A P e m = subst (λ x. MatchOption x A P) e m
 
 -- a damaged page that is named in a reply line
-line-told : (pages : List ℕ) (budget : ℕ) (f : PageFault) → LookFault (IsScanCheck budget) f → NamesOneOf pages f → TellsDamageIn pages budget (line_of f)
-line-told pages budget fault.MainFault h n = tt
-line-told pages budget fault.TempFault h n = tt
-line-told pages budget fault.MainFull h n = tt
-line-told pages budget fault.TempFull h n = tt
-line-told pages budget (fault.Damaged page check) h n = (n.0, n.1, h)
+line-found : (a b : Space) (x : Tables) (scan : Scan) (pages : List ℕ) (f : PageFault) → x.scan ≡ Some scan → IsScanned a x.entries.items scan pages
+    → ScanFault a b f → LookFault (IsScanCheck scan.budget) f → NamesOneOf pages f → TellsFound (TurnFinds a x) (line_of f)
+line-found a b x scan pages fault.MainFault work on cause h n = tt
+line-found a b x scan pages fault.TempFault work on cause h n = tt
+line-found a b x scan pages fault.MainFull work on cause h n = tt
+line-found a b x scan pages fault.TempFull work on cause h n = tt
+line-found a b x scan pages (fault.Damaged page check) work on cause h n =
+    record { untold = cause; scan = scan; at_work = work; pages = pages; scanned = on; main = n.0; on = n.1; failed = h }
 
-pub damage-told : (s : Space) (x : Tables) (scan : Scan) (f : PageFault) → x.scan ≡ Some scan → LookFault (IsScanCheck scan.budget) f
-    → ((e : Entry) (pages : List ℕ) → slice_get x.entries.items scan.table ≡ Some e → IsChain s e.data pages → NamesOneOf pages f)
-    → TellsScanDamage s x (line_of f ∷ closed ∷ [])
-damage-told s x scan f is checks names other pages also scanned =
-    let same : scan ≡ other = one-scan scan other (sym is ∙ also) in
-    let at = subst (λ (w : Scan). slice_get x.entries.items w.table ≡ Some scanned.entry) (sym same) scanned.at in
-    let told : TellsDamageIn pages scan.budget (line_of f) = line-told pages scan.budget f checks (names scanned.entry pages at scanned.chain) in
-    subst (λ (w : Scan). AllByRecursion (TellsDamageIn pages w.budget) (line_of f ∷ closed ∷ [])) same (told, (tt, tt))
-  where
-    one-scan : (a b : Scan) → ◌≡◌ {A = Option Scan} (Some a) (Some b) → a ≡ b
-    one-scan a b e = cc
-
-pub none-told : (s : Space) (x : Tables) (line : ReplyOf) → ((pages : List ℕ) (budget : ℕ) → TellsDamageIn pages budget line) → TellsScanDamage s x (line ∷ [])
-none-told s x line plain scan pages is scanned = (plain pages scan.budget, tt)
+-- which damage a turn finds
+pub turn-found : (a b : Space) (x : Tables) (scan : Scan) (d : Entry) (state : State) (f : PageFault) → x.scan ≡ Some scan → TablesAre a x state
+    → ScanFault a b f → LookFault (IsScanCheck scan.budget) f
+    → ((e : Entry) (pages : List ℕ) → slice_get x.entries.items scan.table ≡ Some e → IsChain a e.data pages → NamesOneOf pages f)
+    → TellOnlyFound (TurnFinds a x) (line_of f ∷ closed ∷ [])
+turn-found a b x scan d state f work st cause checks names =
+    let stands : Stands a x.entries.items x.stamps (Some scan) state = subst (λ c. Stands a x.entries.items x.stamps c state) work st in
+    let left = scan-left a x.entries.items x.stamps scan state stands in
+    let e : Entry = slice_index_or x.entries.items scan.table d in
+    let at : slice_get x.entries.items scan.table ≡ Some e = slice_get-get_or x.entries.items scan.table d left.2.table in
+    let chain = scan-chain a x.entries.items x.stamps scan state e stands at in
+    let on : IsScanned a x.entries.items scan (stands.pages scan.table) = record { entry = e; at = at; chain = chain } in
+    (line-found a b x scan (stands.pages scan.table) f work on cause checks (names e (stands.pages scan.table) at chain), (tt, tt))

@@ -1,6 +1,6 @@
 -- What it does to a table and its space that rows are put into it under one stamp, which is not
 -- committed yet. Our own rule.
-use Rattle.std.specs.Prelude.{◌≡◌, ℕ, ◌+◌, ◌<◌, ◌≤◌, ◌⊎◌, Bool, true, false, List, ◌++◌, length, All}
+use Rattle.std.specs.Prelude.{◌≡◌, ℕ, ◌+◌, ◌<◌, ◌≤◌, ◌⊎◌, Bool, true, false, List, ◌++◌, length, All, Option, ⊤}
 use Rattle.std.specs.List.{AllByRecursion}
 use Rattle.std.specs.List.Sorted.{IsPermutation}
 use Rattle.hg_base.specs.Space.{Space, key_in, taken_in}
@@ -15,7 +15,7 @@ use Rattle.hg_model.specs.declared.values.Value.{Value}
 use Rattle.hg_table.specs.Chains.{IsChain}
 use Rattle.hg_table.specs.Versions.{Placed, IsTable}
 use Rattle.hg_base.specs.declared.Place.{Place}
-use Rattle.hg_table.specs.Calls.{IsNamed, Inserts, KeepsPages, AddsPage, insert_mine, newborn}
+use Rattle.hg_table.specs.Calls.{IsNamed, Inserts, KeepsPages, AddsPage, NamesGiven, IsPageCheck, insert_mine, newborn}
 use Rattle.hg_engine.specs.Seen.{seen_rows, IsPast}
 
 -- Rows joined the versions of a table, born under one stamp: who sees the stamp sees them too, and
@@ -57,6 +57,14 @@ PutFault a b n fault.TempFault = TempFailed a.counts b.counts
 PutFault a b n fault.MainFull = (a.limit Main < taken_in a Main + n) × Rose a.counts.main_full b.counts.main_full
 PutFault a b n fault.TempFull = ⊥
 PutFault a b n (fault.Damaged page check) = a.told ≡ false
+
+-- Of damage only that the page of this number is no slotted page is found, and none where there is none.
+abbrev pub FindsLast : Option ℕ → PageFault → Type 0
+FindsLast last fault.MainFault = ⊤
+FindsLast last fault.TempFault = ⊤
+FindsLast last fault.MainFull = ⊤
+FindsLast last fault.TempFull = ⊤
+FindsLast last (fault.Damaged page check) = NamesGiven last (fault.Damaged page check) × IsPageCheck check
 
 -- some of the rows were put into the table before it failed
 pub record PutsSome (a b : Space) (old new : Table) (pages : List ℕ) (stamp columns : ℕ) (rows : List (List Value)) (f : PageFault) : Type 0 where

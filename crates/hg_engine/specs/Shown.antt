@@ -3,14 +3,14 @@
 use Rattle.std.specs.Prelude.{◌≤◌, ℕ, Bool, List, is_some}
 use Rattle.hg_base.specs.Space.{Space}
 use Rattle.hg_io.specs.declared.device.PageDevice.{Ghosts}
-use Rattle.hg_machine.specs.Run.{Turn}
 use Rattle.hg_machine.specs.State.{State}
 use Rattle.hg_pool.specs.Shown.{state_of, main_device, temp_device}
 use Rattle.hg_machine.specs.Reply.{Reply as ReplyOf}
-use Rattle.hg_reply.specs.Steps.{DeviceFacts, NoneFell, Says, FullOnlyWhereFull, Moves}
+use Rattle.hg_reply.specs.Steps.{DeviceFacts, NoneFell, Says, FullOnlyWhereFull, Findings, TellOnlyFound, Moves}
 use Rattle.hg_reply.specs.declared.reply.Reply.{Reply}
-use Rattle.hg_engine.specs.Stepping.{TablesAre, faults_in, looks_left, TellsScanDamage}
+use Rattle.hg_engine.specs.Stepping.{TablesAre, faults_in, looks_left}
 use Rattle.hg_engine.specs.declared.kept.Kept.{Kept}
+use Rattle.hg_engine.specs.declared.tables.Tables.{Tables}
 
 module _ {M T : Type 0} where
   -- the pages of an engine
@@ -50,17 +50,14 @@ module _ {M T : Type 0} where
   abbrev pub IsSomeEngine : Ghosts M → Ghosts T → Kept M T → Type 0
   IsSomeEngine m t e = (state : State) × IsEngineOf m t e state
 
-  -- one step of an engine: the lines that it says, and the step of the machine that they are
-  pub record EngineSteps (m : Ghosts M) (t : Ghosts T) (old new : Kept M T) (reply : Reply) (Step : State → List ReplyOf → State → Type 0) : Type 0 where
+  -- one step of an engine: the lines that it says, the step of the machine that they are, and which
+  -- damage they may tell of
+  pub record EngineSteps (m : Ghosts M) (t : Ghosts T) (old new : Kept M T) (reply : Reply) (Step : State → List ReplyOf → State → Type 0) (found : Tables → Findings) : Type 0 where
     pub lines : List ReplyOf
     pub says : Says reply (faults_of m t old) (faults_of m t new) lines
     pub full : FullOnlyWhereFull (fulls_of m t old) (fulls_of m t new) lines
     pub moves : Moves (IsEngineOf m t) old new Step lines
-
-  -- one turn of the SELECT at work: a step, and which damage its lines tell of
-  pub record EngineTurns (m : Ghosts M) (t : Ghosts T) (old new : Kept M T) (reply : Reply) : Type 0 where
-    pub step : EngineSteps m t old new reply Turn
-    pub damage : TellsScanDamage (space_of m t old) old.tables step.lines
+    pub damage : TellOnlyFound (found new.tables) lines
 
 -- no count falls, and the devices have as many pages as before
 pub record IsLater (a b : Space) : Type 0 where

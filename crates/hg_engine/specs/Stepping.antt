@@ -1,21 +1,24 @@
 -- What a step of an engine promises: it says lines, and is a step of the plain machine. Our own rule.
-use Rattle.std.specs.Prelude.{◌≡◌, ◌≢◌, ℕ, ◌<◌, List, length, All, ◌+◌, Option, None, Some, Result, MatchResult, IsTrue, ⊤, slice_get, slice_set}
-use Rattle.std.specs.List.{AllByRecursion}
+use Rattle.std.specs.Prelude.{◌≡◌, ◌≢◌, ℕ, ◌<◌, false, List, length, All, ◌+◌, Option, None, Some, Result, MatchResult, IfErr, IsTrue, slice_get, slice_set}
 use Rattle.hg_base.specs.Space.{Space, NoPins}
 use Rattle.hg_base.specs.Causes.{Later}
 use Rattle.hg_base.specs.declared.File.TheVariants.{Main, Temp}
 use Rattle.hg_machine.specs.CreateTable.{AllDifferent}
-use Rattle.hg_machine.specs.Reply.{Reply as ReplyOf, created, inserted, row, at_end, closed, syntax_error, line_too_long, unknown_table, device_fault, main_full, damaged, stamps_used_up}
+use Rattle.hg_machine.specs.Reply.{Reply as ReplyOf, device_fault, main_full, damaged}
 use Rattle.hg_machine.specs.State.{State}
-use Rattle.hg_reply.specs.Steps.{DeviceFacts, Counted, FullOnlyWhereFull}
+use Rattle.hg_machine.specs.declared.statements.Statement.{Statement}
+use Rattle.hg_machine.specs.declared.statements.Statement.TheVariants as statement
+use Rattle.hg_reply.specs.Steps.{DeviceFacts, Counted, FullOnlyWhereFull, Findings}
+use Rattle.hg_base.specs.declared.Check.{Check}
+use Rattle.hg_base.specs.declared.PageId.{PageId}
 use Rattle.hg_base.specs.declared.Table.{Table}
 use Rattle.hg_base.specs.declared.pages.PageFault.{PageFault}
 use Rattle.hg_base.specs.declared.pages.PageFault.TheVariants as fault
 use Rattle.hg_model.specs.declared.values.Value.{Value}
 use Rattle.hg_base.specs.Lines.{has_page}
-use Rattle.hg_table.specs.Calls.{main_page}
+use Rattle.hg_table.specs.Calls.{main_page, NamesGiven, IsPageCheck}
 use Rattle.hg_table.specs.Chains.{IsChain}
-use Rattle.hg_engine.specs.Putting.{HaveColumns, CanPut, Puts, PutsSome}
+use Rattle.hg_engine.specs.Putting.{HaveColumns, CanPut, Puts, PutsSome, FindsLast}
 use Rattle.hg_engine.specs.Scanning.{IsScanCheck}
 use Rattle.hg_engine.specs.Standing.{Stands}
 use Rattle.hg_engine.specs.declared.entries.Entry.{Entry}
@@ -71,24 +74,9 @@ with_ends e ends = record e { «data» = ends }
 pub record PutsInto (a b : Space) (old new : List Entry) (k stamp : ℕ) (rows : List (List Value)) (r : Result (Unit {0}) PageFault) (e : Entry) : Type 0 where
   pub ends : Table
   pub after : new ≡ slice_set old k (with_ends e ends)
+  pub found : IfErr r (FindsLast ends.last)
   pub put : (pages : List ℕ) (columns : ℕ) → IsChain a e.data pages → HaveColumns columns rows
       → MatchResult r (λ u. Puts a b e.data ends pages stamp columns rows) (λ f. PutsSome a b e.data ends pages stamp columns rows f)
-
--- A line of a turn that tells of damage names one of these pages, with a check that a scan finds. The
--- other lines tell of none.
-abbrev pub TellsDamageIn : List ℕ → ℕ → ReplyOf → Type 0
-TellsDamageIn pages budget created = ⊤
-TellsDamageIn pages budget (inserted count) = ⊤
-TellsDamageIn pages budget (row values) = ⊤
-TellsDamageIn pages budget at_end = ⊤
-TellsDamageIn pages budget closed = ⊤
-TellsDamageIn pages budget syntax_error = ⊤
-TellsDamageIn pages budget line_too_long = ⊤
-TellsDamageIn pages budget (unknown_table name) = ⊤
-TellsDamageIn pages budget (device_fault file) = ⊤
-TellsDamageIn pages budget main_full = ⊤
-TellsDamageIn pages budget (damaged page check) = (page ≡ main_page page.no) × IsTrue (has_page pages page.no) × IsScanCheck budget check
-TellsDamageIn pages budget stamps_used_up = ⊤
 
 -- these are the pages of the table that is scanned
 pub record IsScanned (s : Space) (entries : List Entry) (scan : Scan) (pages : List ℕ) : Type 0 where
@@ -96,11 +84,35 @@ pub record IsScanned (s : Space) (entries : List Entry) (scan : Scan) (pages : L
   pub at : slice_get entries scan.table ≡ Some entry
   pub chain : IsChain s entry.data pages
 
--- The lines of a turn tell of no damage but of a page of the table that is scanned: it is no slotted page
--- (Kind, Size), or a record on it is no version of a row (RowBytes), or the budget is used up (Order).
-abbrev pub TellsScanDamage : Space → Tables → List ReplyOf → Type 0
-TellsScanDamage s x lines = (scan : Scan) (pages : List ℕ) → x.scan ≡ Some scan → IsScanned s x.entries.items scan pages
-    → AllByRecursion (TellsDamageIn pages scan.budget) lines
+-- A turn finds damage only over a space that does not tell, in a page of the table that is scanned: it is
+-- no slotted page (Kind, Size), or a record on it is no version of a row (RowBytes), or the budget is used
+-- up (Order).
+pub record TurnFinds (s : Space) (x : Tables) (page : PageId) (check : Check) : Type 0 where
+  pub untold : s.told ≡ false
+  pub scan : Scan
+  pub at_work : x.scan ≡ Some scan
+  pub pages : List ℕ
+  pub scanned : IsScanned s x.entries.items scan pages
+  pub main : page ≡ main_page page.no
+  pub on : IsTrue (has_page pages page.no)
+  pub failed : IsScanCheck scan.budget check
+
+-- An INSERT finds damage only over a space that does not tell, and only that the last page of its table,
+-- as the INSERT leaves it, is no slotted page (Kind, Size).
+pub record InsertFinds (s : Space) (entries : List Entry) (name : List ℕ) (page : PageId) (check : Check) : Type 0 where
+  pub untold : s.told ≡ false
+  pub table : ℕ
+  pub entry : Entry
+  pub at : slice_get entries table ≡ Some entry
+  pub named : entry.name ≡ name
+  pub last : NamesGiven entry.data.last (fault.Damaged page check)
+  pub failed : IsPageCheck check
+
+-- Which damage a statement finds up to its first turn: only an INSERT looks at pages.
+abbrev pub StatementFinds : Space → Tables → Statement → Findings
+StatementFinds s new (statement.CreateTable name columns) page check = ⊥
+StatementFinds s new (statement.Insert table rows) page check = InsertFinds s new.entries.items table page check
+StatementFinds s new (statement.Select table) page check = ⊥
 
 -- what no step changes: whether the space tells, and how many pages it may have; and no count falls
 pub record IsSameSpace (a b : Space) : Type 0 where

@@ -48,7 +48,7 @@ impl Tables {
     ghost use Rattle.hg_machine.specs.CreateTable.{CreatesTable};
     ghost use Rattle.hg_machine.specs.Reply.{Reply as ReplyOf};
     ghost use Rattle.hg_base.specs.Space.{Space};
-    ghost use Rattle.hg_reply.specs.Steps.{HasLines};
+    ghost use Rattle.hg_reply.specs.Steps.{HasLines, TellOnlyFound};
     ghost use Rattle.hg_engine.specs.Stepping.{CountedIn, StepsTo};
 
     /// No table, no stamp and no SELECT. All memory that is ever needed is taken here.
@@ -75,7 +75,8 @@ impl Tables {
         requires empty { reply.old.text.items ≡ [] }
         requires no_error { reply.old.has_error ≡ false }
         ensures step { (lines : List ReplyOf) × HasLines reply.new lines × ((s : Space) → CountedIn s s lines)
-            × ((s : Space) → StepsTo s s self.old self.new (λ before lines after. CreatesTable before name.now columns.now lines after) lines) }
+            × ((s : Space) → StepsTo s s self.old self.new (λ before lines after. CreatesTable before name.now columns.now lines after) lines)
+            × TellOnlyFound (λ page check. ⊥) lines }
         ensures idle { self.new.scan ≡ None }
     {
         if !may_create(&self.entries, name, columns) {

@@ -19,8 +19,8 @@ impl Tables {
     ghost use Rattle.hg_table.specs.Marks.{last, Draws};
     ghost use Rattle.hg_engine.specs.Putting.{HaveColumns};
     ghost use Rattle.hg_engine.specs.declared.entries.Entry.{Entry as EntryOf};
-    ghost use Rattle.hg_reply.specs.Steps.{HasLines};
-    ghost use Rattle.hg_engine.specs.Stepping.{TablesAre, CountedIn, IsSameSpace, StepsTo, CanPutAt, PutsInto};
+    ghost use Rattle.hg_reply.specs.Steps.{HasLines, TellOnlyFound};
+    ghost use Rattle.hg_engine.specs.Stepping.{TablesAre, CountedIn, IsSameSpace, StepsTo, CanPutAt, PutsInto, InsertFinds};
 
     /// Whether each row has a value for each column of the table.
     fn fit(&self, at: usize, rows: &[Tuple]) -> bool
@@ -76,7 +76,8 @@ impl Tables {
         requires empty { reply.old.text.items ≡ [] }
         requires no_error { reply.old.has_error ≡ false }
         ensures step { (lines : List ReplyOf) × HasLines reply.new lines × CountedIn (S.state space.old) (S.state space.new) lines
-            × StepsTo (S.state space.old) (S.state space.new) self.old self.new (λ before lines after. Inserts before name.now rows.now lines after) lines }
+            × StepsTo (S.state space.old) (S.state space.new) self.old self.new (λ before lines after. Inserts before name.now rows.now lines after) lines
+            × TellOnlyFound (InsertFinds (S.state space.old) self.new.entries.items name.now) lines }
         ensures idle { self.new.scan ≡ None }
         ensures same { IsSameSpace (S.state space.old) (S.state space.new) }
     {

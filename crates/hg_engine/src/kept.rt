@@ -19,10 +19,11 @@ impl<M: PageDevice, T: PageDevice> Kept<M, T> {
     ghost use Rattle.hg_io.specs.Count.{raised};
     ghost use Rattle.hg_machine.specs.CreateTable.{CreatesTable};
     ghost use Rattle.hg_machine.specs.Insert.{Inserts};
-    ghost use Rattle.hg_machine.specs.Run.{Begins};
+    ghost use Rattle.hg_machine.specs.Run.{Begins, Turn};
     ghost use Rattle.hg_machine.specs.Select.{Selects};
     ghost use Rattle.hg_reply.specs.Steps.{statement_in, DropsCommand};
-    ghost use Rattle.hg_engine.specs.Shown.{space_of, IsEngineOf, IsSomeEngine, is_pending, turns_left, EngineSteps, EngineTurns, IsLater};
+    ghost use Rattle.hg_engine.specs.Shown.{space_of, IsEngineOf, IsSomeEngine, is_pending, turns_left, EngineSteps, IsLater};
+    ghost use Rattle.hg_engine.specs.Stepping.{InsertFinds, StatementFinds, TurnFinds};
 
     /// Whether a SELECT is at work.
     fn next(&self) -> Next
@@ -40,7 +41,7 @@ impl<M: PageDevice, T: PageDevice> Kept<M, T> {
         requires idle { is_pending self.old ≡ false }
         requires few { length columns.now ≤ 16 }
         ensures step { EngineSteps M.PageDevice T.PageDevice self.old self.new reply.new
-            (λ before lines after. CreatesTable before name.now columns.now lines after) }
+            (λ before lines after. CreatesTable before name.now columns.now lines after) (λ now page check. ⊥) }
         ensures later { IsLater (space_of M.PageDevice T.PageDevice self.old) (space_of M.PageDevice T.PageDevice self.new) }
         ensures said { self.new.said ≡ self.old.said }
     {
@@ -53,7 +54,8 @@ impl<M: PageDevice, T: PageDevice> Kept<M, T> {
         requires idle { is_pending self.old ≡ false }
         requires stands { IsSomeEngine M.PageDevice T.PageDevice self.old }
         ensures step { EngineSteps M.PageDevice T.PageDevice self.old self.new reply.new
-            (λ before lines after. Inserts before table.now rows.now lines after) }
+            (λ before lines after. Inserts before table.now rows.now lines after)
+            (λ now. InsertFinds (space_of M.PageDevice T.PageDevice self.old) now.entries.items table.now) }
         ensures later { IsLater (space_of M.PageDevice T.PageDevice self.old) (space_of M.PageDevice T.PageDevice self.new) }
         ensures said { self.new.said ≡ self.old.said }
     {
@@ -65,7 +67,7 @@ impl<M: PageDevice, T: PageDevice> Kept<M, T> {
     fn select(&mut self, table: &Name, reply: &mut Reply)
         requires idle { is_pending self.old ≡ false }
         ensures step { EngineSteps M.PageDevice T.PageDevice self.old self.new reply.new
-            (λ before lines after. Selects before table.now lines after) }
+            (λ before lines after. Selects before table.now lines after) (λ now page check. ⊥) }
         ensures later { IsLater (space_of M.PageDevice T.PageDevice self.old) (space_of M.PageDevice T.PageDevice self.new) }
         ensures said { self.new.said ≡ self.old.said }
     {
@@ -78,7 +80,8 @@ impl<M: PageDevice, T: PageDevice> Kept<M, T> {
         requires idle { is_pending self.old ≡ false }
         requires stands { IsSomeEngine M.PageDevice T.PageDevice self.old }
         ensures step { EngineSteps M.PageDevice T.PageDevice self.old self.new reply.new
-            (λ before lines after. Begins before (statement_in statement.now) lines after) }
+            (λ before lines after. Begins before (statement_in statement.now) lines after)
+            (λ now. StatementFinds (space_of M.PageDevice T.PageDevice self.old) now (statement_in statement.now)) }
         ensures later { IsLater (space_of M.PageDevice T.PageDevice self.old) (space_of M.PageDevice T.PageDevice self.new) }
         ensures said { self.new.said ≡ self.old.said }
     {
@@ -93,7 +96,8 @@ impl<M: PageDevice, T: PageDevice> Kept<M, T> {
     fn turn(&mut self, reply: &mut Reply)
         requires pending { is_pending self.old ≡ true }
         requires stands { IsSomeEngine M.PageDevice T.PageDevice self.old }
-        ensures turns { EngineTurns M.PageDevice T.PageDevice self.old self.new reply.new }
+        ensures turns { EngineSteps M.PageDevice T.PageDevice self.old self.new reply.new Turn
+            (λ now. TurnFinds (space_of M.PageDevice T.PageDevice self.old) self.old.tables) }
         ensures nearer { turns_left self.new < turns_left self.old }
         ensures later { IsLater (space_of M.PageDevice T.PageDevice self.old) (space_of M.PageDevice T.PageDevice self.new) }
         ensures said { self.new.said ≡ self.old.said }
@@ -116,7 +120,8 @@ impl<M: PageDevice, T: PageDevice> Kept<M, T> {
         requires idle { is_pending self.old ≡ false }
         requires stands { IsSomeEngine M.PageDevice T.PageDevice self.old }
         ensures step { EngineSteps M.PageDevice T.PageDevice self.old self.new reply.new
-            (λ before lines after. Begins before (statement_in statement.now) lines after) }
+            (λ before lines after. Begins before (statement_in statement.now) lines after)
+            (λ now. StatementFinds (space_of M.PageDevice T.PageDevice self.old) now (statement_in statement.now)) }
         ensures more { (result ≡ Next.More) ↔ (is_pending self.new ≡ true) }
         ensures later { IsLater (space_of M.PageDevice T.PageDevice self.old) (space_of M.PageDevice T.PageDevice self.new) }
         ensures said { self.new.said ≡ raised self.old.said (array_vec_len reply.new.text) }
@@ -130,7 +135,8 @@ impl<M: PageDevice, T: PageDevice> Kept<M, T> {
     pub(crate) fn more(&mut self, reply: &mut Reply) -> Next
         requires pending { is_pending self.old ≡ true }
         requires stands { IsSomeEngine M.PageDevice T.PageDevice self.old }
-        ensures turns { EngineTurns M.PageDevice T.PageDevice self.old self.new reply.new }
+        ensures turns { EngineSteps M.PageDevice T.PageDevice self.old self.new reply.new Turn
+            (λ now. TurnFinds (space_of M.PageDevice T.PageDevice self.old) self.old.tables) }
         ensures nearer { turns_left self.new < turns_left self.old }
         ensures more { (result ≡ Next.More) ↔ (is_pending self.new ≡ true) }
         ensures later { IsLater (space_of M.PageDevice T.PageDevice self.old) (space_of M.PageDevice T.PageDevice self.new) }

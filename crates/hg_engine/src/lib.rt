@@ -6,6 +6,7 @@
 #![tactic(auto)]
 
 mod create;
+mod database;
 mod engine;
 mod entries;
 mod faults;
@@ -19,8 +20,9 @@ mod scan;
 mod select;
 mod tables;
 
-pub use engine::{Devices, Engine};
+pub use database::{Database, Devices};
+pub use engine::Engine;
 pub use hg_machine::{Cell, Content, Row};
 pub use hg_model::Name;
 pub use hg_pool::Config;
-pub use hg_reply::{Kind, Machine, Next, Reply, StatementRoom};
+pub use hg_reply::{Kind, Machine, Next, Reply, StatementRoom, TokenRoom};

@@ -6,8 +6,8 @@ ghost use Rattle.hg_base.specs.Steadiness.{Steady};
 ghost use Rattle.hg_base.specs.declared.Place.{Place as PlaceOf};
 ghost use Rattle.hg_value.specs.Coding.{coded};
 ghost use Rattle.hg_table.specs.Chains.{IsChain};
-ghost use Rattle.hg_table.specs.Calls.{none_mine, HasTable, InsertFault};
-ghost use Rattle.hg_engine.specs.Putting.{OneMore, CanPut, HaveColumns, Puts, PutsSome};
+ghost use Rattle.hg_table.specs.Calls.{none_mine, HasTable, InsertFault, NamesGiven};
+ghost use Rattle.hg_engine.specs.Putting.{OneMore, CanPut, HaveColumns, Puts, PutsSome, FindsLast};
 
 use crate::fill::fill;
 use hg_base::{PageFault, Pages, Stamp};
@@ -32,6 +32,7 @@ fn put_one<S: Pages, D: TableCalls>(
     ensures err_steady { OnErr result (Steady none_mine (S.state space.old) (S.state space.new)) }
     ensures err_taken { OnErr result ((S.state space.new).taken ≡ (S.state space.old).taken) }
     ensures fault { IfErr result (InsertFault (S.state space.old)) }
+    ensures page { IfErr result (NamesGiven (D.ends table.old).last) }
     ensures cause { HasCause (S.state space.old) (S.state space.new) (fault_of result) }
 {
     table.insert(space, row, stamp)?;
@@ -53,6 +54,7 @@ pub fn put_rows<S: Pages, D: TableCalls>(
         → Puts (S.state space.old) (S.state space.new) (D.ends table.old) (D.ends table.new) pages stamp.0 columns rows.now) }
     ensures err { IfErr result (λ f. (pages : List ℕ) (columns : ℕ) → IsChain (S.state space.old) (D.ends table.old) pages → HaveColumns columns rows.now
         → PutsSome (S.state space.old) (S.state space.new) (D.ends table.old) (D.ends table.new) pages stamp.0 columns rows.now f) }
+    ensures found { IfErr result (FindsLast (D.ends table.new).last) }
 {
     for tuple in rows {
         fill(row, tuple.cells());

@@ -26,8 +26,8 @@ impl Tables {
     ghost use Rattle.hg_engine.specs.Seen.{seen_rows};
     ghost use Rattle.hg_engine.specs.Scanning.{Position, IsScan, Finds, GoesOn, ScanFault, IsScanCheck};
     ghost use Rattle.hg_engine.specs.declared.entries.Entry.{Entry as EntryOf};
-    ghost use Rattle.hg_reply.specs.Steps.{HasLines};
-    ghost use Rattle.hg_engine.specs.Stepping.{TablesAre, CountedIn, IsSameSpace, StepsTo, TellsScanDamage, looks_left};
+    ghost use Rattle.hg_reply.specs.Steps.{HasLines, TellOnlyFound};
+    ghost use Rattle.hg_engine.specs.Stepping.{TablesAre, CountedIn, IsSameSpace, StepsTo, TurnFinds, looks_left};
 
     /// SELECT of all rows: they are left to give from the next turn on.
     pub fn select<S: Pages>(&mut self, space: &S, name: &Name, reply: &mut Reply)
@@ -35,7 +35,8 @@ impl Tables {
         requires empty { reply.old.text.items ≡ [] }
         requires no_error { reply.old.has_error ≡ false }
         ensures step { (lines : List ReplyOf) × HasLines reply.new lines × CountedIn (S.state space.now) (S.state space.now) lines
-            × StepsTo (S.state space.now) (S.state space.now) self.old self.new (λ before lines after. Selects before name.now lines after) lines }
+            × StepsTo (S.state space.now) (S.state space.now) self.old self.new (λ before lines after. Selects before name.now lines after) lines
+            × TellOnlyFound (λ page check. ⊥) lines }
     {
         let Some(table) = place_of(&self.entries, name) else {
             reply.say(&ReplyLine::UnknownTable(name));
@@ -107,7 +108,8 @@ impl Tables {
         requires empty { reply.old.text.items ≡ [] }
         requires no_error { reply.old.has_error ≡ false }
         ensures step { (lines : List ReplyOf) × HasLines reply.new lines × CountedIn (S.state space.old) (S.state space.new) lines
-            × StepsTo (S.state space.old) (S.state space.new) self.old self.new Turn lines × TellsScanDamage (S.state space.old) self.old lines }
+            × StepsTo (S.state space.old) (S.state space.new) self.old self.new Turn lines
+            × TellOnlyFound (TurnFinds (S.state space.old) self.old) lines }
         ensures nearer { looks_left self.new.scan < looks_left self.old.scan }
         ensures same { IsSameSpace (S.state space.old) (S.state space.new) }
     {

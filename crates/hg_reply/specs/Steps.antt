@@ -1,12 +1,14 @@
 -- What one small step of an engine promises, in the words of the plain machine. Our own rule.
-use Rattle.std.specs.Prelude.{◌≡◌, ℕ, ◌≤◌, true, List, None}
-use Rattle.std.specs.List.{list_any}
+use Rattle.std.specs.Prelude.{◌≡◌, ℕ, ◌≤◌, ⊤, true, List, None}
+use Rattle.std.specs.List.{list_any, AllByRecursion}
+use Rattle.hg_base.specs.declared.Check.{Check}
+use Rattle.hg_base.specs.declared.PageId.{PageId}
 use Rattle.hg_base.specs.declared.File.TheVariants.{Main, Temp}
 use Rattle.hg_base.specs.Causes.{Rose}
 use Rattle.hg_io.specs.Count.{raised}
 use Rattle.hg_machine.specs.declared.statements.Statement.{Statement}
 use Rattle.hg_machine.specs.declared.statements.Statement.TheVariants as statement
-use Rattle.hg_machine.specs.Reply.{Reply as ReplyOf, text_of, has_error, fault_lines, is_main_full}
+use Rattle.hg_machine.specs.Reply.{Reply as ReplyOf, text_of, has_error, fault_lines, is_main_full, created, inserted, row, at_end, closed, syntax_error, line_too_long, unknown_table, device_fault, main_full, damaged, stamps_used_up}
 use Rattle.hg_machine.specs.State.{State}
 use Rattle.hg_reply.specs.declared.machine.Kind.{Kind}
 use Rattle.hg_reply.specs.declared.machine.Kind.TheVariants as kind
@@ -55,6 +57,29 @@ pub record Says (reply : Reply) (before after : DeviceFacts) (lines : List Reply
 -- a line says that the main file is full only where the count of these answers rose in the step
 pub record FullOnlyWhereFull (before after : ℕ) (lines : List ReplyOf) : Type 0 where
   pub rose : list_any is_main_full lines ≡ true → Rose before after
+
+-- which damage may be found: a page, and the check that it failed
+abbrev pub Findings : Type 1
+Findings = PageId → Check → Type 0
+
+-- where a line says that a page is damaged, that may be found
+abbrev pub TellsFound : Findings → ReplyOf → Type 0
+TellsFound found created = ⊤
+TellsFound found (inserted count) = ⊤
+TellsFound found (row values) = ⊤
+TellsFound found at_end = ⊤
+TellsFound found closed = ⊤
+TellsFound found syntax_error = ⊤
+TellsFound found line_too_long = ⊤
+TellsFound found (unknown_table name) = ⊤
+TellsFound found (device_fault file) = ⊤
+TellsFound found main_full = ⊤
+TellsFound found (damaged page check) = found page check
+TellsFound found stamps_used_up = ⊤
+
+-- these lines tell of no damage but such as may be found
+abbrev pub TellOnlyFound : Findings → List ReplyOf → Type 0
+TellOnlyFound found lines = AllByRecursion (TellsFound found) lines
 
 -- The step is one of the machine: whatever state the engine stood for, it stands for a state that the
 -- machine reaches with these lines.

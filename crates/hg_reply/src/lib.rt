@@ -10,9 +10,11 @@ pub mod lines;
 mod machine;
 mod reply;
 mod row;
+mod tokens;
 
 pub use machine::{Kind, Machine, Next, StatementRoom};
 pub use reply::{REPLY_BYTES, Reply, ReplyLine};
+pub use tokens::{LINE_LIMIT, TokenRoom};
 
 #[cfg(test)]
 mod lines_tests;

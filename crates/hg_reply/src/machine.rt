@@ -36,8 +36,8 @@ pub struct StatementRoom {
 ///
 /// In the clauses `stands` ties the engine to a state of the plain machine: its tables with their
 /// rows, what the SELECT at work has still to give, the pages in use and the stamps given. Where a
-/// device does not tell its pages, the machine may give any rows, and say that a page is damaged; all
-/// else it does as ever. That an engine stands for some state is its own invariant, and each call that
+/// device does not tell its pages, the machine may give any rows, and say that a page is damaged: which
+/// pages, and by which checks, the engine says. All else it does as ever. That an engine stands for some state is its own invariant, and each call that
 /// takes a step says so (`stood`).
 pub trait Machine {
     ghost use Rattle.std.specs.Prelude.{◌≡◌, ◌<◌, ◌≤◌, ◌↔◌, ℕ, List, Bool, true, false, is_some};
@@ -46,7 +46,8 @@ pub trait Machine {
     ghost use Rattle.hg_machine.specs.Reply.{Reply as ReplyOf};
     ghost use Rattle.hg_machine.specs.Run.{Begins, Turn};
     ghost use Rattle.hg_machine.specs.State.{State};
-    ghost use Rattle.hg_reply.specs.Steps.{statement_in, DeviceFacts, NoneFell, Says, FullOnlyWhereFull, Moves, DropsCommand};
+    ghost use Rattle.hg_machine.specs.declared.statements.Statement.{Statement};
+    ghost use Rattle.hg_reply.specs.Steps.{statement_in, DeviceFacts, NoneFell, Says, FullOnlyWhereFull, Findings, TellOnlyFound, Moves, DropsCommand};
 
     /// Which states of the plain machine the engine stands for.
     ghost stands: { Self → State → Type 0 };
@@ -67,12 +68,19 @@ pub trait Machine {
     /// devices of any kind.
     ghost turns: { Self → ℕ };
 
+    /// Which damage a statement may tell of, by the engine before it and behind it.
+    ghost found_by: { Self → Self → Statement → Findings };
+
+    /// Which damage the next turn may tell of.
+    ghost found_in_turn: { Self → Findings };
+
     /// Answers a statement up to its first turn.
     fn command(&mut self, statement: &StatementRoom, reply: &mut Reply) -> Next
         requires idle { pending self.old ≡ false }
         ensures step { (lines : List ReplyOf) × Says reply.new (faults self.old) (faults self.new) lines
             × Moves stands self.old self.new (λ before lines after. Begins before (statement_in statement.now) lines after) lines
-            × FullOnlyWhereFull (fulls self.old) (fulls self.new) lines }
+            × FullOnlyWhereFull (fulls self.old) (fulls self.new) lines
+            × TellOnlyFound (found_by self.old self.new (statement_in statement.now)) lines }
         ensures more { (result ≡ Next.More) ↔ (pending self.new ≡ true) }
         ensures stood { (s : State) × stands self.old s }
         ensures said_more { said self.new ≡ raised (said self.old) (array_vec_len reply.new.text) }
@@ -84,7 +92,8 @@ pub trait Machine {
         requires pending { pending self.old ≡ true }
         ensures step { (lines : List ReplyOf) × Says reply.new (faults self.old) (faults self.new) lines
             × Moves stands self.old self.new Turn lines
-            × FullOnlyWhereFull (fulls self.old) (fulls self.new) lines }
+            × FullOnlyWhereFull (fulls self.old) (fulls self.new) lines
+            × TellOnlyFound (found_in_turn self.old) lines }
         ensures nearer { turns self.new < turns self.old }
         ensures more { (result ≡ Next.More) ↔ (pending self.new ≡ true) }
         ensures stood { (s : State) × stands self.old s }

@@ -6,8 +6,8 @@ ghost use Rattle.hg_reply.specs.Steps.{statement_in};
 ghost use Rattle.hg_serve.specs.Lines.{AsksFor, TextAsksFor};
 
 use crate::parse::parse_into;
-use crate::scan::{LINE_LIMIT, Tokens, is_space, read_tokens};
-use hg_reply::StatementRoom;
+use crate::scan::{is_space, read_tokens};
+use hg_reply::{LINE_LIMIT, StatementRoom, TokenRoom};
 
 /// What a line asks for. A statement stands in the room that the line was read with.
 #[derive(Clone, Copy, PartialEq, Eq, Debug)]
@@ -70,7 +70,7 @@ fn is_blank_text(text: &[u8]) -> bool
 }
 
 /// What a text asks for; a statement is put into the room.
-fn read_text(text: &[u8], tokens: &mut Tokens, room: &mut StatementRoom) -> Asked
+fn read_text(text: &[u8], tokens: &mut TokenRoom, room: &mut StatementRoom) -> Asked
     requires { length text.now ≤ 4096 }
     ensures { TextAsksFor text.now (statement_in room.new) result }
 {
@@ -89,7 +89,12 @@ fn read_text(text: &[u8], tokens: &mut Tokens, room: &mut StatementRoom) -> Aske
 
 /// What a line asks for, of which `kept` has the first 4,097 bytes; a statement is put into the room.
 /// `tokens` is room for its tokens.
-pub fn read_line(kept: &[u8], ended: bool, tokens: &mut Tokens, room: &mut StatementRoom) -> Asked
+pub fn read_line(
+    kept: &[u8],
+    ended: bool,
+    tokens: &mut TokenRoom,
+    room: &mut StatementRoom,
+) -> Asked
     ensures { (whole : List ℕ) → kept.now ≡ take 4097 whole
         → AsksFor (record { bytes = whole; ended = ended }) (statement_in room.new) result }
 {

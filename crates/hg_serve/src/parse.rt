@@ -12,31 +12,30 @@ ghost use Rattle.hg_reply.specs.Steps.{statement_in};
 ghost use Rattle.hg_serve.specs.Parse.{StandsFirst, BeginsWithNoComma, NoCommand, create_words, insert_words};
 ghost use Rattle.hg_machine.specs.Grammar.{IsFree, is_reserved, Separated, negative, IsColumn, IsValue, IsTuple, IsCreateTable, IsInsert, IsSelect, IsEnd, StandsFor};
 
-use crate::scan::Place;
 use arrayvec::ArrayVec;
 use hg_machine::{Cell, Content, RESERVED, Row, Sign, Token};
 use hg_model::Name;
 use hg_reply::{Kind, StatementRoom};
 
 /// Behind a word, where it stands first.
-fn word<'a>(tokens: &'a [Place], text: &str) -> Option<&'a [Place]>
+fn word<'a>(tokens: &'a [Token], text: &str) -> Option<&'a [Token]>
     ensures sound { IfSome result (λ rest. tokens.now ≡ token.Word text.now ∷ rest.now) }
     ensures complete { (rest : List Tok) → tokens.now ≡ token.Word text.now ∷ rest → IsSomeAnd result (λ r. r.now ≡ rest) }
 {
     let (first, rest) = tokens.split_first()?;
-    match first.token() {
+    match first {
         Token::Word(letters) if letters.as_str() == text => Some(rest),
         _ => None,
     }
 }
 
 /// Behind a sign, where it stands first.
-fn sign<'a>(tokens: &'a [Place], wanted: Sign) -> Option<&'a [Place]>
+fn sign<'a>(tokens: &'a [Token], wanted: Sign) -> Option<&'a [Token]>
     ensures sound { IfSome result (λ rest. tokens.now ≡ token.Sign wanted ∷ rest.now) }
     ensures complete { (rest : List Tok) → tokens.now ≡ token.Sign wanted ∷ rest → IsSomeAnd result (λ r. r.now ≡ rest) }
 {
     let (first, rest) = tokens.split_first()?;
-    match first.token() {
+    match first {
         Token::Sign(sign) if *sign == wanted => Some(rest),
         _ => None,
     }
@@ -55,13 +54,13 @@ fn is_reserved_word(name: &Name) -> bool
 }
 
 /// A name that stands first, and what is behind it.
-fn name(tokens: &[Place]) -> Option<(Name, &[Place])>
+fn name(tokens: &[Token]) -> Option<(Name, &[Token])>
     ensures sound { IfSome result (λ r. (tokens.now ≡ token.Word r.0 ∷ r.1.now) × IsFree r.0) }
     ensures complete { (letters : List ℕ) (rest : List Tok) → tokens.now ≡ token.Word letters ∷ rest → IsFree letters
         → IsSomeAnd result (λ r. (r.0 ≡ letters) × (r.1.now ≡ rest)) }
 {
     let (first, rest) = tokens.split_first()?;
-    match first.token() {
+    match first {
         Token::Word(letters) if !is_reserved_word(letters) => Some((letters.copy(), rest)),
         _ => None,
     }
@@ -73,7 +72,7 @@ trait Item: Drop + Default {
     ghost reads: { Self → List Tok → Type 0 };
 
     /// The part that stands first, and what is behind it.
-    fn read(tokens: &[Place]) -> Option<(Self, &[Place])>
+    fn read(tokens: &[Token]) -> Option<(Self, &[Token])>
         ensures sound { IfSome result (λ p. StandsFirst reads tokens.now p.0 p.1.now) }
         ensures complete { (x : Self) (rest : List Tok) → StandsFirst reads tokens.now x rest
             → IsSomeAnd result (λ p. (p.0 ≡ x) × (p.1.now ≡ rest)) };
@@ -82,9 +81,9 @@ trait Item: Drop + Default {
 /// One or more parts with commas between them, as many as stand there, which are put into `items`; and
 /// what is behind them. None also where more than `N` stand there.
 fn separated<'a, T: Item, const N: usize>(
-    tokens: &'a [Place],
+    tokens: &'a [Token],
     items: &mut ArrayVec<T, N>,
-) -> Option<&'a [Place]>
+) -> Option<&'a [Token]>
     ensures sound { IfSome result (λ rest. StandsFirst (Separated T.reads) tokens.now items.new.items rest.now) }
     ensures few { length items.new.items ≤ N }
     ensures complete { (xs : List T) (rest : List Tok) → StandsFirst (Separated T.reads) tokens.now xs rest
@@ -107,12 +106,12 @@ impl Item for Name {
     ghost reads = { IsColumn };
 
     /// A column: a name and INTEGER.
-    fn read(tokens: &[Place]) -> Option<(Name, &[Place])> {
+    fn read(tokens: &[Token]) -> Option<(Name, &[Token])> {
         column(tokens)
     }
 }
 
-fn column(tokens: &[Place]) -> Option<(Name, &[Place])>
+fn column(tokens: &[Token]) -> Option<(Name, &[Token])>
     ensures sound { IfSome result (λ p. StandsFirst IsColumn tokens.now p.0 p.1.now) }
     ensures complete { (x : List ℕ) (rest : List Tok) → StandsFirst IsColumn tokens.now x rest
         → IsSomeAnd result (λ p. (p.0 ≡ x) × (p.1.now ≡ rest)) }
@@ -123,13 +122,13 @@ fn column(tokens: &[Place]) -> Option<(Name, &[Place])>
 }
 
 /// A number that stands first, and what is behind it.
-fn number(tokens: &[Place]) -> Option<(u64, &[Place])>
+fn number(tokens: &[Token]) -> Option<(u64, &[Token])>
     ensures sound { IfSome result (λ r. tokens.now ≡ token.Number r.0 ∷ r.1.now) }
     ensures complete { (n : ℕ) (rest : List Tok) → tokens.now ≡ token.Number n ∷ rest
         → IsSomeAnd result (λ r. (r.0 ≡ n) × (r.1.now ≡ rest)) }
 {
     let (first, rest) = tokens.split_first()?;
-    match first.token() {
+    match first {
         Token::Number(n) => Some((*n, rest)),
         _ => None,
     }
@@ -158,7 +157,7 @@ fn negated(n: u64) -> Option<Cell>
 }
 
 /// NULL, or a number that fits INTEGER.
-fn value(tokens: &[Place]) -> Option<(Cell, &[Place])>
+fn value(tokens: &[Token]) -> Option<(Cell, &[Token])>
     ensures sound { IfSome result (λ p. StandsFirst IsValue tokens.now p.0 p.1.now) }
     ensures complete { (x : Scalar) (rest : List Tok) → StandsFirst IsValue tokens.now x rest
         → IsSomeAnd result (λ p. (p.0 ≡ x) × (p.1.now ≡ rest)) }
@@ -181,13 +180,13 @@ fn value(tokens: &[Place]) -> Option<(Cell, &[Place])>
 impl Item for Cell {
     ghost reads = { IsValue };
 
-    fn read(tokens: &[Place]) -> Option<(Cell, &[Place])> {
+    fn read(tokens: &[Token]) -> Option<(Cell, &[Token])> {
         value(tokens)
     }
 }
 
 /// A row in parentheses.
-fn tuple(tokens: &[Place]) -> Option<(Row, &[Place])>
+fn tuple(tokens: &[Token]) -> Option<(Row, &[Token])>
     ensures sound { IfSome result (λ p. StandsFirst IsTuple tokens.now p.0 p.1.now) }
     ensures complete { (x : List Scalar) (rest : List Tok) → StandsFirst IsTuple tokens.now x rest
         → IsSomeAnd result (λ p. (p.0 ≡ x) × (p.1.now ≡ rest)) }
@@ -202,13 +201,13 @@ fn tuple(tokens: &[Place]) -> Option<(Row, &[Place])>
 impl Item for Row {
     ghost reads = { IsTuple };
 
-    fn read(tokens: &[Place]) -> Option<(Row, &[Place])> {
+    fn read(tokens: &[Token]) -> Option<(Row, &[Token])> {
         tuple(tokens)
     }
 }
 
 /// Whether nothing or a semicolon is left.
-fn is_end(tokens: &[Place]) -> bool
+fn is_end(tokens: &[Token]) -> bool
     ensures { MatchBool result (IsEnd tokens.now) (¬ IsEnd tokens.now) }
 {
     match sign(tokens, Sign::Semicolon) {
@@ -218,7 +217,7 @@ fn is_end(tokens: &[Place]) -> bool
 }
 
 /// The name behind CREATE TABLE, and what is behind the parenthesis.
-fn create_head(tokens: &[Place]) -> Option<(Name, &[Place])>
+fn create_head(tokens: &[Token]) -> Option<(Name, &[Token])>
     ensures sound { IfSome result (λ r. (tokens.now ≡ create_words r.0 ++ r.1.now) × IsFree r.0) }
     ensures complete { (letters : List ℕ) (rest : List Tok) → tokens.now ≡ create_words letters ++ rest → IsFree letters
         → IsSomeAnd result (λ r. (r.0 ≡ letters) × (r.1.now ≡ rest)) }
@@ -229,7 +228,7 @@ fn create_head(tokens: &[Place]) -> Option<(Name, &[Place])>
 }
 
 /// CREATE TABLE, with an optional semicolon, which is put into the room.
-fn create_table(tokens: &[Place], room: &mut StatementRoom) -> Option<()>
+fn create_table(tokens: &[Token], room: &mut StatementRoom) -> Option<()>
     ensures sound { IfSome result (λ _. StandsFor (statement_in room.new) tokens.now) }
     ensures complete { IfNone result ((name : List ℕ) (columns : List (List ℕ))
         → NoCommand (IsCreateTable name columns) tokens.now) }
@@ -246,7 +245,7 @@ fn create_table(tokens: &[Place], room: &mut StatementRoom) -> Option<()>
 }
 
 /// The table behind INSERT INTO, and what is behind VALUES.
-fn insert_head(tokens: &[Place]) -> Option<(Name, &[Place])>
+fn insert_head(tokens: &[Token]) -> Option<(Name, &[Token])>
     ensures sound { IfSome result (λ r. (tokens.now ≡ insert_words r.0 ++ r.1.now) × IsFree r.0) }
     ensures complete { (letters : List ℕ) (rest : List Tok) → tokens.now ≡ insert_words letters ++ rest → IsFree letters
         → IsSomeAnd result (λ r. (r.0 ≡ letters) × (r.1.now ≡ rest)) }
@@ -257,7 +256,7 @@ fn insert_head(tokens: &[Place]) -> Option<(Name, &[Place])>
 }
 
 /// INSERT, with an optional semicolon, which is put into the room.
-fn insert(tokens: &[Place], room: &mut StatementRoom) -> Option<()>
+fn insert(tokens: &[Token], room: &mut StatementRoom) -> Option<()>
     ensures sound { IfSome result (λ _. StandsFor (statement_in room.new) tokens.now) }
     ensures complete { IfNone result ((table : List ℕ) (rows : List (List Scalar))
         → NoCommand (IsInsert table rows) tokens.now) }
@@ -273,7 +272,7 @@ fn insert(tokens: &[Place], room: &mut StatementRoom) -> Option<()>
 }
 
 /// SELECT of all rows, with an optional semicolon, which is put into the room.
-fn select(tokens: &[Place], room: &mut StatementRoom) -> Option<()>
+fn select(tokens: &[Token], room: &mut StatementRoom) -> Option<()>
     ensures sound { IfSome result (λ _. StandsFor (statement_in room.new) tokens.now) }
     ensures complete { IfNone result ((table : List ℕ) → NoCommand (IsSelect table) tokens.now) }
 {
@@ -289,7 +288,7 @@ fn select(tokens: &[Place], room: &mut StatementRoom) -> Option<()>
 }
 
 /// Puts the statement that the tokens stand for into the room; whether they stand for one.
-pub fn parse_into(tokens: &[Place], room: &mut StatementRoom) -> bool
+pub fn parse_into(tokens: &[Token], room: &mut StatementRoom) -> bool
     ensures { MatchBool result (StandsFor (statement_in room.new) tokens.now) ((s : Asked) → ¬ StandsFor s tokens.now) }
 {
     if let Some(()) = create_table(tokens, room) {

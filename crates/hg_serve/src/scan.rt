@@ -1,57 +1,14 @@
 //! Cuts a line into tokens.
 ghost use Rattle.std.specs.Prelude.{◌≡◌, ◌≤◌, ◌+◌, ◌++◌, length, Some, None, true, IfSome, MatchBool, MatchOption};
-ghost use Rattle.arrayvec.specs.ArrayVec.{array_vec_len};
 ghost use Rattle.hg_model.specs.Name.{is_digit, begins_word, is_in_word};
 ghost use Rattle.hg_machine.specs.Tokens.{is_blank, lower, sign_of, goes_on, longer, begun, ended, after, tokens_of};
 
-use arrayvec::ArrayVec;
 use hg_machine::{Part, Sign, Token};
 use hg_model::Name;
-use std::marker::Model;
-
-/// How many bytes a line has at most before its line feed, and so how many tokens.
-pub const LINE_LIMIT: usize = 4096;
+use hg_reply::TokenRoom;
 
 /// The greatest number that fits INTEGER under some sign.
 const GREATEST: u64 = 2_147_483_648;
-
-/// A place for a token, which contracts see as the token.
-#[derive(Drop)]
-pub struct Place {
-    token: Token,
-}
-
-impl Model for Place {
-    ghost use Rattle.hg_machine.specs.declared.tokens.Token.{Token as Tok};
-
-    ghost Value = { Tok };
-
-    ghost view = { λ p. p.token };
-}
-
-impl Place {
-    fn new(token: Token) -> Place
-        ensures { result ≡ token }
-    {
-        Place { token }
-    }
-
-    pub fn token(&self) -> &Token
-        ensures { result.now ≡ self.now }
-    {
-        &self.token
-    }
-}
-
-impl Default for Place {
-    /// What stands in a place that is not used.
-    fn default() -> Place {
-        Place::new(Token::Number(0))
-    }
-}
-
-/// The tokens of a line.
-pub type Tokens = ArrayVec<Place, LINE_LIMIT>;
 
 /// Whether a byte stands between tokens.
 pub fn is_space(b: u8) -> bool
@@ -152,25 +109,25 @@ fn beginning(b: u8) -> Option<Part>
 }
 
 /// Puts the token that ends with what is at hand behind the others.
-fn end(part: Part, tokens: &mut Tokens)
-    requires { array_vec_len tokens.old + length (ended part) ≤ 4096 }
-    ensures { tokens.new.items ≡ tokens.old.items ++ ended part }
+fn end(part: Part, tokens: &mut TokenRoom)
+    requires { length tokens.old + length (ended part) ≤ 4096 }
+    ensures { tokens.new ≡ tokens.old ++ ended part }
 {
     match part {
         Part::Between => {}
-        Part::InWord(letters) => tokens.push(Place::new(Token::Word(letters))),
-        Part::InNumber(value) => tokens.push(Place::new(Token::Number(value))),
-        Part::InSign(sign) => tokens.push(Place::new(Token::Sign(sign))),
+        Part::InWord(letters) => tokens.push(Token::Word(letters)),
+        Part::InNumber(value) => tokens.push(Token::Number(value)),
+        Part::InSign(sign) => tokens.push(Token::Sign(sign)),
     }
 }
 
 /// Goes on by one byte: what is at hand behind it, or nothing where it may not stand there.
-fn next_part(part: Part, b: u8, tokens: &mut Tokens) -> Option<Part>
-    requires { array_vec_len tokens.old + length (ended part) ≤ 4096 }
-    ensures next { MatchOption result (after tokens.old.items part b ≡ None)
-        (λ p. after tokens.old.items part b ≡ Some (tokens.new.items, p)) }
-    ensures few { IfSome result (λ p. array_vec_len tokens.new + length (ended p)
-        ≤ array_vec_len tokens.old + length (ended part) + 1) }
+fn next_part(part: Part, b: u8, tokens: &mut TokenRoom) -> Option<Part>
+    requires { length tokens.old + length (ended part) ≤ 4096 }
+    ensures next { MatchOption result (after tokens.old part b ≡ None)
+        (λ p. after tokens.old part b ≡ Some (tokens.new, p)) }
+    ensures few { IfSome result (λ p. length tokens.new + length (ended p)
+        ≤ length tokens.old + length (ended part) + 1) }
 {
     if is_longer(&part, b) {
         return lengthened(part, b);
@@ -180,9 +137,9 @@ fn next_part(part: Part, b: u8, tokens: &mut Tokens) -> Option<Part>
 }
 
 /// Puts the tokens of a line into `tokens`, and answers whether it is made of tokens.
-pub fn read_tokens(line: &[u8], tokens: &mut Tokens) -> bool
+pub fn read_tokens(line: &[u8], tokens: &mut TokenRoom) -> bool
     requires { length line.now ≤ 4096 }
-    ensures { MatchBool result (tokens_of line.now ≡ Some tokens.new.items) (tokens_of line.now ≡ None) }
+    ensures { MatchBool result (tokens_of line.now ≡ Some tokens.new) (tokens_of line.now ≡ None) }
 {
     tokens.clear();
     let mut part = Part::Between;

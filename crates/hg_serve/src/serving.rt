@@ -14,7 +14,7 @@ use crate::session::Session;
 use crate::statuses::Status;
 use hg_engine::Engine;
 use hg_io::{Failed, PageDevice, Sink, Source};
-use hg_reply::Machine;
+use hg_reply::{Machine, TokenRoom};
 
 /// How many bytes of a script are taken at most.
 const SCRIPT_LIMIT: u64 = 1 << 32;
@@ -38,6 +38,7 @@ fn read_some<S: Source>(source: &mut S, buffer: &mut [u8], room: usize) -> Resul
 /// lines that wait are written before the source is asked for more.
 fn read_and_answer<E: Machine, S: Source, K: Sink>(
     engine: &mut E,
+    tokens: &mut TokenRoom,
     source: &mut S,
     sink: &mut K,
 ) -> Status
@@ -70,10 +71,10 @@ fn read_and_answer<E: Machine, S: Source, K: Sink>(
             Err(Failed) => return Status::SourceFault,
         };
         if count == 0 {
-            return session.end(engine, sink);
+            return session.end(tokens, engine, sink);
         }
         let (bytes, _) = buffer.split_at(count);
-        if let Err(Failed) = session.feed(bytes, engine, sink) {
+        if let Err(Failed) = session.feed(bytes, tokens, engine, sink) {
             return Status::SinkFault;
         }
         taken += count as u64;
@@ -95,58 +96,58 @@ pub fn serve<S: Source, K: Sink, M: PageDevice, T: PageDevice>(
     source: &mut S,
     sink: &mut K,
 ) -> Status
-    requires idle { is_pending engine.old ≡ false }
+    requires idle { is_pending engine.old.database ≡ false }
 
     // There is a state that the engine stood for.
-    ensures stood { (s : State) × IsEngineOf M.PageDevice T.PageDevice engine.old s }
+    ensures stood { (s : State) × IsEngineOf M.PageDevice T.PageDevice engine.old.database s }
 
     // The script was read to its end, and what is written is the text of a run of the machine over all
     // its lines, with an error line exactly where the status is Errors.
-    ensures clean { result ≡ Status.Clean → (first : State) → IsEngineOf M.PageDevice T.PageDevice engine.old first
-        → AnswersAll (Reaches (IsEngineOf M.PageDevice T.PageDevice) engine.new first)
-        (outside (S.left source.old) (S.given source.old) (K.written sink.old) (faults_of M.PageDevice T.PageDevice engine.old))
-        (outside (S.left source.new) (S.given source.new) (K.written sink.new) (faults_of M.PageDevice T.PageDevice engine.new)) false }
-    ensures errors { result ≡ Status.Errors → (first : State) → IsEngineOf M.PageDevice T.PageDevice engine.old first
-        → AnswersAll (Reaches (IsEngineOf M.PageDevice T.PageDevice) engine.new first)
-        (outside (S.left source.old) (S.given source.old) (K.written sink.old) (faults_of M.PageDevice T.PageDevice engine.old))
-        (outside (S.left source.new) (S.given source.new) (K.written sink.new) (faults_of M.PageDevice T.PageDevice engine.new)) true }
+    ensures clean { result ≡ Status.Clean → (first : State) → IsEngineOf M.PageDevice T.PageDevice engine.old.database first
+        → AnswersAll (Reaches (IsEngineOf M.PageDevice T.PageDevice) engine.new.database first)
+        (outside (S.left source.old) (S.given source.old) (K.written sink.old) (faults_of M.PageDevice T.PageDevice engine.old.database))
+        (outside (S.left source.new) (S.given source.new) (K.written sink.new) (faults_of M.PageDevice T.PageDevice engine.new.database)) false }
+    ensures errors { result ≡ Status.Errors → (first : State) → IsEngineOf M.PageDevice T.PageDevice engine.old.database first
+        → AnswersAll (Reaches (IsEngineOf M.PageDevice T.PageDevice) engine.new.database first)
+        (outside (S.left source.old) (S.given source.old) (K.written sink.old) (faults_of M.PageDevice T.PageDevice engine.old.database))
+        (outside (S.left source.new) (S.given source.new) (K.written sink.new) (faults_of M.PageDevice T.PageDevice engine.new.database)) true }
 
     // A fault only where that count rose; after a source fault the lines read whole were answered, and
     // no part of a line was run; after a sink fault a front of such replies was written.
     ensures source_fault { result ≡ Status.SourceFault → Rose (S.faults source.old) (S.faults source.new) }
-    ensures source_fault_answers { result ≡ Status.SourceFault → (first : State) → IsEngineOf M.PageDevice T.PageDevice engine.old first
-        → AnswersWholeLines (Reaches (IsEngineOf M.PageDevice T.PageDevice) engine.new first)
-        (outside (S.left source.old) (S.given source.old) (K.written sink.old) (faults_of M.PageDevice T.PageDevice engine.old))
-        (outside (S.left source.new) (S.given source.new) (K.written sink.new) (faults_of M.PageDevice T.PageDevice engine.new)) }
+    ensures source_fault_answers { result ≡ Status.SourceFault → (first : State) → IsEngineOf M.PageDevice T.PageDevice engine.old.database first
+        → AnswersWholeLines (Reaches (IsEngineOf M.PageDevice T.PageDevice) engine.new.database first)
+        (outside (S.left source.old) (S.given source.old) (K.written sink.old) (faults_of M.PageDevice T.PageDevice engine.old.database))
+        (outside (S.left source.new) (S.given source.new) (K.written sink.new) (faults_of M.PageDevice T.PageDevice engine.new.database)) }
     ensures sink_fault { result ≡ Status.SinkFault → Rose (K.faults sink.old) (K.faults sink.new) }
-    ensures sink_fault_answers { result ≡ Status.SinkFault → (first : State) → IsEngineOf M.PageDevice T.PageDevice engine.old first
-        → AnswersInPart (Reaches (IsEngineOf M.PageDevice T.PageDevice) engine.new first)
-        (outside (S.left source.old) (S.given source.old) (K.written sink.old) (faults_of M.PageDevice T.PageDevice engine.old))
-        (outside (S.left source.new) (S.given source.new) (K.written sink.new) (faults_of M.PageDevice T.PageDevice engine.new)) }
+    ensures sink_fault_answers { result ≡ Status.SinkFault → (first : State) → IsEngineOf M.PageDevice T.PageDevice engine.old.database first
+        → AnswersInPart (Reaches (IsEngineOf M.PageDevice T.PageDevice) engine.new.database first)
+        (outside (S.left source.old) (S.given source.old) (K.written sink.old) (faults_of M.PageDevice T.PageDevice engine.old.database))
+        (outside (S.left source.new) (S.given source.new) (K.written sink.new) (faults_of M.PageDevice T.PageDevice engine.new.database)) }
 
     // The limit of 2^32 bytes, both ways: a sink fault alone comes before it.
-    ensures too_long { result ≡ Status.TooLong → (first : State) → IsEngineOf M.PageDevice T.PageDevice engine.old first
-        → AnswersUpToLimit (Reaches (IsEngineOf M.PageDevice T.PageDevice) engine.new first)
-        (outside (S.left source.old) (S.given source.old) (K.written sink.old) (faults_of M.PageDevice T.PageDevice engine.old))
-        (outside (S.left source.new) (S.given source.new) (K.written sink.new) (faults_of M.PageDevice T.PageDevice engine.new)) }
+    ensures too_long { result ≡ Status.TooLong → (first : State) → IsEngineOf M.PageDevice T.PageDevice engine.old.database first
+        → AnswersUpToLimit (Reaches (IsEngineOf M.PageDevice T.PageDevice) engine.new.database first)
+        (outside (S.left source.old) (S.given source.old) (K.written sink.old) (faults_of M.PageDevice T.PageDevice engine.old.database))
+        (outside (S.left source.new) (S.given source.new) (K.written sink.new) (faults_of M.PageDevice T.PageDevice engine.new.database)) }
     ensures too_long_always { S.given source.new < 2 ^ 64 - 1 → S.given source.new ≡ S.given source.old + 2 ^ 32
         → (result ≡ Status.TooLong) ⊎ (result ≡ Status.SinkFault) }
 
     // After a sink fault no turn is given any more: of what the engine said, at most what waits at most
     // and one reply were not written.
     ensures sink_fault_stops { result ≡ Status.SinkFault
-        → Stops (moment (K.written sink.old) (faults_of M.PageDevice T.PageDevice engine.old) (said_by_engine engine.old))
-        (moment (K.written sink.new) (faults_of M.PageDevice T.PageDevice engine.new) (said_by_engine engine.new)) [] }
+        → Stops (moment (K.written sink.old) (faults_of M.PageDevice T.PageDevice engine.old.database) (said_by_engine engine.old.database))
+        (moment (K.written sink.new) (faults_of M.PageDevice T.PageDevice engine.new.database) (said_by_engine engine.new.database)) [] }
 
     // The words of the command line and the opening are not its own.
     ensures no_usage { result ≢ Status.Usage }
     ensures no_memory { result ≢ Status.NoMemory }
 
-    ensures idle { is_pending engine.new ≡ false }
-    ensures later { NoneFell (faults_of M.PageDevice T.PageDevice engine.old) (faults_of M.PageDevice T.PageDevice engine.new) }
+    ensures idle { is_pending engine.new.database ≡ false }
+    ensures later { NoneFell (faults_of M.PageDevice T.PageDevice engine.old.database) (faults_of M.PageDevice T.PageDevice engine.new.database) }
     ensures source_later { S.faults source.old ≤ S.faults source.new }
     ensures sink_later { K.faults sink.old ≤ K.faults sink.new }
 {
-    engine.stands_for_a_state();
-    read_and_answer(engine, source, sink)
+    engine.database.stands_for_a_state();
+    read_and_answer(&mut engine.database, &mut engine.tokens, source, sink)
 }

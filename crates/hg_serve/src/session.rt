@@ -11,12 +11,11 @@ ghost use Rattle.hg_serve.specs.Session.{BeginsAsked, BreaksOff};
 
 use crate::lines::{Asked, read_line};
 use crate::output::Output;
-use crate::scan::Tokens;
 use crate::statuses::Status;
 use arrayvec::ArrayVec;
 use hg_io::{Failed, Sink};
 use hg_model::Name;
-use hg_reply::{Kind, Machine, Next, Reply, ReplyLine, StatementRoom};
+use hg_reply::{Kind, Machine, Next, Reply, ReplyLine, StatementRoom, TokenRoom};
 
 /// Says one line and nothing else.
 fn say_alone(reply: &mut Reply, line: &ReplyLine) -> Next
@@ -88,13 +87,12 @@ fn give_turns<E: Machine, K: Sink>(
 /// The bytes of a line that are kept: one more than it may have, so that a longer one is known.
 const KEPT_BYTES: usize = 4097;
 
-/// The reply lines that wait, and the front of the line at hand. `reply`, `tokens` and `statement` are
-/// room for the lines of a step, and for the tokens and the statement of a line.
+/// The reply lines that wait, and the front of the line at hand. `reply` and `statement` are
+/// room for the lines of a step, and for the statement of a line.
 #[derive(Drop)]
 pub struct Session {
     output: Output,
     reply: Reply,
-    tokens: Tokens,
     statement: StatementRoom,
     line: ArrayVec<u8, KEPT_BYTES>,
 }
@@ -117,7 +115,6 @@ impl Session {
         Session {
             output: Output::new(),
             reply: Reply::new(),
-            tokens: ArrayVec::new(),
             statement: StatementRoom {
                 kind: Kind::Select,
                 table: Name::default(),
@@ -132,6 +129,7 @@ impl Session {
     fn answer_line<E: Machine, K: Sink>(
         &mut self,
         ended: bool,
+        tokens: &mut TokenRoom,
         engine: &mut E,
         sink: &mut K,
     ) -> Result<(), Failed>
@@ -146,12 +144,7 @@ impl Session {
         ensures later { NoneFell (E.faults engine.old) (E.faults engine.new) }
         ensures cause { HasCause (K.faults sink.old) (K.faults sink.new) result }
     {
-        let asked = read_line(
-            self.line.as_slice(),
-            ended,
-            &mut self.tokens,
-            &mut self.statement,
-        );
+        let asked = read_line(self.line.as_slice(), ended, tokens, &mut self.statement);
         let next = begin(engine, asked, &self.statement, &mut self.reply);
         if let Err(Failed) = self.output.put(&self.reply, sink) {
             engine.drop_command();
@@ -165,6 +158,7 @@ impl Session {
     fn take_byte<E: Machine, K: Sink>(
         &mut self,
         b: u8,
+        tokens: &mut TokenRoom,
         engine: &mut E,
         sink: &mut K,
     ) -> Result<(), Failed>
@@ -185,7 +179,7 @@ impl Session {
             }
             return Ok(());
         }
-        if let Err(Failed) = self.answer_line(true, engine, sink) {
+        if let Err(Failed) = self.answer_line(true, tokens, engine, sink) {
             return Err(Failed);
         }
         self.line.clear();
@@ -196,6 +190,7 @@ impl Session {
     pub fn feed<E: Machine, K: Sink>(
         &mut self,
         bytes: &[u8],
+        tokens: &mut TokenRoom,
         engine: &mut E,
         sink: &mut K,
     ) -> Result<(), Failed>
@@ -211,7 +206,7 @@ impl Session {
         ensures cause { HasCause (K.faults sink.old) (K.faults sink.new) result }
     {
         for b in bytes {
-            if let Err(Failed) = self.take_byte(*b, engine, sink) {
+            if let Err(Failed) = self.take_byte(*b, tokens, engine, sink) {
                 return Err(Failed);
             }
         }
@@ -249,7 +244,12 @@ impl Session {
     }
 
     /// Answers a last line that no line feed ends, and closes the session.
-    pub fn end<E: Machine, K: Sink>(&mut self, engine: &mut E, sink: &mut K) -> Status
+    pub fn end<E: Machine, K: Sink>(
+        &mut self,
+        tokens: &mut TokenRoom,
+        engine: &mut E,
+        sink: &mut K,
+    ) -> Status
         requires idle { E.pending engine.old ≡ false }
         ensures closes { (first : E) (w : Moment) (taken : List ℕ)
             → Serves E.stands first engine.old w (moment (K.written sink.old) (E.faults engine.old) (E.said engine.old)) self.old taken
@@ -262,7 +262,7 @@ impl Session {
         if self.line.is_empty() {
             return self.finish(sink);
         }
-        if let Err(Failed) = self.answer_line(false, engine, sink) {
+        if let Err(Failed) = self.answer_line(false, tokens, engine, sink) {
             return Status::SinkFault;
         }
         self.finish(sink)

@@ -1,9 +1,8 @@
 //! What lines ask for, worked out by hand.
 use crate::lines::{Asked, read_line};
-use crate::scan::Tokens;
 use arrayvec::ArrayVec;
 use hg_model::Name;
-use hg_reply::{Kind, StatementRoom};
+use hg_reply::{Kind, StatementRoom, TokenRoom};
 use std::alloc::{AllocError, Global};
 use std::process::Abort;
 use std::test::Fail;
@@ -11,14 +10,17 @@ use std::test::Fail;
 /// Room to read lines with.
 #[derive(Drop)]
 struct Reader {
-    tokens: Tokens,
+    tokens: TokenRoom,
     statement: StatementRoom,
 }
 
 impl Reader {
-    fn new(_alloc: Global) -> Result<Reader, Fail> {
+    fn new(alloc: Global) -> Result<Reader, Fail> {
+        let Some(tokens) = TokenRoom::new(alloc) else {
+            return Err(Fail::from(AllocError));
+        };
         Ok(Reader {
-            tokens: ArrayVec::new(),
+            tokens,
             statement: StatementRoom {
                 kind: Kind::Select,
                 table: Name::default(),

@@ -1,7 +1,7 @@
 use Rattle.std.proofs.Common.{◌≡◌, ◌∙◌, take, sym, subst}
 use Rattle.hg_base.specs.declared.Table.{Table}
-use Rattle.hg_engine.specs.Putting.{OneMore, PutsSome}
-use Rattle.hg_engine.proofs.PutLaws.{PutSoFar, put-next, puts-failed, take-more, row-long, length-first}
+use Rattle.hg_engine.specs.Putting.{OneMore, PutsSome, FindsLast}
+use Rattle.hg_engine.proofs.PutLaws.{PutSoFar, put-next, puts-failed, finds-last, take-more, row-long, length-first}
 use Rattle.hg_engine.proofs.putting.put_rows.Goals as goal
 
 pub loop-tuple-preserved : goal.loop-tuple-preserved
@@ -37,4 +37,9 @@ returns-in-Err g c = record {
       (puts-failed a b d old mid pages c.args.stamp.0 columns (take c.loop-tuple.tuple-index rows) rows c.in-Err.fault
       (c.loop-tuple.invariant.puts pages columns chain fit) (length-first rows c.loop-tuple.tuple-index c.loop-tuple-test.true)
       failed.err_steady failed.err_taken failed.fault failed.cause);
+  found =
+      let b = g.S.Pages.state c.loop-tuple.space in
+      let failed = c.in-Err.ensures {u = tt} in
+      let mid = g.D.TableCalls.ends c.loop-tuple.table in
+      subst (λ (t : Table). FindsLast t.last c.in-Err.fault) (sym failed.err) (finds-last b mid.last c.in-Err.fault failed.fault failed.page);
 }

@@ -11,4 +11,5 @@ returns-clause-step g c =
       says = says-so a a c.create_table.new.reply step.0 step.1 (step.2 a);
       full = (step.2 a).full;
       moves = record { to = (step.3 a).to };
+      damage = step.4;
     }

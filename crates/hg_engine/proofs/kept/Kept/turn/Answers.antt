@@ -6,12 +6,10 @@ pub returns-clause-turns : goal.returns-clause-turns
 returns-clause-turns g c =
     let s = c.turn.ensures.step in
     record {
-      step = record {
-        lines = s.0;
-        says = record { said = s.1; counted = s.2.devices };
-        full = s.2.full;
-        moves = record { to = λ before st. let there = s.3.to before st in (there.0, there.1, there.2) };
-      };
+      lines = s.0;
+      says = record { said = s.1; counted = s.2.devices };
+      full = s.2.full;
+      moves = record { to = λ before st. let there = s.3.to before st in (there.0, there.1, there.2) };
       damage = s.4;
     }
 

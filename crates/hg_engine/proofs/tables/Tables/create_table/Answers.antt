@@ -14,6 +14,7 @@ returns-then-not-may_create-clause-step c =
       tells-one c.args.reply.now c.say.new.self syntax_error c.requires.empty c.requires.no_error c.say.ensures.text c.say.ensures.errors,
       λ s. counted-plain s s syntax_error (Later_same s.counts) refl refl refl,
       λ s. create-refused s c.args.self.now c.args.name.now c.args.columns.now (record { name = c.args.name.now; columns = record { items = [] }; «data» = no_pages }) cannot,
+      (tt, tt),
     )
 
 pub returns-clause-step : goal.returns-clause-step
@@ -24,4 +25,5 @@ returns-clause-step c =
       tells-one c.args.reply.now c.say-2.new.self created c.requires.empty c.requires.no_error c.say-2.ensures.text c.say-2.ensures.errors,
       λ s. counted-plain s s created (Later_same s.counts) refl refl refl,
       rw (sym c.copy.ensures, sym c.copies.ensures) (λ s. create-made s c.args.self.now _ e c.requires.idle (rw (c.copy.ensures, c.copies.ensures) may) refl c.push_reserved.ensures.items refl c.requires.idle),
+      (tt, tt),
     )

@@ -6,7 +6,7 @@ use Rattle.hg_table.specs.TableLaws.{no_pages}
 use Rattle.hg_engine.specs.Named.{IsNamedAt}
 use Rattle.hg_engine.specs.Stepping.{line_of}
 use Rattle.hg_engine.specs.declared.entries.Entry.{Entry}
-use Rattle.hg_engine.proofs.Inserting.{insert-nowhere, insert-misfit, insert-late, insert-done, insert-faulted, can-put-at, done-same, failed-put, puts-over}
+use Rattle.hg_engine.proofs.Inserting.{insert-nowhere, insert-misfit, insert-late, insert-done, insert-faulted, can-put-at, insert-found, done-same, failed-put, puts-over}
 use Rattle.hg_engine.proofs.Saying.{tells-one, counted-plain, put-counted, put-known}
 use Rattle.hg_engine.proofs.tables.Tables.insert.Goals as goal
 
@@ -19,6 +19,7 @@ returns-in_default-clause-step g c =
       tells-one c.args.reply.now c.say.new.self line c.requires.empty c.requires.no_error c.say.ensures.text c.say.ensures.errors,
       counted-plain a a line (Later_same a.counts) refl refl refl,
       insert-nowhere a c.args.self.now c.args.self.now c.args.name.now c.args.rows.now d refl refl refl (rw c.deref.ensures.value at (c.in_default.ensures {u = tt}).unknown),
+      (tt, tt),
     )
 
 pub returns-then-not-fit-clause-step : goal.returns-then-not-fit-clause-step
@@ -30,6 +31,7 @@ returns-then-not-fit-clause-step g c =
       counted-plain a a syntax_error (Later_same a.counts) refl refl refl,
       insert-misfit a c.args.self.now c.args.self.now c.args.name.now c.args.rows.now d refl refl refl c.in-Some.at
           (rw c.deref.ensures.value at (c.in-Some.ensures {u = tt}).found) (c.if-not-fit.ensures {u = tt}),
+      (tt, tt),
     )
 
 pub returns-in_default-draw-clause-step : goal.returns-in_default-draw-clause-step
@@ -42,6 +44,7 @@ returns-in_default-draw-clause-step g c =
       counted-plain a a stamps_used_up (Later_same a.counts) refl refl refl,
       insert-late a c.args.self.now c.draw.new.self c.args.name.now c.args.rows.now d c.draw.ensures.entries drawn.1 c.draw.ensures.scan c.in-Some.at
           (rw c.deref.ensures.value at (c.in-Some.ensures {u = tt}).found) (c.if-not-fit.ensures {u = tt}) drawn.0,
+      (tt, tt),
     )
 
 pub put-requires-clause-whole : goal.put-requires-clause-whole
@@ -82,6 +85,7 @@ returns-in-Ok-clause-step g c =
       counted-plain a b line same.later refl refl refl,
       insert-done a b old _ c.draw.new.self.stamps [] c.args.name.now c.args.rows.now c.in-Some.at c.in-Some-draw.stamp.0 c.requires.idle still at d (c.if-not-fit.ensures {u = tt})
           drawn.0 drawn.1 puts (subst (λ m. Commits m c.commit.new.self c.in-Some-draw.stamp.0) c.put.ensures.stamps c.commit.ensures),
+      (tt, tt),
     )
 
 pub returns-in-Ok-clause-same : goal.returns-in-Ok-clause-same
@@ -115,6 +119,8 @@ returns-in-Err-clause-step g c =
       put-counted a b (length c.args.rows.now) c.in-Err.fault failed.same.later failed.cause,
       insert-faulted a b old c.put.new.self c.draw.new.self.stamps [] c.args.name.now c.args.rows.now c.in-Some.at c.in-Some-draw.stamp.0 c.requires.idle still at d
           (c.if-not-fit.ensures {u = tt}) drawn.0 drawn.1 c.in-Err.fault puts c.put.ensures.stamps,
+      insert-found a b old c.requires.stands.0 c.put.new.self.entries.items c.in-Some.at c.in-Some-draw.stamp.0 c.args.name.now c.args.rows.now d c.in-Err.fault c.requires.stands.1 at
+          (c.if-not-fit.ensures {u = tt}) puts,
     )
 
 pub returns-in-Err-clause-same : goal.returns-in-Err-clause-same

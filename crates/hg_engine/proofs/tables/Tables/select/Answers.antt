@@ -18,6 +18,7 @@ returns-in_default g c =
         tells-one c.args.reply.now c.say.new.self line c.requires.empty c.requires.no_error c.say.ensures.text c.say.ensures.errors,
         counted-plain a a line (Later_same a.counts) refl refl refl,
         select-nowhere a c.args.self.now c.args.name.now d (rw c.deref.ensures.value at (c.in_default.ensures {u = tt}).unknown),
+        (tt, tt),
       );
     }
 
@@ -32,5 +33,6 @@ returns g c =
         counted-nothing a,
         select-there a c.args.self.now _ c.args.name.now c.in-Some.table (128 * c.taken.result + 1) d c.requires.idle
             (rw c.deref.ensures.value at (c.in-Some.ensures {u = tt}).found) refl refl refl (omega (arith, c.taken.ensures.count)),
+        tt,
       );
     }

@@ -6,7 +6,7 @@ use Rattle.hg_engine.specs.Stepping.{line_of}
 use Rattle.hg_engine.specs.declared.entries.Entry.{Entry}
 use Rattle.hg_engine.specs.declared.next.Found.{Found}
 use Rattle.hg_engine.proofs.Turns.{scan-is, scan-way, scan-more}
-use Rattle.hg_engine.proofs.SelectSteps.{turn-gives, turn-ends, turn-faults, at-some, at-none, given-some, none-told, damage-told}
+use Rattle.hg_engine.proofs.SelectSteps.{turn-gives, turn-ends, turn-faults, at-some, at-none, given-some, turn-found}
 use Rattle.hg_engine.proofs.Saying.{tells-one, tells-two, counted-plain, scan-counted, or-false}
 use Rattle.hg_engine.proofs.tables.Tables.turn.Goals as goal
 
@@ -49,7 +49,7 @@ returns-in-Ok-Some-clause-step g c =
           (λ e he pages done rest p few. at-some c.in-Ok-Some.field-0 c.in-Ok-Some.found _ _ c.in-Ok-Some.field-0-is
           ((c.in-Ok-Some.ensures {u = tt}).finds e pages done rest he p few))
           (λ e pages he chain. given-some c.in-Ok-Some.field-0 c.in-Ok-Some.found _ c.in-Ok-Some.field-0-is (c.in-Ok-Some.ensures {u = tt}).goes_on e pages he chain),
-      none-told a old line (λ pages budget. tt),
+      (tt, tt),
     )
 
 pub returns-in-Ok-None-clause-step : goal.returns-in-Ok-None-clause-step
@@ -63,7 +63,7 @@ returns-in-Ok-None-clause-step g c =
       counted-plain a b at_end c.next.ensures.steady.counts refl refl refl,
       turn-ends a b old _ c.in-Some.scan c.in-Some.is c.next.ensures.entries c.next.ensures.stamps d c.next.ensures.steady c.next.ensures.takes_none refl
           (λ e pages done rest he p few. at-none c.in-Ok-None.field-0 _ _ c.in-Ok-None.field-0-is ((c.in-Ok-None.ensures {u = tt}).finds e pages done rest he p few)),
-      none-told a old at_end (λ pages budget. tt),
+      (tt, tt),
     )
 
 pub returns-in-Err-clause-step : goal.returns-in-Err-clause-step
@@ -79,5 +79,5 @@ returns-in-Err-clause-step g c =
           c.say_fault.ensures.text c.say_fault.ensures.errors c.say-in-Err.ensures.text c.say-in-Err.ensures.errors,
       scan-counted a b f c.next.ensures.steady.counts cause,
       turn-faults a b old _ c.in-Some.scan c.in-Some.is c.next.ensures.entries c.next.ensures.stamps d c.next.ensures.steady c.next.ensures.takes_none f refl cause,
-      damage-told a old c.in-Some.scan f c.in-Some.is (c.in-Err.ensures {u = tt}).check (λ e pages he chain. (c.in-Err.ensures {u = tt}).page e pages he chain),
+      turn-found a b old c.in-Some.scan d c.requires.stands.0 f c.in-Some.is c.requires.stands.1 cause (c.in-Err.ensures {u = tt}).check (λ e pages he chain. (c.in-Err.ensures {u = tt}).page e pages he chain),
     )

@@ -1,8 +1,9 @@
 use Rattle.std.proofs.Common.{subst}
 use Rattle.hg_machine.specs.Run.{Begins}
 use Rattle.hg_reply.specs.Steps.{statement_in}
-use Rattle.hg_engine.specs.Shown.{IsSomeEngine, EngineSteps}
-use Rattle.hg_engine.proofs.engine.EngineMachine.command.Goals as goal
+use Rattle.hg_engine.specs.Shown.{space_of, IsSomeEngine, EngineSteps}
+use Rattle.hg_engine.specs.Stepping.{StatementFinds}
+use Rattle.hg_engine.proofs.database.DatabaseMachine.command.Goals as goal
 
 pub invariant_of-self : goal.invariant_of-self
 invariant_of-self g c =
@@ -13,10 +14,11 @@ invariant_of-self g c =
 pub returns-clause-step : goal.returns-clause-step
 returns-clause-step g c =
     let step =
-    subst (λ k. EngineSteps g.M.PageDevice g.T.PageDevice k c.command.new.self c.command.new.reply (λ before lines after. Begins before (statement_in c.args.statement.now) lines after))
+    subst (λ k. EngineSteps g.M.PageDevice g.T.PageDevice k c.command.new.self c.command.new.reply (λ before lines after. Begins before (statement_in c.args.statement.now) lines after)
+    (λ now. StatementFinds (space_of g.M.PageDevice g.T.PageDevice k) now (statement_in c.args.statement.now)))
     c.self.view_is c.command.ensures.step
     in
-    (step.lines, step.says, step.moves, step.full)
+    (step.lines, step.says, step.moves, step.full, step.damage)
 
 pub returns-clause-stood : goal.returns-clause-stood
 returns-clause-stood g c = subst (IsSomeEngine g.M.PageDevice g.T.PageDevice) c.self.view_is c.self.invariant
