@@ -72,7 +72,7 @@ pub kind-front : (b rest : List ℕ) → 3 ≤ length b → kind (b ++ rest) ≡
 kind-front b rest h = get_or_append_left b rest 0 2 (omega arith)
 
 pub words-fit : (b : List ℕ) → IsBlock b → 8 + 8 * word_count b ≤ length b
-words-fit b i = elim i.kind [
+words-fit b i = elim i.right [
   | inl r ↦ rw (ap (λ k. 8 + 8 * (if k == 2 then 1 + number b / 8 else 1)) r.0) (omega (arith, i.size))
   | inr d ↦ rw (ap (λ k. 8 + 8 * (if k == 2 then 1 + number b / 8 else 1)) d.0) (let z = d.1 in omega (arith, i.size))
 ]

@@ -36,14 +36,17 @@ size_for payload = 16 + 16 * ((payload + 15) / 16)
 abbrev pub kind : List ℕ → ℕ
 kind b = slice_index b 2
 
+abbrev pub IsKind : ℕ → Type 0
+IsKind k = (k ≡ 1) ⊎ (k ≡ 2)
+
 -- A payload of a row has 1 to 3,920 bytes, one of a directory eight for each of its words.
-abbrev pub HasLength : List ℕ → Type 0
-HasLength b = ((kind b ≡ 1) × (0 < number b) × (number b ≤ 3920)) ⊎ ((kind b ≡ 2) × (number b % 8 ≡ 0))
+abbrev pub HasLength : ℕ → ℕ → Type 0
+HasLength k n = ((k ≡ 1) × (0 < n) × (n ≤ 3920)) ⊎ ((k ≡ 2) × (n % 8 ≡ 0))
 
 -- Which bytes are an object.
 pub record IsBlock (b : List ℕ) : Type 0 where
   pub size : length b ≡ size_for (number b)
-  pub kind : HasLength b
+  pub right : HasLength (kind b) (number b)
 
 -- the place of the first free byte, and the frame in which the page last stood
 abbrev pub end : List ℕ → ℕ

@@ -21,6 +21,7 @@ mod object;
 
 pub use map::{Move, MoveMap};
 pub use moving::rewrite;
+pub use object::{Object, next_object, object_at};
 
 /// The bytes of a page.
 const PAGE: usize = 4096;
