@@ -1,0 +1,3 @@
+pub mod Entries
+pub mod Rewriting
+pub mod Finding

@@ -1,0 +1,53 @@
+-- What a reader of a heap's page finds at a place of it.
+use Rattle.std.specs.Prelude.{◌≡◌, ℕ, ◌+◌, ◌-◌, ◌%◌, ◌<◌, ◌≤◌, List, [], ◌∷◌, ◌++◌, length, take, drop, Option, None, Some, IfSome, MatchOption}
+use Rattle.std.specs.List.{concat}
+use Rattle.hg_reloc.specs.Blocks.{number, word, kind, end, IsBlock, HasObjects}
+use Rattle.hg_reloc.specs.declared.object.Object.{Object}
+
+-- These bytes of the page, from the place `at` on, are an object: they have the form of one, stand on the
+-- grid behind the roots, and end before the free bytes.
+pub record StandsAt (page : List ℕ) (at : ℕ) (b : List ℕ) : Type 0 where
+  pub whole : length page ≡ 4096
+  pub behind : 64 ≤ at
+  pub grid : at % 16 ≡ 0
+  pub is : IsBlock b
+  pub here : take (length b) (drop at page) ≡ b
+  pub before : at + length b ≤ end page
+  pub inside : end page ≤ 4096
+
+pub record IsThere (page : List ℕ) (at : ℕ) : Type 0 where
+  pub block : List ℕ
+  pub stands : StandsAt page at block
+
+-- what is told of an object
+pub record Shows (at : ℕ) (b : List ℕ) (o : Object) : Type 0 where
+  pub kind : o.kind ≡ kind b
+  pub payload_at : o.payload_at ≡ at + 16
+  pub len : o.len ≡ number b
+  pub link : o.link.word ≡ word (drop 8 b)
+
+-- an object is there, and this is told of it
+pub record Finds (page : List ℕ) (at : ℕ) (o : Object) : Type 0 where
+  pub block : List ℕ
+  pub stands : StandsAt page at block
+  pub shows : Shows at block o
+
+-- The place behind the object that stands at `at`.
+pub record IsNext (page : List ℕ) (at next : ℕ) : Type 0 where
+  pub block : List ℕ
+  pub stands : StandsAt page at block
+  pub behind : next ≡ at + length block
+  pub there : IsThere page next
+
+-- The page's objects are some, this one, which begins at `at`, and some behind it.
+pub record IsAmong (page : List ℕ) (before : List (List ℕ)) (b : List ℕ) (behind : List (List ℕ)) (at : ℕ) : Type 0 where
+  pub has : HasObjects page (before ++ b ∷ behind)
+  pub begins : at ≡ 64 + length (concat before)
+
+-- a reader that goes from object to object finds each of them
+abbrev pub FindsAmong : List ℕ → ℕ → Option Object → Type 0
+FindsAmong page at o = (before : List (List ℕ)) (b : List ℕ) (behind : List (List ℕ)) → IsAmong page before b behind at → MatchOption o ⊥ (Shows at b)
+
+abbrev pub GoesOn : List ℕ → ℕ → Option ℕ → Type 0
+GoesOn page at o = (before : List (List ℕ)) (b : List ℕ) (behind : List (List ℕ)) → IsAmong page before b behind at
+    → MatchOption o (behind ≡ []) (λ next. (next ≡ at + length b) × (0 < length behind))

@@ -1,0 +1,50 @@
+//! Rewriting the addresses of a page.
+ghost use Rattle.std.specs.Prelude.{◌≡◌, ◌+◌, ◌*◌, ◌≤◌, ◌<◌, ◌++◌, ◌^◌, length, take, drop};
+ghost use Rattle.hg_reloc.specs.Blocks.{IsMade, IsMoved, BeginsObject, MovesObject, moved_words};
+
+use crate::object::{END, KIND, size_for, word_count};
+use crate::{FIRST, MoveMap, ROOT_COUNT, ROOTS};
+use hg_base::{Addr, get_u16, get_u64, put_u64};
+
+/// Moves the words that stand from `at` on.
+fn move_words(page: &mut [u8], at: usize, count: usize, map: &MoveMap)
+    requires small { at + 8 * count < 2 ^ 32 }
+    requires inside { at + 8 * count ≤ length page.old }
+    ensures moved { page.new ≡ take at page.old ++ moved_words map.now count (drop at page.old) }
+    ensures same_length { length page.new ≡ length page.old }
+{
+    for k in 0..count {
+        let place = at + 8 * k;
+        let address = Addr {
+            word: get_u64(page, place),
+        };
+        put_u64(page, place, map.moved(address).word);
+    }
+}
+
+#[tactic(auto, using(crate::proofs::Rewriting::moving_objects))]
+/// Moves the addresses of the object that begins at `at`, and gives how many bytes it has.
+fn move_object(page: &mut [u8], at: usize, map: &MoveMap) -> usize
+    requires whole { length page.old ≡ 4096 }
+    requires begins { BeginsObject page.old at }
+    ensures moved { MovesObject map.now page.old page.new at result }
+    ensures same_length { length page.new ≡ length page.old }
+{
+    let length = get_u16(page, at) as usize;
+    let count = word_count(page[at + KIND], length);
+    move_words(page, at + 8, count, map);
+    size_for(length)
+}
+
+/// Moves each address of a page, the four roots and those of its objects, once; every other byte stays.
+pub fn rewrite(page: &mut [u8], map: &MoveMap)
+    requires { IsMade page.old }
+    ensures { IsMoved map.now page.old page.new }
+{
+    let end = get_u16(page, END) as usize;
+    move_words(page, ROOTS, ROOT_COUNT, map);
+    let mut at = FIRST;
+    while at < end {
+        at += move_object(page, at, map);
+    }
+}
