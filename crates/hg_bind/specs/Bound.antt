@@ -1,0 +1,72 @@
+-- What a bound statement is, and how a cause against a statement is answered. Our own rule.
+use Rattle.std.specs.Prelude.{◌≡◌, ℕ, List, [], ◌∷◌, Option, Some, None, map, slice_get}
+use Rattle.hg_catalog.specs.Contents.{Contents, CatalogTable}
+use Rattle.hg_model.specs.ChangeBinding.{insert_refusal, insert_targets}
+use Rattle.hg_model.specs.Refusal.{Refusal, UnknownTable, UnknownColumn, AmbiguousColumn, TypeMismatch, TooWide, NameTaken, TooMany, NotGrouped, DoesNotFit, NullNotAllowed, DuplicateKey, BadNumber, RowTooLong, StampsUsedUp, KeyTooLong, code_of}
+use Rattle.hg_model.specs.Scope.{columns_of}
+use Rattle.hg_model.specs.Statements.{InsertTree}
+use Rattle.hg_model.specs.Tables.{Table, table_named}
+use Rattle.hg_model.specs.declared.trees.ColRef.{ColRef}
+use Rattle.hg_model.specs.declared.trees.Count.{Count}
+use Rattle.hg_bind.specs.declared.errors.BindError.{BindError}
+
+-- The tables of a catalog by their numbers. Binding looks at no row.
+abbrev pub table_of : CatalogTable → Table
+table_of t = record { name = t.name; columns = t.columns; rows = [] }
+
+abbrev pub tables_of : Contents → List Table
+tables_of c = map table_of c.tables
+
+-- the name that is written behind an error, with its table where it is so written
+abbrev pub plain_name : List ℕ → ColRef
+plain_name name = record { table = None; name = name }
+
+abbrev pub name_written : Refusal → Option ColRef
+name_written (UnknownTable t) = Some (plain_name t)
+name_written (UnknownColumn c) = Some c
+name_written (AmbiguousColumn c) = Some c
+name_written TypeMismatch = None
+name_written TooWide = None
+name_written (NameTaken n) = Some (plain_name n)
+name_written (TooMany k) = None
+name_written NotGrouped = None
+name_written (DoesNotFit c) = Some (plain_name c)
+name_written (NullNotAllowed c) = Some (plain_name c)
+name_written DuplicateKey = None
+name_written BadNumber = None
+name_written RowTooLong = None
+name_written StampsUsedUp = None
+name_written KeyTooLong = None
+
+-- the kind that is written behind an error of too many
+abbrev pub kind_written : Refusal → Option Count
+kind_written (TooMany k) = Some k
+kind_written (UnknownTable t) = None
+kind_written (UnknownColumn c) = None
+kind_written (AmbiguousColumn c) = None
+kind_written TypeMismatch = None
+kind_written TooWide = None
+kind_written (NameTaken n) = None
+kind_written NotGrouped = None
+kind_written (DoesNotFit c) = None
+kind_written (NullNotAllowed c) = None
+kind_written DuplicateKey = None
+kind_written BadNumber = None
+kind_written RowTooLong = None
+kind_written StampsUsedUp = None
+kind_written KeyTooLong = None
+
+abbrev pub error_of : Refusal → BindError
+error_of r = record { code = code_of r; name = name_written r; kind = kind_written r }
+
+-- The number names the table of that name.
+pub record IsTable (tables : List Table) (name : List ℕ) (number : ℕ) : Type 0 where
+  pub table : Table
+  pub there : slice_get tables number ≡ Some table
+  pub named : table_named tables name ≡ Some table
+
+-- An INSERT that nothing stands against, with the number of its table, and of the column of each value.
+pub record IsPlacedInsert (tables : List Table) (i : InsertTree) (table : ℕ) (targets : List ℕ) : Type 0 where
+  pub unrefused : insert_refusal tables i ≡ None
+  pub table_is : IsTable tables i.table table
+  pub targets_are : targets ≡ insert_targets (columns_of (table_named tables i.table)) i.columns
