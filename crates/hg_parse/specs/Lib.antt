@@ -7,3 +7,4 @@ pub mod Readings
 pub mod Laws
 pub mod Keeping
 pub mod Judging
+pub mod AtHand
