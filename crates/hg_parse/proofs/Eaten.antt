@@ -1,5 +1,5 @@
 -- Which word or sign comes next.
-use Rattle.std.proofs.Common.{◌≡◌, ◌<◌, zero, suc, length, arith, inl, inr, ℕ, None, Bool, true, false, List, [], ◌∷◌, refl, sym, ap, ◌∙◌}
+use Rattle.std.proofs.Common.{◌≡◌, ◌<◌, zero, suc, length, Some, arith, inl, inr, ℕ, None, Bool, true, false, List, [], ◌∷◌, refl, sym, ap, ◌∙◌}
 use Rattle.std.specs.Prelude.{IsTrue}
 use Rattle.std.proofs.lemmas.Bool.{cases_Bool, false_from_ne_true, both_ways}
 use Rattle.std.specs.Cmp.Lexicographic.{same_text}
@@ -7,12 +7,13 @@ use Rattle.hg_model.specs.Tables.{same_name}
 use Rattle.hg_model.specs.Tokens.{Token, Word, Digits, Letters, Sign, is_reserved, lower, number_of}
 use Rattle.hg_parse.proofs.Begins.{apart}
 use Rattle.hg_parse.proofs.FoundParts.{same_self}
-use Rattle.hg_parse.specs.AtHand.{stream, from_token, tokens, word_at, number_at}
+use Rattle.hg_parse.specs.AtHand.{stream, from_token, tokens, name_in, digits_in, text_in, past}
 use Rattle.hg_parse.specs.Descent.{name}
 use Rattle.hg_parse.specs.Keeping.{Kept}
 use Rattle.hg_parse.specs.Rules.{number}
 use Rattle.hg_parse.specs.Steps.{got, eats, behind}
 use Rattle.hg_parse.specs.declared.input.Input.{Input}
+use Rattle.hg_scan.specs.Cutting.{undoubled}
 use Rattle.hg_scan.specs.PieceLaws.{name_facts}
 use Rattle.hg_scan.specs.Pieces.{token_by, is_piece}
 use Rattle.hg_scan.specs.Words.{word_of, bytes_of}
@@ -139,7 +140,7 @@ name_first : (x : Kept) (w : List ℕ) (ts : List Token) → is_reserved w ≡ f
 name_first x w ts r = rw r refl
 
 pub finds_name : (i : Input) (x : Kept) → is_piece i.piece.kind i.piece.doubled i.piece.bytes.now ≡ true → i.piece.kind ≡ kind.Name
-    → name x (tokens i) ≡ got x (word_at i.piece) (behind (tokens i))
+    → name x (tokens i) ≡ got x (lower i.piece.bytes.now) (behind (tokens i))
 unfolding tokens
 finds_name i x p e =
     let ts = stream i.scanner.rest.now in
@@ -161,7 +162,7 @@ pub finds_no_name : (i : Input) (x : Kept) → (i.piece.kind ≡ kind.Name → �
 unfolding tokens
 finds_no_name i x h = misses_name x i.piece.kind i.piece.bytes.now (stream i.scanner.rest.now) h
 
-pub finds_number : (i : Input) (x : Kept) → i.piece.kind ≡ kind.Number → number x (tokens i) ≡ got x (number_at i.piece) (behind (tokens i))
+pub finds_number : (i : Input) (x : Kept) → i.piece.kind ≡ kind.Number → number x (tokens i) ≡ got x (number_of i.piece.bytes.now) (behind (tokens i))
 unfolding tokens
 finds_number i x e =
     let ts = stream i.scanner.rest.now in
@@ -203,3 +204,61 @@ eaten t ts b e h = eats_some t ts (sym e ∙ h)
 pub behind_less : (ts : List Token) → 0 < length ts → length (behind ts) < length ts
 behind_less [] h = absurd (omega arith)
 behind_less (t ∷ ts) h = omega arith
+
+no_name_in : (k : Kind) (bs : List ℕ) (ts : List Token) → (k ≡ kind.Name → ⊥) → name_in (from_token (token_by k bs) ts) ≡ None
+no_name_in kind.End bs ts h = refl
+no_name_in kind.Wrong bs ts h = refl
+no_name_in (kind.Keyword k) bs ts h = rw (reserved k) refl
+no_name_in kind.Name bs ts h = absurd (h refl)
+no_name_in kind.Number bs ts h = refl
+no_name_in kind.Text bs ts h = refl
+no_name_in (kind.Sign s) bs ts h = refl
+
+pub name_in_no : (i : Input) → (i.piece.kind ≡ kind.Name → ⊥) → name_in (tokens i) ≡ None
+unfolding tokens
+name_in_no i h = no_name_in i.piece.kind i.piece.bytes.now (stream i.scanner.rest.now) h
+
+no_digits_in : (k : Kind) (bs : List ℕ) (ts : List Token) → (k ≡ kind.Number → ⊥) → digits_in (from_token (token_by k bs) ts) ≡ None
+no_digits_in kind.End bs ts h = refl
+no_digits_in kind.Wrong bs ts h = refl
+no_digits_in (kind.Keyword k) bs ts h = refl
+no_digits_in kind.Name bs ts h = refl
+no_digits_in kind.Number bs ts h = absurd (h refl)
+no_digits_in kind.Text bs ts h = refl
+no_digits_in (kind.Sign s) bs ts h = refl
+
+pub digits_in_no : (i : Input) → (i.piece.kind ≡ kind.Number → ⊥) → digits_in (tokens i) ≡ None
+unfolding tokens
+digits_in_no i h = no_digits_in i.piece.kind i.piece.bytes.now (stream i.scanner.rest.now) h
+
+no_text_in : (k : Kind) (bs : List ℕ) (ts : List Token) → (k ≡ kind.Text → ⊥) → text_in (from_token (token_by k bs) ts) ≡ None
+no_text_in kind.End bs ts h = refl
+no_text_in kind.Wrong bs ts h = refl
+no_text_in (kind.Keyword k) bs ts h = refl
+no_text_in kind.Name bs ts h = refl
+no_text_in kind.Number bs ts h = refl
+no_text_in kind.Text bs ts h = absurd (h refl)
+no_text_in (kind.Sign s) bs ts h = refl
+
+pub text_in_no : (i : Input) → (i.piece.kind ≡ kind.Text → ⊥) → text_in (tokens i) ≡ None
+unfolding tokens
+text_in_no i h = no_text_in i.piece.kind i.piece.bytes.now (stream i.scanner.rest.now) h
+
+name_in_first : (w : List ℕ) (ts : List Token) → is_reserved w ≡ false → name_in (Word w ∷ ts) ≡ Some w
+name_in_first w ts r = rw r refl
+
+pub name_in_yes : (i : Input) → is_piece i.piece.kind i.piece.doubled i.piece.bytes.now ≡ true → i.piece.kind ≡ kind.Name → name_in (tokens i) ≡ Some (lower i.piece.bytes.now)
+unfolding tokens
+name_in_yes i p e =
+    let ts = stream i.scanner.rest.now in
+    let bs = i.piece.bytes.now in
+    let q : is_piece kind.Name i.piece.doubled bs ≡ true = ap (λ k. is_piece k i.piece.doubled bs) (sym e) ∙ p in
+    ap (λ k. name_in (from_token (token_by k bs) ts)) e ∙ name_in_first (lower bs) ts (name_facts i.piece.doubled bs q).1
+
+pub digits_in_yes : (i : Input) → i.piece.kind ≡ kind.Number → digits_in (tokens i) ≡ Some (number_of i.piece.bytes.now)
+unfolding tokens
+digits_in_yes i e = ap (λ k. digits_in (from_token (token_by k i.piece.bytes.now) (stream i.scanner.rest.now))) e
+
+pub text_in_yes : (i : Input) → i.piece.kind ≡ kind.Text → text_in (tokens i) ≡ Some (undoubled i.piece.bytes.now)
+unfolding tokens
+text_in_yes i e = ap (λ k. text_in (from_token (token_by k i.piece.bytes.now) (stream i.scanner.rest.now))) e

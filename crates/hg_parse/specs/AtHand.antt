@@ -1,14 +1,17 @@
 -- What the parser has at hand of a line: the piece that was cut off last, and the bytes behind it.
-use Rattle.std.specs.Prelude.{Result, Ok, Err, ℕ, zero, suc, ◌+◌, ◌≡◌, ◌≤◌, Bool, true, false, ◌||◌, List, [], ◌∷◌, Option, None, Some, length}
+use Rattle.std.specs.Prelude.{Result, Ok, Err, ℕ, zero, suc, ◌+◌, ◌≡◌, ◌≤◌, Bool, true, false, ◌||◌, List, [], ◌∷◌, Option, None, Some, length, if◌then◌else◌}
 use Rattle.std.specs.List.{list_any}
 use Rattle.std.specs.Option.{is_some}
 use Rattle.hg_model.specs.Reading.{is_long_name, is_long_text}
-use Rattle.hg_model.specs.Tokens.{Token, Word, Digits, Letters, Sign, lower, number_of}
+use Rattle.hg_model.specs.Tokens.{Token, Word, Digits, Letters, Sign, lower, number_of, is_reserved}
 use Rattle.hg_parse.specs.Keeping.{Kept}
 use Rattle.hg_parse.specs.Steps.{Answer, got, behind}
 use Rattle.hg_parse.specs.declared.input.Input.{Input}
+use Rattle.hg_parse.specs.declared.places.NameAt.{NameAt}
+use Rattle.hg_parse.specs.declared.places.NumberAt.{NumberAt}
 use Rattle.hg_parse.specs.declared.input.Syntax.{Syntax}
-use Rattle.hg_scan.specs.Cutting.{Front, AtEnd, Wrong, Next, front_of, tokens_of}
+use Rattle.hg_parse.specs.declared.places.TextAt.{TextAt}
+use Rattle.hg_scan.specs.Cutting.{Front, AtEnd, Wrong, Next, front_of, tokens_of, undoubled}
 use Rattle.hg_scan.specs.Shown.{token_of}
 use Rattle.hg_scan.specs.declared.piece.Kind.{Kind}
 use Rattle.hg_scan.specs.declared.piece.Kind.TheVariants as kind
@@ -78,12 +81,29 @@ pub record GoesOn (old new : Input) : Type 0 where
   pub left : left new ≤ left old
 
 -- the word of a name
-abbrev pub word_at : Piece → List ℕ
-word_at p = lower p.bytes.now
+abbrev pub word_at : NameAt → List ℕ
+word_at n = lower n.piece.bytes.now
 
 -- the number that digits name
-abbrev pub number_at : Piece → ℕ
-number_at p = number_of p.bytes.now
+abbrev pub number_at : NumberAt → ℕ
+number_at n = number_of n.piece.bytes.now
+
+-- the letters of a text
+abbrev pub letters_at : TextAt → List ℕ
+letters_at t = undoubled t.piece.bytes.now
+
+-- the name, the number, the text that comes next
+abbrev pub name_in : List Token → Option (List ℕ)
+name_in (Word w ∷ ts) = if is_reserved w then None else Some w
+name_in _ = None
+
+abbrev pub digits_in : List Token → Option ℕ
+digits_in (Digits ds ∷ ts) = Some (number_of ds)
+digits_in _ = None
+
+abbrev pub text_in : List Token → Option (List ℕ)
+text_in (Letters t ∷ ts) = Some t
+text_in _ = None
 
 -- what a rule gives that keeps nothing, where `k` was kept
 abbrev pub told_at : {X Y : Type 0} → Kept → (Y → X) → Result Y Syntax → Input → Answer Kept X

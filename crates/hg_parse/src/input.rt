@@ -7,6 +7,7 @@ ghost use Rattle.hg_parse.specs.AtHand.{from_token};
 ghost use Rattle.hg_scan.specs.Shown.{token_of};
 ghost use Rattle.hg_scan.specs.Words.{word_of, bytes_of};
 
+use crate::places::{NameAt, NumberAt, TextAt};
 use hg_scan::{Keyword, Kind, Piece, Scanner, Sign};
 
 /// The line is not in the grammar.
@@ -55,19 +56,19 @@ fn has_long_text(piece: &Piece<'_>) -> bool
 }
 
 impl<'a> Input<'a> {
-    ghost use Rattle.std.specs.Prelude.{◌≡◌, ◌≤◌, ◌<◌, false, length, IfOk};
+    ghost use Rattle.std.specs.Prelude.{◌≡◌, ◌≤◌, ◌<◌, false, length};
     ghost use Rattle.std.specs.Bool.{OnTrue};
     ghost use Rattle.std.specs.List.{list_any};
+    ghost use Rattle.std.specs.Option.{is_some, option_map};
     ghost use Rattle.hg_model.specs.Reading.{is_long_name, is_long_text};
     ghost use Rattle.hg_model.specs.Tokens.{Word, is_reserved};
     ghost use Rattle.hg_model.specs.Tokens.{Sign as SignToken};
-    ghost use Rattle.hg_parse.specs.AtHand.{tokens, carried, left, stream, is_whole, past, word_at, number_at, told_at, GoesOn};
+    ghost use Rattle.hg_parse.specs.AtHand.{tokens, carried, left, stream, is_whole, past, word_at, number_at, letters_at, name_in, digits_in, text_in, told_at, GoesOn};
     ghost use Rattle.hg_parse.specs.Descent.{name};
     ghost use Rattle.hg_parse.specs.Keeping.{Kept};
     ghost use Rattle.hg_parse.specs.Rules.{number};
     ghost use Rattle.hg_parse.specs.Steps.{eats, behind};
     ghost use Rattle.hg_scan.specs.Words.{word_of, bytes_of};
-    ghost use Rattle.hg_scan.specs.declared.piece.Kind.TheVariants as kind;
 
     /// A line from its first token on.
     pub fn new(line: &'a [u8]) -> Input<'a>
@@ -169,9 +170,8 @@ impl<'a> Input<'a> {
         found
     }
 
-    pub fn name(&mut self) -> Result<Piece<'a>, Syntax>
+    pub fn name(&mut self) -> Result<NameAt<'a>, Syntax>
         ensures reads { (k : Kept) → name k (tokens self.old) ≡ told_at k word_at result self.new }
-        ensures kind { IfOk result (λ p. p.kind ≡ kind.Name) }
         ensures goes_on { GoesOn self.old self.new }
     {
         let piece = self.piece;
@@ -180,12 +180,11 @@ impl<'a> Input<'a> {
             _ => return Err(Syntax),
         }
         self.advance();
-        Ok(piece)
+        Ok(NameAt { piece })
     }
 
-    pub fn number(&mut self) -> Result<Piece<'a>, Syntax>
+    pub fn number(&mut self) -> Result<NumberAt<'a>, Syntax>
         ensures reads { (k : Kept) → number k (tokens self.old) ≡ told_at k number_at result self.new }
-        ensures kind { IfOk result (λ p. p.kind ≡ kind.Number) }
         ensures goes_on { GoesOn self.old self.new }
     {
         let piece = self.piece;
@@ -194,6 +193,51 @@ impl<'a> Input<'a> {
             _ => return Err(Syntax),
         }
         self.advance();
-        Ok(piece)
+        Ok(NumberAt { piece })
+    }
+
+    /// Takes a text where it comes next.
+    pub fn eat_text(&mut self) -> Option<TextAt<'a>>
+        ensures reads { text_in (tokens self.old) ≡ option_map letters_at result }
+        ensures rest { tokens self.new ≡ past (is_some result) (tokens self.old) }
+        ensures goes_on { GoesOn self.old self.new }
+    {
+        let piece = self.piece;
+        match piece.kind {
+            Kind::Text => {}
+            _ => return None,
+        }
+        self.advance();
+        Some(TextAt { piece })
+    }
+
+    /// Takes a number where it comes next.
+    pub fn eat_number(&mut self) -> Option<NumberAt<'a>>
+        ensures reads { digits_in (tokens self.old) ≡ option_map number_at result }
+        ensures rest { tokens self.new ≡ past (is_some result) (tokens self.old) }
+        ensures goes_on { GoesOn self.old self.new }
+    {
+        let piece = self.piece;
+        match piece.kind {
+            Kind::Number => {}
+            _ => return None,
+        }
+        self.advance();
+        Some(NumberAt { piece })
+    }
+
+    /// Takes a name where it comes next.
+    pub fn eat_name(&mut self) -> Option<NameAt<'a>>
+        ensures reads { name_in (tokens self.old) ≡ option_map word_at result }
+        ensures rest { tokens self.new ≡ past (is_some result) (tokens self.old) }
+        ensures goes_on { GoesOn self.old self.new }
+    {
+        let piece = self.piece;
+        match piece.kind {
+            Kind::Name => {}
+            _ => return None,
+        }
+        self.advance();
+        Some(NameAt { piece })
     }
 }

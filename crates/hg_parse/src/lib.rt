@@ -15,6 +15,7 @@
 
 mod input;
 mod laws;
+mod places;
 
 pub use laws::{
     a_line_has_one_reading, a_line_is_read_by_descent, fronts_are_kept, tokens_have_one_tree,
