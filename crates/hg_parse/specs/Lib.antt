@@ -8,3 +8,4 @@ pub mod Laws
 pub mod Keeping
 pub mod Judging
 pub mod AtHand
+pub mod Kept

@@ -14,8 +14,10 @@
 #![tactic(auto)]
 
 mod input;
+mod keep;
 mod laws;
 mod places;
+mod room;
 
 pub use laws::{
     a_line_has_one_reading, a_line_is_read_by_descent, fronts_are_kept, tokens_have_one_tree,
