@@ -1,5 +1,5 @@
 -- Which word or sign comes next.
-use Rattle.std.proofs.Common.{◌≡◌, ◌<◌, zero, suc, length, Some, arith, inl, inr, ℕ, None, Bool, true, false, List, [], ◌∷◌, refl, sym, ap, ◌∙◌}
+use Rattle.std.proofs.Common.{◌≡◌, ◌<◌, ◌≤◌, ◌+◌, zero, suc, length, Some, arith, inl, inr, ℕ, None, Bool, true, false, List, [], ◌∷◌, refl, sym, ap, ◌∙◌}
 use Rattle.std.specs.Prelude.{IsTrue}
 use Rattle.std.proofs.lemmas.Bool.{cases_Bool, false_from_ne_true, both_ways}
 use Rattle.std.specs.Cmp.Lexicographic.{same_text}
@@ -7,7 +7,7 @@ use Rattle.hg_model.specs.Tables.{same_name}
 use Rattle.hg_model.specs.Tokens.{Token, Word, Digits, Letters, Sign, is_reserved, lower, number_of}
 use Rattle.hg_parse.proofs.Begins.{apart}
 use Rattle.hg_parse.proofs.FoundParts.{same_self}
-use Rattle.hg_parse.specs.AtHand.{stream, from_token, tokens, name_in, digits_in, text_in, past}
+use Rattle.hg_parse.specs.AtHand.{stream, from_token, tokens, name_in, digits_in, text_in, left}
 use Rattle.hg_parse.specs.Descent.{name}
 use Rattle.hg_parse.specs.Keeping.{Kept}
 use Rattle.hg_parse.specs.Rules.{number}
@@ -262,3 +262,7 @@ digits_in_yes i e = ap (λ k. digits_in (from_token (token_by k i.piece.bytes.no
 pub text_in_yes : (i : Input) → i.piece.kind ≡ kind.Text → text_in (tokens i) ≡ Some (undoubled i.piece.bytes.now)
 unfolding tokens
 text_in_yes i e = ap (λ k. text_in (from_token (token_by k i.piece.bytes.now) (stream i.scanner.rest.now))) e
+
+pub text_left : (i j : Input) → i.piece.kind ≡ kind.Text → left j ≤ length i.scanner.rest.now → length (undoubled i.piece.bytes.now) + left j ≤ left i
+unfolding left
+text_left i j e h = rw e (omega (arith, h))

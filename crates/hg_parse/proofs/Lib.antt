@@ -17,3 +17,4 @@ pub mod Judged
 pub mod Cutting
 pub mod Eaten
 pub mod Moving
+pub mod Values

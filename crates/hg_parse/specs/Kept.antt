@@ -1,5 +1,5 @@
 -- What a room keeps of a statement, and how it is put there.
-use Rattle.std.specs.Prelude.{ℕ, ◌+◌, ◌++◌, ◌≡◌, ◌≤◌, Bool, List, Option, Some, None, length}
+use Rattle.std.specs.Prelude.{ℕ, ◌+◌, ◌++◌, ◌≡◌, ◌≤◌, Bool, List, Option, Some, None, length, Result, Ok, Err, ⊤}
 use Rattle.std.specs.Option.{option_map}
 use Rattle.hg_model.specs.declared.trees.ColRef.{ColRef}
 use Rattle.hg_model.specs.declared.trees.FromTable.{FromTable}
@@ -13,10 +13,13 @@ use Rattle.hg_model.specs.declared.trees.Output.{Output}
 use Rattle.hg_model.specs.declared.trees.Span.{Span}
 use Rattle.hg_model.specs.declared.trees.SqlType.{SqlType}
 use Rattle.hg_model.specs.declared.trees.SqlType.TheVariants.{Integer, Varchar}
-use Rattle.hg_parse.specs.AtHand.{word_at, number_at}
+use Rattle.hg_parse.specs.AtHand.{word_at, number_at, tokens, left, GoesOn}
 use Rattle.hg_parse.specs.Building.{Builder}
 use Rattle.hg_parse.specs.Keeping.{Kept, Front, keeping, pushed, wide_pushed}
 use Rattle.hg_parse.specs.Rules.{Flags, flags, from_table}
+use Rattle.hg_parse.specs.Steps.{Answer, got}
+use Rattle.hg_parse.specs.declared.input.Input.{Input}
+use Rattle.hg_parse.specs.declared.input.Syntax.{Syntax}
 use Rattle.hg_parse.specs.declared.places.ColumnAt.{ColumnAt}
 use Rattle.hg_parse.specs.declared.places.Constraints.{Constraints}
 use Rattle.hg_parse.specs.declared.places.KeyAt.{KeyAt}
@@ -114,3 +117,23 @@ with_set k x = record k { sets = pushed 16 k.sets x }
 
 abbrev pub with_end : Kept → ℕ → Kept
 with_end k x = record k { ends = pushed 64 k.ends x }
+
+-- what a rule gave: a value, what is kept now, and the tokens that are left
+abbrev pub told : {X Y : Type 0} → (Y → X) → Result Y Syntax → Room → Input → Answer Kept X
+told f (Ok y) r i = got (kept r) (f y) (tokens i)
+told f (Err e) r i = None
+
+abbrev pub unit : {Y : Type 0} → Y → ⊤
+unit y = tt
+
+abbrev pub same : {Y : Type 0} → Y → Y
+same y = y
+
+-- the texts that are not read yet have room
+abbrev pub Fits : Input → Room → Type 0
+Fits i r = used r + left i ≤ 4096
+
+-- Reading goes on, and the texts still have room.
+pub record Moves (i : Input) (r : Room) (j : Input) (s : Room) : Type 0 where
+  pub goes_on : GoesOn i j
+  pub room : used s + left j ≤ used r + left i

@@ -56,7 +56,7 @@ fn has_long_text(piece: &Piece<'_>) -> bool
 }
 
 impl<'a> Input<'a> {
-    ghost use Rattle.std.specs.Prelude.{◌≡◌, ◌≤◌, ◌<◌, false, length};
+    ghost use Rattle.std.specs.Prelude.{◌≡◌, ◌≤◌, ◌<◌, ◌+◌, false, length, IfSome};
     ghost use Rattle.std.specs.Bool.{OnTrue};
     ghost use Rattle.std.specs.List.{list_any};
     ghost use Rattle.std.specs.Option.{is_some, option_map};
@@ -90,6 +90,7 @@ impl<'a> Input<'a> {
     fn advance(&mut self)
         requires { 0 < length (tokens self.old) }
         ensures tokens { tokens self.new ≡ behind (tokens self.old) }
+        ensures left { left self.new ≤ length self.old.scanner.rest.now }
         ensures goes_on { GoesOn self.old self.new }
     {
         self.piece = self.scanner.next_token();
@@ -199,6 +200,7 @@ impl<'a> Input<'a> {
     /// Takes a text where it comes next.
     pub fn eat_text(&mut self) -> Option<TextAt<'a>>
         ensures reads { text_in (tokens self.old) ≡ option_map letters_at result }
+        ensures left { IfSome result (λ t. length (letters_at t) + left self.new ≤ left self.old) }
         ensures rest { tokens self.new ≡ past (is_some result) (tokens self.old) }
         ensures goes_on { GoesOn self.old self.new }
     {

@@ -13,6 +13,7 @@
 //! [`a_line_has_one_reading`], with [`a_line_is_read_by_descent`].
 #![tactic(auto)]
 
+mod constants;
 mod input;
 mod keep;
 mod laws;
