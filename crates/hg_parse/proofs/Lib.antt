@@ -18,3 +18,4 @@ pub mod Cutting
 pub mod Eaten
 pub mod Moving
 pub mod Values
+pub mod Turns

@@ -16,12 +16,15 @@ use Rattle.hg_model.specs.declared.trees.SqlType.TheVariants.{Integer, Varchar}
 use Rattle.hg_parse.specs.AtHand.{word_at, number_at, tokens, left, GoesOn}
 use Rattle.hg_parse.specs.Building.{Builder}
 use Rattle.hg_parse.specs.Keeping.{Kept, Front, keeping, pushed, wide_pushed}
-use Rattle.hg_parse.specs.Rules.{Flags, flags, from_table}
+use Rattle.hg_parse.specs.Rules.{Flags, flags, from_table, Heading, Form, TableForm, IndexForm, InsertForm, UpdateForm, DeleteForm, VacuumForm, SelectForm, OpenForm, StartForm, WorkForm, FetchForm, CloseForm, PoolForm, MplForm, MemoryForm}
 use Rattle.hg_parse.specs.Steps.{Answer, got}
 use Rattle.hg_parse.specs.declared.input.Input.{Input}
 use Rattle.hg_parse.specs.declared.input.Syntax.{Syntax}
 use Rattle.hg_parse.specs.declared.places.ColumnAt.{ColumnAt}
 use Rattle.hg_parse.specs.declared.places.Constraints.{Constraints}
+use Rattle.hg_parse.specs.declared.places.FormAt.{FormAt}
+use Rattle.hg_parse.specs.declared.places.FormAt.TheVariants as form
+use Rattle.hg_parse.specs.declared.places.HeadingAt.{HeadingAt}
 use Rattle.hg_parse.specs.declared.places.KeyAt.{KeyAt}
 use Rattle.hg_parse.specs.declared.places.KeyAt.TheVariants as key
 use Rattle.hg_parse.specs.declared.places.TableAt.{TableAt}
@@ -45,6 +48,26 @@ by_at (key.Column n) = ByColumn n
 
 abbrev pub flags_at : Constraints → Flags
 flags_at c = flags c.not_null c.primary c.unique
+
+abbrev pub heading_at : HeadingAt → Heading
+heading_at h = record { distinct = h.distinct; star = h.star; filter = h.filter; having = h.having }
+
+abbrev pub form_at : FormAt → Form
+form_at (form.Table t) = TableForm (word_at t)
+form_at (form.Index u i t) = IndexForm u (word_at i) (word_at t)
+form_at (form.Insert t) = InsertForm (word_at t)
+form_at (form.Update t f) = UpdateForm (word_at t) f
+form_at (form.Delete t f) = DeleteForm (word_at t) f
+form_at (form.Vacuum t) = VacuumForm (word_at t)
+form_at (form.Select h) = SelectForm (heading_at h)
+form_at (form.Open c h) = OpenForm (word_at c) (heading_at h)
+form_at (form.Start c n) = StartForm (word_at c) (number_at n)
+form_at (form.Work n) = WorkForm (number_at n)
+form_at (form.Fetch c n) = FetchForm (word_at c) (number_at n)
+form_at (form.Close c) = CloseForm (word_at c)
+form_at (form.Pool n) = PoolForm (number_at n)
+form_at (form.Mpl n) = MplForm (number_at n)
+form_at form.Memory = MemoryForm
 
 abbrev pub output_of : ℕ → Option (List ℕ) → Output
 output_of n w = record { node = n; name = w }

@@ -15,8 +15,10 @@
 
 mod constants;
 mod input;
+mod insert;
 mod keep;
 mod laws;
+mod lists;
 mod places;
 mod room;
 

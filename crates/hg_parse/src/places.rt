@@ -60,3 +60,32 @@ pub struct Constraints {
     pub primary: bool,
     pub unique: bool,
 }
+
+/// What a SELECT has beside its lists.
+#[derive(Clone, Copy)]
+pub struct HeadingAt {
+    pub distinct: bool,
+    pub star: bool,
+    pub filter: Option<u8>,
+    pub having: Option<u8>,
+}
+
+/// Which command was read, with what stands in no list.
+#[derive(Clone, Copy)]
+pub enum FormAt<'a> {
+    Table(NameAt<'a>),
+    Index(bool, NameAt<'a>, NameAt<'a>),
+    Insert(NameAt<'a>),
+    Update(NameAt<'a>, Option<u8>),
+    Delete(NameAt<'a>, Option<u8>),
+    Vacuum(NameAt<'a>),
+    Select(HeadingAt),
+    Open(NameAt<'a>, HeadingAt),
+    Start(NameAt<'a>, NumberAt<'a>),
+    Work(NumberAt<'a>),
+    Fetch(NameAt<'a>, NumberAt<'a>),
+    Close(NameAt<'a>),
+    Pool(NumberAt<'a>),
+    Mpl(NumberAt<'a>),
+    Memory,
+}
