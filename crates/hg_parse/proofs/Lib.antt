@@ -14,3 +14,8 @@ pub mod Keeps
 pub mod Images
 pub mod RuleImages
 pub mod Judged
+pub mod Cutting
+pub mod Eaten
+pub mod Moving
+pub mod Values
+pub mod Turns

@@ -7,3 +7,5 @@ pub mod Readings
 pub mod Laws
 pub mod Keeping
 pub mod Judging
+pub mod AtHand
+pub mod Kept

@@ -13,7 +13,14 @@
 //! [`a_line_has_one_reading`], with [`a_line_is_read_by_descent`].
 #![tactic(auto)]
 
+mod constants;
+mod input;
+mod insert;
+mod keep;
 mod laws;
+mod lists;
+mod places;
+mod room;
 
 pub use laws::{
     a_line_has_one_reading, a_line_is_read_by_descent, fronts_are_kept, tokens_have_one_tree,
