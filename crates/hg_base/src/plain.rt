@@ -255,6 +255,9 @@ impl PlainSpace {
 }
 
 impl Pages for PlainSpace {
+    ghost use Rattle.std.specs.Prelude.{◌≡◌, ◌<◌, true, false, IsOk, IfOk, OnOk};
+    ghost use Rattle.hg_base.specs.Space.{key, IsPinned};
+    ghost use Rattle.hg_base.specs.Causes.{HasCause, fault_of};
     ghost use Rattle.hg_base.specs.PlainSpaces.{state_of};
     ghost use Rattle.hg_base.specs.PlainLaws.{after_write_of, writes_of};
 
@@ -266,7 +269,18 @@ impl Pages for PlainSpace {
 
     ghost after_write = { after_write_of };
 
-    fn pin(&mut self, page: PageId) -> Result<PlainPin, PageFault> {
+    fn pin(&mut self, page: PageId) -> Result<PlainPin, PageFault>
+        requires taken { (state_of self.old).taken (key page) ≡ true }
+        requires not_pinned { (state_of self.old).pinned (key page) ≡ false }
+        requires no_heap { (state_of self.old).of_heap (key page) ≡ false }
+        requires few { (state_of self.old).pins < 8 }
+
+        // A page in memory needs no device and no growth.
+        ensures sure { IsOk result }
+        ensures names { IfOk result (λ pin. pin.page ≡ page) }
+        ensures ok { OnOk result (IsPinned (state_of self.old) (state_of self.new) (key page)) }
+        ensures cause { HasCause (state_of self.old) (state_of self.new) (fault_of result) }
+    {
         let slot = &mut self.slots[place_of(page)];
         slot.pinned = true;
         self.pins += 1;

@@ -64,6 +64,9 @@ impl Source for MemSource {
         ensures counted { self.new.calls ≡ raised self.old.calls 1 }
         ensures same_list { self.new.fail ≡ self.old.fail }
         ensures fails_as_listed { IsErr result ↔ Contains self.old.fail.items (raised self.old.calls 1) }
+
+        // It gives as much as there is, or as the buffer takes.
+        ensures most { IfOk result (λ n. n ≡ min (length buf.old) (length (drop self.old.at self.old.bytes.items))) }
     {
         self.calls = self.calls.saturating_add(1);
         if self.fail.contains(&self.calls) {
@@ -139,6 +142,9 @@ impl Sink for MemSink {
         ensures counted { self.new.calls ≡ raised self.old.calls 1 }
         ensures same_list { self.new.fail ≡ self.old.fail }
         ensures fails_as_listed { Contains self.old.fail.items (raised self.old.calls 1) → IsErr result }
+
+        // It takes the whole piece.
+        ensures whole { IfOk result (λ n. n ≡ length bytes.now) }
     {
         self.calls = self.calls.saturating_add(1);
         let listed = self.fail.contains(&self.calls);

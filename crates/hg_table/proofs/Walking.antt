@@ -1,9 +1,10 @@
 -- The way along a line of pages.
-use Rattle.std.specs.Prelude.{◌≡◌, ℕ, ◌+◌, ◌<◌, ◌≤◌, ◌==◌, ◌||◌, Bool, true, false, List, [], ◌∷◌, ◌++◌, length, Option, Some, None}
+use Rattle.std.specs.Prelude.{◌≡◌, ℕ, suc, ◌+◌, ◌<◌, ◌≤◌, ◌==◌, ◌||◌, Bool, true, false, List, [], ◌∷◌, ◌++◌, length, Option, Some, None, option_and_then}
 use Rattle.std.specs.List.{AllByRecursion}
 use Rattle.std.proofs.Common.{sym, ◌∙◌, ap, subst, refl, arith, append_assoc, append-nil, length-append}
 use Rattle.std.proofs.lemmas.Bool.{eq-eqb}
-use Rattle.hg_base.specs.Space.{Space, NoPins, IsFree, key_in, taken_in}
+use Rattle.hg_base.specs.Space.{Space, NoPins, IsFree, key_in, taken_in, taken_below}
+use Rattle.hg_base.specs.declared.File.{File}
 use Rattle.hg_base.specs.LineLaws.{all_has, line-plain, line_free}
 use Rattle.hg_base.specs.Lines.{IsLine, IsPath, has_page}
 use Rattle.hg_base.specs.TakenLaws.{AreDistinctPages-few}
@@ -18,8 +19,8 @@ use Rattle.hg_base.specs.declared.Check.TheVariants as check
 use Rattle.hg_base.specs.declared.pages.PageFault.{PageFault}
 use Rattle.hg_base.specs.declared.pages.PageFault.TheVariants as fault
 use Rattle.hg_slot.specs.Changing.{IsWrong}
-use Rattle.hg_table.specs.Calls.{none_mine, main_page, LookFault, NamesPage, IsPageCheck}
-use Rattle.hg_table.specs.Steps.{Looks, HoldsLine, IsSound, IsFirstFull, IsThis, IsNotFree}
+use Rattle.hg_table.specs.Calls.{none_mine, main_page, LookFault, NamesPage, IsPageCheck, WalksOn, reached}
+use Rattle.hg_table.specs.Steps.{Looks, HoldsLine, IsSound, IsFirstFull, IsThis, IsNotFree, IsNotTooLong}
 use Rattle.hg_table.specs.Listing.{first_slot, slots_none, has_own}
 use Rattle.hg_table.proofs.Seeing.{slot_small}
 
@@ -279,3 +280,39 @@ page_check page check.Link h = h
 page_check page check.Level h = h
 page_check page check.Order h = h
 page_check page check.RowBytes h = h
+
+-- a walk by steps
+pub reached_more : (next : ℕ → Option ℕ) (from : Option ℕ) (n x : ℕ) → Some x ≡ reached next from n → next (key_in Main x) ≡ reached next from (n + 1)
+reached_more next from n x e =
+    let one : suc n ≡ n + 1 = omega arith in
+    ap (option_and_then (λ y. next (key_in Main y))) e ∙ ap (reached next from) one
+
+pub not_too_long : (s : Space) (from : Option ℕ) (f : PageFault) → IsNotTooLong f → WalksOn s from f
+not_too_long s from fault.MainFault h = tt
+not_too_long s from fault.TempFault h = tt
+not_too_long s from fault.MainFull h = tt
+not_too_long s from fault.TempFull h = tt
+not_too_long s from (fault.Damaged page check.Kind) h = tt
+not_too_long s from (fault.Damaged page check.Size) h = tt
+not_too_long s from (fault.Damaged page check.Frame) h = tt
+not_too_long s from (fault.Damaged page check.Link) h = tt
+not_too_long s from (fault.Damaged page check.Level) h = tt
+not_too_long s from (fault.Damaged page check.Order) h = absurd h
+not_too_long s from (fault.Damaged page check.RowBytes) h = tt
+
+-- the same steps after a look at a page
+pub walks_same : (a b : Space) (from to : Option ℕ) (f : PageFault) → b.next ≡ a.next → Looks a b → from ≡ to → WalksOn b from f → WalksOn a to f
+walks_same a b from to fault.MainFault n l e h = tt
+walks_same a b from to fault.TempFault n l e h = tt
+walks_same a b from to fault.MainFull n l e h = tt
+walks_same a b from to fault.TempFull n l e h = tt
+walks_same a b from to (fault.Damaged page check.Kind) n l e h = tt
+walks_same a b from to (fault.Damaged page check.Size) n l e h = tt
+walks_same a b from to (fault.Damaged page check.Frame) n l e h = tt
+walks_same a b from to (fault.Damaged page check.Link) n l e h = tt
+walks_same a b from to (fault.Damaged page check.Level) n l e h = tt
+walks_same a b from to (fault.Damaged page check.Order) n l e h =
+    let count : taken_in a Main ≡ taken_in b Main =
+    ap (λ t. taken_below t Main (a.limit Main)) (sym l.takes_none.taken) ∙ ap (λ (k : File → ℕ). taken_below b.taken Main (k Main)) (sym l.steady.limit) in
+    ap (reached a.next to) count ∙ ap (λ o. reached a.next o (taken_in b Main)) (sym e) ∙ ap (λ f. reached f from (taken_in b Main)) (sym n) ∙ h
+walks_same a b from to (fault.Damaged page check.RowBytes) n l e h = tt

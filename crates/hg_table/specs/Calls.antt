@@ -1,6 +1,6 @@
 -- What the calls on a table ask, what they do, and why they fail. Our own rule.
-use Rattle.std.specs.Prelude.{◌≡◌, ℕ, true, false, List, [], ◌∷◌, ◌++◌, length, Option, Some, None, IsSome, IsTrue, MatchOption, ⊤, ◌⊎◌}
-use Rattle.hg_base.specs.Space.{Space, key_in, at, IsFull, IsFree}
+use Rattle.std.specs.Prelude.{◌≡◌, ℕ, zero, suc, true, false, List, [], ◌∷◌, ◌++◌, length, Option, Some, None, IsSome, IsTrue, MatchOption, option_and_then, ⊤, ◌⊎◌}
+use Rattle.hg_base.specs.Space.{Space, key_in, at, taken_in, IsFull, IsFree}
 use Rattle.hg_base.specs.Lines.{has_page}
 use Rattle.hg_base.specs.Steadiness.{Mine, these_pages}
 use Rattle.hg_base.specs.declared.File.TheVariants as file
@@ -202,11 +202,23 @@ NamesMain fault.MainFull = ⊤
 NamesMain fault.TempFull = ⊤
 NamesMain (fault.Damaged page check) = page.file ≡ file.Main
 
+-- this page of the main file cannot be pinned
+abbrev pub CannotBePinned : Space → ℕ → Type 0
+CannotBePinned s x = IsFree s (main_page x) → ⊥
+
+-- what is answered of a place whose page cannot be pinned
+abbrev pub wrong_place : ℕ → PageFault
+wrong_place x = fault.Damaged (main_page x) RowBytes
+
+-- a row that a refused call was to fill: as it was, or without values
+abbrev pub LeavesRow : List Value → List Value → Type 0
+LeavesRow old new = (new ≡ old) ⊎ (new ≡ [])
+
 -- Which page of a walk cannot be pinned: by RowBytes that of the place where it starts, and by Level
--- one of the chain, where that of the place can be.
+-- one of the chain, where that of the place can be. A page whose own bytes are wrong can be.
 abbrev pub WalkBars : Space → Option Place → PageId → Check → Type 0
-WalkBars s start page Kind = ⊤
-WalkBars s start page Size = ⊤
+WalkBars s start page Kind = IsFree s page
+WalkBars s start page Size = IsFree s page
 WalkBars s start page Frame = ⊤
 WalkBars s start page Link = ⊤
 WalkBars s start page Level = (IsFree s page → ⊥) × MatchOption start ⊤ (λ place. IsFree s (main_page place.page))
@@ -219,6 +231,33 @@ IsBarred s start fault.TempFault = ⊤
 IsBarred s start fault.MainFull = ⊤
 IsBarred s start fault.TempFull = ⊤
 IsBarred s start (fault.Damaged page check) = WalkBars s start page check
+
+-- the page that a walk is at after so many steps
+abbrev pub reached : (ℕ → Option ℕ) → Option ℕ → ℕ → Option ℕ
+reached next from zero = from
+reached next from (suc n) = option_and_then (λ x. next (key_in file.Main x)) (reached next from n)
+
+-- where a walk enters the chain: at its first page, or behind the page of the place where it starts
+abbrev pub walk_start : Space → Table → Option Place → Option ℕ
+walk_start s t None = t.first
+walk_start s t (Some place) = s.next (key_in file.Main place.page)
+
+-- A walk is too long by Order: as many steps as there are pages taken lead to the page that is named.
+abbrev pub IsTooLong : Space → Option ℕ → PageId → Check → Type 0
+IsTooLong s from page Kind = ⊤
+IsTooLong s from page Size = ⊤
+IsTooLong s from page Frame = ⊤
+IsTooLong s from page Link = ⊤
+IsTooLong s from page Level = ⊤
+IsTooLong s from page Order = reached s.next from (taken_in s file.Main) ≡ Some page.no
+IsTooLong s from page RowBytes = ⊤
+
+abbrev pub WalksOn : Space → Option ℕ → PageFault → Type 0
+WalksOn s from fault.MainFault = ⊤
+WalksOn s from fault.TempFault = ⊤
+WalksOn s from fault.MainFull = ⊤
+WalksOn s from fault.TempFull = ⊤
+WalksOn s from (fault.Damaged page check) = IsTooLong s from page check
 
 -- A call that takes no page.
 pub record TakesNone (a b : Space) : Type 0 where

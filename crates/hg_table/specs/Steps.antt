@@ -32,6 +32,23 @@ IsNotFree s fault.MainFull = ⊤
 IsNotFree s fault.TempFull = ⊤
 IsNotFree s (fault.Damaged page check) = IsFree s page → ⊥
 
+-- any check but that of the length of a walk
+abbrev pub IsStepCheck : Check → Type 0
+IsStepCheck check.Kind = ⊤
+IsStepCheck check.Size = ⊤
+IsStepCheck check.Frame = ⊤
+IsStepCheck check.Link = ⊤
+IsStepCheck check.Level = ⊤
+IsStepCheck check.Order = ⊥
+IsStepCheck check.RowBytes = ⊤
+
+abbrev pub IsNotTooLong : PageFault → Type 0
+IsNotTooLong fault.MainFault = ⊤
+IsNotTooLong fault.TempFault = ⊤
+IsNotTooLong fault.MainFull = ⊤
+IsNotTooLong fault.TempFull = ⊤
+IsNotTooLong (fault.Damaged page c) = IsStepCheck c
+
 -- any fault but damage
 abbrev pub IsNoDamage : PageFault → Type 0
 IsNoDamage fault.MainFault = ⊤

@@ -16,7 +16,7 @@ use hg_value::Row;
 /// space: where the pages of the table are known and the walk begins on one of them, neither of the last
 /// two comes. Kind comes only where byte 0 is another one.
 pub trait TableCalls {
-    ghost use Rattle.std.specs.Prelude.{◌≡◌, ◌≢◌, ℕ, ◌+◌, ◌≤◌, ◌⊎◌, true, false, List, length, Some, None, Ok, Err, IfOk, IfErr, OnOk, OnErr, IfSome, IsSome, option_map};
+    ghost use Rattle.std.specs.Prelude.{◌≡◌, ◌≢◌, ℕ, ◌+◌, ◌≤◌, ◌⊎◌, true, false, List, length, Some, None, Ok, Err, IfOk, IfErr, OnOk, OnErr, IfSome, IsSome, IsErrOf, option_map};
     ghost use Rattle.hg_base.specs.Space.{NoPins};
     ghost use Rattle.hg_base.specs.Causes.{HasCause, fault_of};
     ghost use Rattle.hg_base.specs.Steadiness.{Steady};
@@ -27,7 +27,7 @@ pub trait TableCalls {
     ghost use Rattle.hg_table.specs.Chains.{IsChain};
     ghost use Rattle.hg_table.specs.Versions.{Placed, IsTable};
     ghost use Rattle.hg_table.specs.Places.{version_at, behind, first_place, first_seen, Finds, sees, killed};
-    ghost use Rattle.hg_table.specs.Calls.{none_mine, page_mine, insert_mine, HasTable, HasPage, HasVersion, HasStart, HasWay, Inserts, KeepsPages, AddsPage, InsertFault, LookFault, IsPageCheck, IsVersionCheck, IsWalkCheck, NamesPage, NamesGiven, NamesMain, NamesOneOf, IsBarred, HasNoRoom, StandsOn, TakesNone, newborn};
+    ghost use Rattle.hg_table.specs.Calls.{none_mine, page_mine, insert_mine, HasTable, HasPage, HasVersion, HasStart, HasWay, Inserts, KeepsPages, AddsPage, InsertFault, LookFault, IsPageCheck, IsVersionCheck, IsWalkCheck, NamesPage, NamesGiven, NamesMain, NamesOneOf, IsBarred, HasNoRoom, StandsOn, TakesNone, CannotBePinned, LeavesRow, WalksOn, walk_start, wrong_place, newborn};
 
     // where the table's pages stand
     ghost ends: { Self → TableOf };
@@ -89,7 +89,9 @@ pub trait TableCalls {
         ensures takes_none { TakesNone (S.state space.old) (S.state space.new) }
         ensures cause { HasCause (S.state space.old) (S.state space.new) (fault_of result) }
         ensures fault { IfErr result (LookFault IsVersionCheck) }
-        ensures page { IfErr result (NamesPage at.page) };
+        ensures page { IfErr result (NamesPage at.page) }
+        ensures no_page { CannotBePinned (S.state space.old) at.page
+            → IsErrOf result (wrong_place at.page) };
 
     /// Whether a version stands at a place and the snapshot sees it. Its row is put into `out` then;
     /// where it is not seen, `out` stays as it was.
@@ -117,7 +119,10 @@ pub trait TableCalls {
         ensures takes_none { TakesNone (S.state space.old) (S.state space.new) }
         ensures cause { HasCause (S.state space.old) (S.state space.new) (fault_of result) }
         ensures fault { IfErr result (LookFault IsVersionCheck) }
-        ensures page { IfErr result (NamesPage at.page) };
+        ensures page { IfErr result (NamesPage at.page) }
+        ensures no_page { CannotBePinned (S.state space.old) at.page
+            → IsErrOf result (wrong_place at.page) }
+        ensures refused { OnErr result (LeavesRow out.old out.new) };
 
     /// The place of the next version behind `at`, in order of pages and slots; of the first where `at`
     /// is None. None where no version is left. A version need not stand at `at` any more.
@@ -139,7 +144,11 @@ pub trait TableCalls {
         ensures page { IfErr result NamesMain }
         ensures level { IfErr result (IsBarred (S.state space.old) at) }
         ensures known { (pages : List ℕ) → IsChain (S.state space.old) (ends self.now) pages
-            → StandsOn pages at → IfErr result (LookFault IsPageCheck) };
+            → StandsOn pages at → IfErr result (LookFault IsPageCheck) }
+        ensures order { IfErr result (WalksOn (S.state space.old)
+            (walk_start (S.state space.old) (ends self.now) at)) }
+        ensures no_page { IfSome at (λ place. CannotBePinned (S.state space.old) place.page
+            → IsErrOf result (wrong_place place.page)) };
 
     /// The first version behind `at`, in order of pages and slots, that the snapshot sees; the first of
     /// all that it sees where `at` is None. Its row is put into `out`, under the pin under which it was
@@ -170,7 +179,8 @@ pub trait TableCalls {
         ensures cause { HasCause (S.state space.old) (S.state space.new) (fault_of result) }
         ensures fault { IfErr result (LookFault IsVersionCheck) }
         ensures page { (pages : List ℕ) → IsChain (S.state space.old) (ends self.now) pages
-            → IfErr result (NamesOneOf pages) };
+            → IfErr result (NamesOneOf pages) }
+        ensures refused { OnErr result (LeavesRow out.old out.new) };
 
     /// The stamps of the version at a place, seen or not. Its row is put into `out`.
     fn version<S: Pages>(
@@ -196,7 +206,10 @@ pub trait TableCalls {
         ensures takes_none { TakesNone (S.state space.old) (S.state space.new) }
         ensures cause { HasCause (S.state space.old) (S.state space.new) (fault_of result) }
         ensures fault { IfErr result (LookFault IsVersionCheck) }
-        ensures page { IfErr result (NamesPage at.page) };
+        ensures page { IfErr result (NamesPage at.page) }
+        ensures no_page { CannotBePinned (S.state space.old) at.page
+            → IsErrOf result (wrong_place at.page) }
+        ensures refused { OnErr result (LeavesRow out.old out.new) };
 }
 
 impl TableCalls for Table {

@@ -1,11 +1,11 @@
 //! The death of versions.
-ghost use Rattle.std.specs.Prelude.{◌≡◌, ◌≢◌, ℕ, ◌+◌, ◌≤◌, true, List, length, Some, None, IfErr, OnOk, OnErr};
+ghost use Rattle.std.specs.Prelude.{◌≡◌, ◌≢◌, ℕ, ◌+◌, ◌≤◌, true, List, length, Some, None, IfErr, OnOk, OnErr, IsErrOf};
 ghost use Rattle.std.specs.Int.{w32, to_le_bytes};
 ghost use Rattle.hg_base.specs.Space.{NoPins, key_in};
 ghost use Rattle.hg_base.specs.Causes.{HasCause, fault_of};
 ghost use Rattle.hg_slot.specs.Slotted.{IsSlotted, record_at};
 ghost use Rattle.hg_slot.specs.Changing.{Overwrites};
-ghost use Rattle.hg_table.specs.Calls.{LookFault, IsVersionCheck, TakesNone, NamesPage};
+ghost use Rattle.hg_table.specs.Calls.{LookFault, IsVersionCheck, TakesNone, NamesPage, CannotBePinned, wrong_place};
 ghost use Rattle.hg_table.specs.Versions.{RowVersion};
 ghost use Rattle.hg_table.specs.Steps.{Looks, IsSoundAt, IsWrongRecord, ChangesPage, Kills, HoldsStamps};
 
@@ -41,6 +41,8 @@ pub fn kill<S: Pages>(space: &mut S, place: Place, died: Stamp) -> Result<(), Pa
     ensures cause { HasCause (S.state space.old) (S.state space.new) (fault_of result) }
     ensures fault { IfErr result (LookFault IsVersionCheck) }
     ensures page { IfErr result (NamesPage place.page) }
+    ensures no_page { CannotBePinned (S.state space.old) place.page
+        → IsErrOf result (wrong_place place.page) }
 {
     let pin = open(space, place.page, Check::RowBytes)?;
     let answer = kill_in(space.bytes_mut(&pin), place.slot, died);

@@ -1,8 +1,8 @@
 //! Pins of pages whose numbers may be any.
-ghost use Rattle.std.specs.Prelude.{◌≡◌, true, IfOk, IfErr, OnOk, OnErr};
+ghost use Rattle.std.specs.Prelude.{◌≡◌, true, IfOk, IfErr, OnOk, OnErr, IsErrOf};
 ghost use Rattle.hg_base.specs.Space.{NoPins, IsFree, IsPinned, IsSame, key_in};
 ghost use Rattle.hg_base.specs.Causes.{HasCause, fault_of};
-ghost use Rattle.hg_table.specs.Calls.{LookFault, NamesPage, main_page};
+ghost use Rattle.hg_table.specs.Calls.{LookFault, NamesPage, CannotBePinned, main_page};
 ghost use Rattle.hg_table.specs.Steps.{IsThis, IsNotFree};
 
 use hg_base::{Check, File, PageFault, PageId, Pages};
@@ -40,6 +40,9 @@ pub fn open<S: Pages>(space: &mut S, no: u32, check: Check) -> Result<S::Pin, Pa
     ensures fault { IfErr result (LookFault (IsThis check)) }
     ensures page { IfErr result (NamesPage no) }
     ensures barred { IfErr result (IsNotFree (S.state space.old)) }
+    ensures no_page { CannotBePinned (S.state space.old) no
+        → IsErrOf result (PageFault.Damaged (main_page no) check) }
+    ensures links { (S.state space.new).next ≡ (S.state space.old).next }
 {
     let page = main_page(no);
     if !space.can_pin(page) {

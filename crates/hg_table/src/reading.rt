@@ -1,5 +1,5 @@
 //! Reading one version.
-ghost use Rattle.std.specs.Prelude.{◌≡◌, true, false, Option, length, IfOk, IfErr, IfSome, OnOk, option_map};
+ghost use Rattle.std.specs.Prelude.{◌≡◌, true, false, Option, length, IfOk, IfErr, IfSome, OnOk, OnErr, IsErrOf, option_map};
 ghost use Rattle.hg_base.specs.Space.{NoPins, key_in};
 ghost use Rattle.hg_base.specs.Causes.{HasCause, fault_of};
 ghost use Rattle.hg_base.specs.declared.Stamp.{Stamp as StampOf};
@@ -7,7 +7,7 @@ ghost use Rattle.hg_slot.specs.Slotted.{record_at};
 ghost use Rattle.hg_table.specs.Marks.{committed};
 ghost use Rattle.hg_table.specs.Versions.{RowVersion, Shows};
 ghost use Rattle.hg_table.specs.Places.{sees};
-ghost use Rattle.hg_table.specs.Calls.{LookFault, IsVersionCheck, NamesPage};
+ghost use Rattle.hg_table.specs.Calls.{LookFault, IsVersionCheck, NamesPage, LeavesRow, CannotBePinned, wrong_place};
 ghost use Rattle.hg_table.specs.Steps.{Looks, IsSoundAt, IsWrongAt, IsWrongVersion};
 
 use crate::open::{damaged, open};
@@ -36,6 +36,7 @@ pub fn read_in(
     ensures width { result ≡ Ok true → length out.new ≡ columns }
     ensures unseen { result ≡ Ok false → out.new ≡ out.old }
     ensures wrong { IfErr result (IsWrongAt page.now columns slot) }
+    ensures refused { OnErr result (LeavesRow out.old out.new) }
 {
     let record = match slot::peek(page, slot) {
         Ok(Some(record)) => record,
@@ -74,6 +75,7 @@ pub fn version_in(
         })) }
     ensures width { OnOk result (length out.new ≡ columns) }
     ensures wrong { IfErr result (IsWrongVersion page.now columns slot) }
+    ensures refused { OnErr result (LeavesRow out.old out.new) }
 {
     let record = match slot::peek(page, slot) {
         Ok(Some(record)) => record,
@@ -114,6 +116,9 @@ pub fn read<S: Pages>(
     ensures cause { HasCause (S.state space.old) (S.state space.new) (fault_of result) }
     ensures fault { IfErr result (LookFault IsVersionCheck) }
     ensures page { IfErr result (NamesPage at.page) }
+    ensures no_page { CannotBePinned (S.state space.old) at.page
+        → IsErrOf result (wrong_place at.page) }
+    ensures refused { OnErr result (LeavesRow out.old out.new) }
 {
     let pin = open(space, at.page, Check::RowBytes)?;
     let answer = read_in(space.bytes(&pin), at.slot, columns, snapshot, stamps, out);
@@ -147,6 +152,9 @@ pub fn version<S: Pages>(
     ensures cause { HasCause (S.state space.old) (S.state space.new) (fault_of result) }
     ensures fault { IfErr result (LookFault IsVersionCheck) }
     ensures page { IfErr result (NamesPage at.page) }
+    ensures no_page { CannotBePinned (S.state space.old) at.page
+        → IsErrOf result (wrong_place at.page) }
+    ensures refused { OnErr result (LeavesRow out.old out.new) }
 {
     let pin = open(space, at.page, Check::RowBytes)?;
     let answer = version_in(space.bytes(&pin), at.slot, columns, out);

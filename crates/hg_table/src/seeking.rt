@@ -1,5 +1,5 @@
 //! The way along the versions that a snapshot sees.
-ghost use Rattle.std.specs.Prelude.{◌≡◌, ℕ, ◌≤◌, ◌<◌, true, List, Option, Some, None, Ok, length, IfOk, IfErr, IsSome};
+ghost use Rattle.std.specs.Prelude.{◌≡◌, ℕ, ◌≤◌, ◌<◌, true, List, Option, Some, None, Ok, length, IfOk, IfErr, OnErr, IsSome};
 ghost use Rattle.std.specs.List.{AllByRecursion};
 ghost use Rattle.hg_base.specs.Space.{NoPins, key_in};
 ghost use Rattle.hg_base.specs.Lines.{IsLine};
@@ -10,7 +10,7 @@ ghost use Rattle.hg_table.specs.Chains.{IsChain};
 ghost use Rattle.hg_table.specs.Marks.{committed};
 ghost use Rattle.hg_table.specs.Versions.{Placed, RowVersion, Shows, HoldsVersions, IsTable, in_pages};
 ghost use Rattle.hg_table.specs.Places.{behind, first_seen, Finds};
-ghost use Rattle.hg_table.specs.Calls.{HasWay, LookFault, IsVersionCheck, NamesPage, NamesMain, StandsOn, NamesOneOf};
+ghost use Rattle.hg_table.specs.Calls.{HasWay, LookFault, IsVersionCheck, NamesPage, NamesMain, StandsOn, NamesOneOf, LeavesRow};
 ghost use Rattle.hg_table.specs.Steps.{Looks, IsWrongPage, IsNextSeen, HoldsRowsOf};
 
 use crate::open::{damaged, main_page};
@@ -38,6 +38,7 @@ pub fn next_seen(
     ensures unseen { result ≡ Ok None → out.new ≡ out.old }
     ensures width { IfOk result (λ slot. IsSome slot → length out.new ≡ columns) }
     ensures wrong { IfErr result (IsWrongPage page.now columns) }
+    ensures refused { OnErr result (LeavesRow out.old out.new) }
 {
     let count = match slot::check_head(page) {
         Ok(count) => count as u32,
@@ -74,6 +75,7 @@ fn seen_on<S: Pages>(
     ensures width { IfOk result (λ slot. IsSome slot → length out.new ≡ columns) }
     ensures looks { Looks (S.state space.old) (S.state space.new) }
     ensures cause { HasCause (S.state space.old) (S.state space.new) (fault_of result) }
+    ensures refused { OnErr result (LeavesRow out.old out.new) }
     ensures fault { IfErr result (LookFault IsVersionCheck) }
     ensures page { IfErr result (NamesPage no) }
 {
@@ -108,6 +110,7 @@ fn seen_along<S: Pages>(
     ensures width { IfOk result (λ next. IsSome next → length out.new ≡ columns) }
     ensures looks { Looks (S.state space.old) (S.state space.new) }
     ensures cause { HasCause (S.state space.old) (S.state space.new) (fault_of result) }
+    ensures refused { OnErr result (LeavesRow out.old out.new) }
     ensures fault { IfErr result (LookFault IsVersionCheck) }
     ensures page { (pages : List ℕ) → IsLine File.Main (S.state space.old) start pages
         → IfErr result (NamesOneOf pages) }
@@ -147,6 +150,7 @@ pub fn next_visible<S: Pages>(
     ensures width { IfOk result (λ next. IsSome next → length out.new ≡ columns) }
     ensures looks { Looks (S.state space.old) (S.state space.new) }
     ensures cause { HasCause (S.state space.old) (S.state space.new) (fault_of result) }
+    ensures refused { OnErr result (LeavesRow out.old out.new) }
     ensures fault { IfErr result (LookFault IsVersionCheck) }
     ensures page { (pages : List ℕ) → IsChain (S.state space.old) table.now pages
         → IfErr result (NamesOneOf pages) }

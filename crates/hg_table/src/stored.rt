@@ -1,5 +1,5 @@
 //! Versions in bytes.
-ghost use Rattle.std.specs.Prelude.{◌≡◌, ℕ, ◌++◌, ◌^◌, ◌<◌, ◌≤◌, List, Option, length, IfSome, IsNone, option_map};
+ghost use Rattle.std.specs.Prelude.{◌≡◌, ℕ, ◌++◌, ◌^◌, ◌<◌, ◌≤◌, List, Option, length, IfSome, IsNone, [], option_map};
 ghost use Rattle.std.specs.Bool.{OnTrue, OnFalse};
 ghost use Rattle.hg_base.specs.declared.Stamp.{Stamp as StampOf};
 ghost use Rattle.hg_model.specs.Visible.{is_visible};
@@ -68,6 +68,7 @@ pub fn row_of(bytes: &[u8], columns: u8, out: &mut Row) -> bool
         → out.new ≡ v.row) }
     ensures width { OnTrue result (length out.new ≡ columns) }
     ensures none { OnFalse result ((v : RowVersion) → IsStored columns bytes.now v → ⊥) }
+    ensures empty { OnFalse result (out.new ≡ []) }
 {
     let (_, row) = bytes.split_at(STAMPS);
     out.read_into(row, columns)

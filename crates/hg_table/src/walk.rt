@@ -1,5 +1,5 @@
 //! The way along a table's versions.
-ghost use Rattle.std.specs.Prelude.{◌≡◌, ℕ, ◌+◌, ◌<◌, ◌≤◌, true, false, List, length, Some, None, IsOk, IfOk, IfErr, OnOk};
+ghost use Rattle.std.specs.Prelude.{◌≡◌, ℕ, ◌+◌, ◌<◌, ◌≤◌, true, false, List, length, Some, None, IsOk, IfOk, IfErr, IfSome, OnOk, IsErrOf};
 ghost use Rattle.hg_base.specs.Space.{NoPins, key_in, IsFree};
 ghost use Rattle.hg_base.specs.Lines.{IsLine};
 ghost use Rattle.hg_base.specs.Causes.{HasCause, fault_of};
@@ -10,8 +10,8 @@ ghost use Rattle.hg_slot.specs.Changing.{IsWrong};
 ghost use Rattle.hg_table.specs.Chains.{IsChain};
 ghost use Rattle.hg_table.specs.Versions.{Placed, RowVersion, IsTable, in_pages};
 ghost use Rattle.hg_table.specs.Places.{behind, first_place};
-ghost use Rattle.hg_table.specs.Calls.{HasStart, LookFault, IsPageCheck, IsWalkCheck, NamesPage, NamesMain, IsBarred, StandsOn, main_page};
-ghost use Rattle.hg_table.specs.Steps.{Looks, IsSound, IsNextSlot, HoldsLine};
+ghost use Rattle.hg_table.specs.Calls.{HasStart, LookFault, IsPageCheck, IsWalkCheck, NamesPage, NamesMain, IsBarred, StandsOn, CannotBePinned, wrong_place, WalksOn, walk_start, main_page};
+ghost use Rattle.hg_table.specs.Steps.{Looks, IsSound, IsNextSlot, IsNotTooLong, HoldsLine};
 
 use crate::open::{damaged, main_page, open};
 use hg_base::{Check, File, PageFault, Pages, Place, Table};
@@ -61,6 +61,10 @@ fn look<S: Pages>(
     ensures level { entering ≡ true → IfErr result (IsBarred (S.state space.old) None) }
     ensures row { entering ≡ false → (slot : ℕ)
         → IfErr result (IsBarred (S.state space.old) (Some (record { page = no; slot = slot }))) }
+    ensures no_page { entering ≡ false → CannotBePinned (S.state space.old) no
+        → IsErrOf result (wrong_place no) }
+    ensures step { IfErr result IsNotTooLong }
+    ensures links { (S.state space.new).next ≡ (S.state space.old).next }
 {
     let check = if entering {
         Check::Level
@@ -91,6 +95,7 @@ fn first_along<S: Pages>(space: &mut S, start: Option<u32>) -> Result<Option<Pla
     ensures known { (pages : List ℕ) → IsLine File.Main (S.state space.old) start pages
         → IfErr result (LookFault IsPageCheck) }
     ensures level { IfErr result (IsBarred (S.state space.old) None) }
+    ensures order { IfErr result (WalksOn (S.state space.old) start) }
 {
     let mut next = start;
     for _turn in 0..space.taken(File::Main) {
@@ -128,6 +133,10 @@ pub fn after<S: Pages>(
     ensures known { (pages : List ℕ) → IsChain (S.state space.old) table.now pages
         → StandsOn pages at → IfErr result (LookFault IsPageCheck) }
     ensures level { IfErr result (IsBarred (S.state space.old) at) }
+    ensures order { IfErr result (WalksOn (S.state space.old)
+        (walk_start (S.state space.old) table.now at)) }
+    ensures no_page { IfSome at (λ place. CannotBePinned (S.state space.old) place.page
+        → IsErrOf result (wrong_place place.page)) }
 {
     match at {
         None => first_along(space, table.first),

@@ -1,16 +1,17 @@
 use Rattle.std.specs.Prelude.{◌≡◌, ℕ, ◌+◌, true, Option, Some, IfErr}
 use Rattle.std.proofs.Common.{refl, sym, ◌∙◌, ap, subst}
-use Rattle.std.proofs.lemmas.Result.{IfOk-weaker, err_from_is_err_and}
-use Rattle.hg_base.specs.Space.{Space, key}
+use Rattle.std.proofs.lemmas.Result.{IfOk-weaker, IfErr-weaker, err_from_is_err_and}
+use Rattle.hg_base.specs.Space.{Space, key, key_in}
 use Rattle.hg_base.specs.LineLaws.{line_free}
 use Rattle.hg_base.specs.Lines.{has_page, pages_behind}
 use Rattle.hg_base.specs.declared.File.TheVariants.{Main}
 use Rattle.hg_base.specs.declared.Place.{Place}
 use Rattle.hg_base.specs.declared.Table.{Table}
 use Rattle.hg_table.specs.Places.{behind, first_place}
-use Rattle.hg_table.specs.Calls.{HasStart, IsBarred, LookFault, IsPageCheck, StandsOn}
+use Rattle.hg_table.specs.Calls.{HasStart, IsBarred, LookFault, IsPageCheck, StandsOn, WalksOn, walk_start}
 use Rattle.hg_table.specs.Steps.{IsNextSlot}
 use Rattle.hg_table.proofs.Following.{line_rest, stands_behind, table_line, rest_line, place_sound, start_on, first_of_table, next_here, next_behind}
+use Rattle.hg_table.proofs.Walking.{not_too_long, walks_same}
 use Rattle.hg_table.proofs.walk.after.Goals as goal
 
 pub look-requires-clause-sound : goal.look-requires-clause-sound
@@ -100,3 +101,27 @@ returns-in_default-clause-known g c = λ pages chain stands.
     let on : has_page pages x ≡ true = subst (StandsOn pages) c.in-Some.is stands in
     c.first_along-in-Some.ensures.known (pages_behind pages x) (line_rest a b c.args.table.now pages x c.next.result c.in_ok-slot-in-Some.ensures.looks chain on
     (c.next.ensures ∙ ap (λ p. b.next (key p)) c.main_page.ensures))
+
+pub returns-in_err-slot-in-Some-clause-order : goal.returns-in_err-slot-in-Some-clause-order
+returns-in_err-slot-in-Some-clause-order g c =
+    let a : Space = g.S.Pages.state c.args.space.now in
+    let from : Option ℕ = walk_start a c.args.table.now c.args.at in
+    let p = err_from_is_err_and c.from_residual.result c.from_residual.ensures.1 in
+    subst (λ r. IfErr r (WalksOn a from)) (sym p.1)
+    (subst (WalksOn a from) (sym p.2) (not_too_long a from _ c.in_err-slot-in-Some.ensures.step))
+
+pub returns-in-None-clause-order : goal.returns-in-None-clause-order
+returns-in-None-clause-order g c =
+    let a : Space = g.S.Pages.state c.args.space.now in
+    subst (λ o. IfErr c.first_along.result (WalksOn a (walk_start a c.args.table.now o))) (sym c.in-None.is) c.first_along.ensures.order
+
+pub returns-in_default-clause-order : goal.returns-in_default-clause-order
+returns-in_default-clause-order g c =
+    let a : Space = g.S.Pages.state c.args.space.now in
+    let b : Space = g.S.Pages.state c.look.new.space in
+    subst (λ o. IfErr c.first_along-in-Some.result (WalksOn a (walk_start a c.args.table.now o))) (sym c.in-Some.is)
+    (IfErr-weaker c.first_along-in-Some.result _ _
+    (λ f known. walks_same a b c.next.result (a.next (key_in Main c.in-Some.place.page)) f c.in_ok-slot-in-Some.ensures.links c.in_ok-slot-in-Some.ensures.looks
+    (c.next.ensures ∙ ap (λ p. b.next (key p)) c.main_page.ensures ∙ ap (λ (f : ℕ → Option ℕ). f (key_in Main c.in-Some.place.page)) c.in_ok-slot-in-Some.ensures.links)
+    known)
+    c.first_along-in-Some.ensures.order)

@@ -1,12 +1,13 @@
-use Rattle.std.specs.Prelude.{◌≡◌, ℕ, ◌+◌, true, Some, None, IfErr}
+use Rattle.std.specs.Prelude.{◌≡◌, ℕ, ◌+◌, true, Option, Some, None, IfErr}
 use Rattle.std.proofs.lemmas.Result.{err_from_is_err_and}
 use Rattle.std.proofs.Common.{sym, ◌∙◌, ap, subst, refl, arith}
-use Rattle.hg_base.specs.Space.{Space, key}
+use Rattle.hg_base.specs.Space.{Space, key, key_in, taken_in}
 use Rattle.hg_base.specs.Causes.{HasCause}
+use Rattle.hg_base.specs.declared.File.TheVariants.{Main}
 use Rattle.hg_base.specs.SteadyLaws.{HasCause_none, HasCause_behind}
-use Rattle.hg_table.specs.Calls.{LookFault, IsPageCheck, IsWalkCheck}
+use Rattle.hg_table.specs.Calls.{LookFault, IsPageCheck, IsWalkCheck, WalksOn, reached}
 use Rattle.hg_table.specs.Steps.{HoldsLine, IsNextSlot}
-use Rattle.hg_table.proofs.Walking.{IsOnWay, way_starts, way_passed, way_page, looks_same, passed_none, Passed, line_ended, line_found, line_passed, line_short, looks_then, next_page, next_sound, not_told, HasTurns, turns_start, turns_passed, turns_over, way_free}
+use Rattle.hg_table.proofs.Walking.{IsOnWay, way_starts, way_passed, way_page, looks_same, passed_none, Passed, line_ended, line_found, line_passed, line_short, looks_then, next_page, next_sound, not_told, HasTurns, turns_start, turns_passed, turns_over, way_free, reached_more, not_too_long}
 use Rattle.hg_table.proofs.walk.first_along.Goals as goal
 
 pub returns-in_default-clause-first : goal.returns-in_default-clause-first
@@ -45,6 +46,8 @@ loop-turn-init g c =
     record {
       looks = looks_same a c.requires.out;
       cause = HasCause_none a a refl;
+      links = refl;
+      steps = refl;
       passed = λ h. passed_none a c.args.start h;
       way = λ pages line. way_starts a c.args.start pages line;
       turns = λ pages line. turns_start a c.args.start pages line;
@@ -64,6 +67,10 @@ loop-turn-preserved g c =
           (turns_passed a d x c.loop-turn._turn (looks_then a b d c.loop-turn.invariant.looks c.in_ok-slot.ensures.looks)
           (way_page a pages x (subst (IsOnWay a pages) c.in-Some.is (c.loop-turn.invariant.way pages line))).plain
           (subst (λ o. HasTurns a o c.loop-turn._turn) c.in-Some.is (c.loop-turn.invariant.turns pages line)));
+      links = c.in_ok-slot.ensures.links ∙ c.loop-turn.invariant.links;
+      steps = c.next-next.ensures ∙ ap (λ p. d.next (key p)) c.main_page.ensures
+          ∙ ap (λ (f : ℕ → Option ℕ). f (key_in Main x)) (c.in_ok-slot.ensures.links ∙ c.loop-turn.invariant.links)
+          ∙ reached_more a.next c.args.start c.loop-turn._turn x (sym c.in-Some.is ∙ c.loop-turn.invariant.steps);
       way = λ pages line. subst (IsOnWay a pages) (sym (c.next-next.ensures ∙ ap (λ p. d.next (key p)) c.main_page.ensures))
           (way_passed a d pages x (looks_then a b d c.loop-turn.invariant.looks c.in_ok-slot.ensures.looks)
           (subst (IsOnWay a pages) c.in-Some.is (c.loop-turn.invariant.way pages line)));
@@ -110,3 +117,17 @@ returns-in-Some-next-clause-known g c = λ pages line.
     let a : Space = g.S.Pages.state c.args.space.now in
     absurd (turns_over a c.in-Some-next.no c.loop-turn._turn (omega arith)
     (subst (λ o. HasTurns a o c.loop-turn._turn) c.in-Some-next.is (c.loop-turn.invariant.turns pages line)))
+
+pub returns-in-Some-next-clause-order : goal.returns-in-Some-next-clause-order
+returns-in-Some-next-clause-order g c =
+    let a : Space = g.S.Pages.state c.args.space.now in
+    let all : taken_in a Main ≡ c.loop-turn._turn = omega arith in
+    subst (WalksOn a c.args.start) (sym c.damaged.ensures)
+    (ap (reached a.next c.args.start) all ∙ sym c.loop-turn.invariant.steps ∙ c.in-Some-next.is)
+
+pub returns-in_err-slot-clause-order : goal.returns-in_err-slot-clause-order
+returns-in_err-slot-clause-order g c =
+    let a : Space = g.S.Pages.state c.args.space.now in
+    let p = err_from_is_err_and c.from_residual.result c.from_residual.ensures.1 in
+    subst (λ r. IfErr r (WalksOn a c.args.start)) (sym p.1)
+    (subst (WalksOn a c.args.start) (sym p.2) (not_too_long a c.args.start _ c.in_err-slot.ensures.step))
