@@ -1,5 +1,5 @@
 #!/usr/bin/env bash
-# Runs the built program with little stack: bash bench/stack.sh [KILOBYTES]     (768 where none are given)
+# Runs the built program with little stack: bash bench/stack.sh [KILOBYTES]     (256 where none are given)
 #
 # It builds nothing: build the program first, by `rt run` or `rt ci` in crates/heapgov. A script with the
 # longest statement and a SELECT is run; the program must answer as it does with any stack. It ends with
@@ -7,7 +7,7 @@
 set -u
 here=$(cd "$(dirname "$0")/.." && pwd)
 program=$here/crates/heapgov/out/heapgov
-kilobytes=${1:-768}
+kilobytes=${1:-256}
 if [ ! -x "$program" ]; then
     echo "stack: $program is not there; build it first" >&2
     exit 2

@@ -65,6 +65,7 @@ running-forgotten s f y h there busy =
       sound = sound-scored s.clock f 0 s.clock.out h.clock.sound (omega arith) refl;
       count = length-set s.clock.scores f 0 ∙ same.count;
       inside = same.inside;
+      most = same.most;
       out = same.out;
     }
 

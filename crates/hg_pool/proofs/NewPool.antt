@@ -48,14 +48,15 @@ new-room : (c : Config) (s : Store) → IsNewStore c s → (file : File) → lim
 new-room c s h Main = let l = limits c s Main h in let k = h.main_room in omega arith
 new-room c s h Temp = let l = limits c s Temp h in let k = h.temp_room in omega arith
 
-new-running : (c : Config) (s : Store) → c.pool ≤ c.max → IsNewStore c s → IsRunning s.frames s.clock
-new-running c s reserved h = record {
+new-running : (c : Config) (s : Store) → c.pool ≤ c.max → c.max ≤ 65536 → IsNewStore c s → IsRunning s.frames s.clock
+new-running c s reserved most h = record {
   sound = subst (λ (k : ClockState). clock.IsSound k) (sym h.clock) (record {
     same_length = length-replicate {A = Bool} c.max false ∙ sym (length-replicate {A = ℕ} c.max 0);
     small = All-replicate (λ k. k ≤ 7) c.max 0 (omega arith);
   });
   count = ap (λ (k : ClockState). length k.scores) h.clock ∙ length-replicate {A = ℕ} c.max 0 ∙ sym h.max;
   inside = (let a = h.frames.count in let b = h.max in omega (arith, a, b, reserved));
+  most = (let b = h.max in omega (arith, b, most));
   out = λ f. ap (λ (k : ClockState). slice_index_or k.out f false) h.clock ∙ more-none c.max f false ∙ sym (λ i. h.frames.pinned f i || h.frames.lent f i);
 }
 
@@ -82,7 +83,7 @@ new-sound c d s possible h =
         none_lent = h.lent;
         at_least = (let l = possible.at_least in omega arith);
         at_most = (let l = possible.reserved in let k = possible.at_most in omega arith);
-        clock = new-running c s possible.reserved h;
+        clock = new-running c s possible.reserved possible.at_most h;
         maps = record { main = h.main_sound; temp = h.temp_sound };
         placed = λ file n t. absurd (false≢true (sym (new-free c s h (key_in file n)) ∙ t));
         room = new-room c s h;

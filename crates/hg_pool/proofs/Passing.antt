@@ -81,6 +81,7 @@ running-set fr c e f y h there sound count out = record {
   sound = sound;
   count = count ∙ h.count;
   inside = (let a = length-set fr.items f y in let b = h.inside in omega (arith, a, b));
+  most = h.most;
   out = λ k. elim (eqb_tells k f) [
     | inl s ↦ ap (λ (l : List Bool). slice_index_or l k false) out ∙ ap (λ n. slice_index_or (slice_set c.out f (is_busy y)) n false) s.1
         ∙ get_or-set_same c.out f (is_busy y) false (let a = h.sound.same_length in let b = h.count in let d = h.inside in omega (arith, a, b, d, there))
@@ -95,6 +96,7 @@ running-same fr c f y h there same = record {
   sound = h.sound;
   count = h.count;
   inside = (let a = length-set fr.items f y in let b = h.inside in omega (arith, a, b));
+  most = h.most;
   out = λ k. elim (eqb_tells k f) [
     | inl s ↦ ap (λ n. slice_index_or c.out n false) s.1 ∙ h.out f ∙ sym same
         ∙ sym (ap (λ n. is_busy (slice_index_or (slice_set fr.items f y) n no_frame)) s.1 ∙ ap is_busy (get_or-set_same fr.items f y no_frame there))
@@ -107,6 +109,7 @@ running-takes fr c e n f h sound takes = record {
   sound = sound;
   count = takes.frames ∙ h.count;
   inside = h.inside;
+  most = h.most;
   out = λ k. ap (λ (l : List Bool). slice_index_or l k false) takes.out ∙ h.out k;
 }
 

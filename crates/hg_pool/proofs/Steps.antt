@@ -54,7 +54,7 @@ write-failed a f p now n h e dirty kept =
           (same-here a.told q (a.frame (a.place q)) (a.frame (a.place q)) a.page now refl refl refl refl (λ t out. kept t q (not-found a f p q h e out))));
     }
 
-and-false : (t : Bool) → (t && false) ≡ false
+pub and-false : (t : Bool) → (t && false) ≡ false
 and-false true = refl
 and-false false = refl
 
@@ -80,7 +80,7 @@ key-of-other : (q : ℕ) (o : Option PageId) (p : PageId) → o ≡ Some p → q
 key-of-other q o p e n = ap (is_key_of q) e ∙ is_key_of-other q p n
 
 -- what is held by a frame that is as it is on its device
-clean-held : (k : Bool) (x w : List ℕ) → (k ≡ true → x ≡ w) → w ≡ (if k then x else w)
+pub clean-held : (k : Bool) (x w : List ℕ) → (k ≡ true → x ≡ w) → w ≡ (if k then x else w)
 clean-held true x w e = sym (e refl)
 clean-held false x w e = refl
 

@@ -32,4 +32,5 @@ pub record IsRunning (frames : FramesSeen) (clock : ClockState) : Type 0 where
   pub sound : IsSound clock
   pub count : frame_count clock ≡ frames.max
   pub inside : length frames.items ≤ frames.max
+  pub most : frames.max ≤ 65536
   pub out : (f : ℕ) → is_out clock f ≡ is_busy (frame_at frames.items f)

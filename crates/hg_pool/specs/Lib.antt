@@ -13,3 +13,4 @@ pub mod Passing
 pub mod Work
 pub mod Loans
 pub mod FrameLaws
+pub mod Resizing

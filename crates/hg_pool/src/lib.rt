@@ -27,6 +27,7 @@ mod pages;
 mod parts;
 mod places;
 mod pool;
+mod resizing;
 mod store;
 #[cfg(test)]
 mod tests;

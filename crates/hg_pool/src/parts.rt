@@ -12,7 +12,7 @@ pub(crate) struct Parts<M, T> {
 }
 
 impl<M: PageDevice, T: PageDevice> Parts<M, T> {
-    ghost use Rattle.std.specs.Prelude.{◌≡◌, ◌<◌, ◌-◌, ◌^◌, true, false, Ok, None, Some, OnOk, OnErr, IfOk, IfErr, IsOk, length};
+    ghost use Rattle.std.specs.Prelude.{◌≡◌, ◌≢◌, ℕ, ◌<◌, ◌-◌, ◌^◌, true, false, Ok, None, Some, OnOk, OnErr, IfOk, IfErr, IsOk, length};
     ghost use Rattle.hg_base.specs.Space.{key};
     ghost use Rattle.hg_clock.specs.Clock.{Takes};
     ghost use Rattle.hg_pool.specs.Clocking.{is_busy};
@@ -39,6 +39,8 @@ impl<M: PageDevice, T: PageDevice> Parts<M, T> {
         ensures evictions { self.new.store.counts.evictions ≡ self.old.store.counts.evictions }
         ensures page { page_in self.new at ≡ page_in self.old at }
         ensures frames { SameFrames self.old self.new }
+        ensures others { (g : ℕ) → g ≢ at → frame_at self.new.store.frames.items g ≡ frame_at self.old.store.frames.items g }
+        ensures failed { OnErr result (frame_at self.new.store.frames.items at ≡ frame_at self.old.store.frames.items at) }
     {
         self.store.count_write();
         match self.devices.save(page, &mut self.store.frames, at) {
@@ -70,6 +72,8 @@ impl<M: PageDevice, T: PageDevice> Parts<M, T> {
         ensures evictions { self.new.store.counts.evictions ≡ self.old.store.counts.evictions }
         ensures page { page_in self.new at ≡ page_in self.old at }
         ensures frames { SameFrames self.old self.new }
+        ensures others { (g : ℕ) → g ≢ at → frame_at self.new.store.frames.items g ≡ frame_at self.old.store.frames.items g }
+        ensures failed { OnErr result (frame_at self.new.store.frames.items at ≡ frame_at self.old.store.frames.items at) }
         ensures uncounted { self.new.store.counts.writes ≡ self.old.store.counts.writes → self.old.store.counts.writes < 2 ^ 64 - 1
             → self.new.devices ≡ self.old.devices }
     {

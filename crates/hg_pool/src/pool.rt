@@ -6,7 +6,7 @@ use crate::devices::Devices;
 use crate::opening::new_store;
 use crate::parts::Parts;
 use crate::{Config, PoolCounts};
-use hg_base::{FrameNo, PageId, Pages};
+use hg_base::{FrameNo, PageFault, PageId, Pages};
 use hg_clock::Clock;
 use hg_io::PageDevice;
 use std::alloc::Global;
@@ -31,11 +31,13 @@ impl<M: PageDevice, T: PageDevice> Model for Pool<M, T> {
 }
 
 impl<M: PageDevice, T: PageDevice> Pool<M, T> {
-    ghost use Rattle.std.specs.Prelude.{◌≡◌, true, false, IfOk, IfErr, IfSome, IfNone};
-    ghost use Rattle.hg_base.specs.Space.{NoPins};
+    ghost use Rattle.std.specs.Prelude.{◌≡◌, ◌≤◌, true, false, IfOk, IfErr, IfSome, IfNone, IsOk, OnOk, OnErr, MatchResult};
+    ghost use Rattle.hg_base.specs.Space.{NoPins, IsSame};
+    ghost use Rattle.hg_base.specs.Causes.{HasCause, PinFault, fault_of};
+    ghost use Rattle.hg_pool.specs.Resizing.{NoneOut, with_current, Writes, KeepsBelow, StaysWhole};
     ghost use Rattle.hg_pool.specs.Disks.{disk_of};
     ghost use Rattle.hg_pool.specs.Opening.{IsPossible, new_space, no_counts, first_clock};
-    ghost use Rattle.hg_pool.specs.Shown.{state_of, main_device, temp_device, current_of, counts_of_pool, clock_of, max_of, in_frame, frame_of, NoneIn};
+    ghost use Rattle.hg_pool.specs.Shown.{state_of, main_device, temp_device, current_of, counts_of_pool, clock_of, max_of, in_frame, frame_of, NoneIn, SameStockOf, CalledNone};
 
     /// Reserves the frames and the page maps, and opens a pool in which no page is taken. The only error
     /// is want of memory; the devices are then handed back. No device is called.
@@ -93,6 +95,30 @@ impl<M: PageDevice, T: PageDevice> Pool<M, T> {
         ensures { result ≡ counts_of_pool self.now }
     {
         self.parts.store.counts
+    }
+
+    /// Takes frames out of use or into use, so that there are `n` of them. The pages of the frames that go
+    /// are written first, where their bytes are newer than those on their devices; a frame that comes in
+    /// has no page. After a fault as many frames are in use as before, and each page is where it was.
+    pub fn resize(&mut self, n: u32) -> Result<(), PageFault>
+        requires none_out { NoneOut (state_of M.PageDevice T.PageDevice self.old) }
+        requires at_least { 16 ≤ n }
+        requires reserved { n ≤ max_of self.old }
+        ensures ok { OnOk result (state_of M.PageDevice T.PageDevice self.new ≡ with_current (state_of M.PageDevice T.PageDevice self.old) n) }
+        ensures err { OnErr result (IsSame (state_of M.PageDevice T.PageDevice self.old) (state_of M.PageDevice T.PageDevice self.new)) }
+        ensures cause { HasCause (state_of M.PageDevice T.PageDevice self.old) (state_of M.PageDevice T.PageDevice self.new) (fault_of result) }
+        ensures fault { IfErr result PinFault }
+        ensures size { MatchResult result (λ _. current_of self.new ≡ n) (λ _. current_of self.new ≡ current_of self.old) }
+        ensures written { OnOk result (Writes M.PageDevice T.PageDevice self.old self.new n (current_of self.old)) }
+        ensures keeps { OnOk result (KeepsBelow self.old self.new n) }
+        ensures refused { IfErr result (StaysWhole M.PageDevice T.PageDevice self.old self.new n) }
+        ensures larger_ok { current_of self.old ≤ n → IsOk result }
+        ensures larger_calls_none { current_of self.old ≤ n → CalledNone self.old self.new }
+        ensures clock { clock_of self.new ≡ clock_of self.old }
+        ensures stock { SameStockOf self.old self.new }
+        ensures none_evicted { (counts_of_pool self.new).evictions ≡ (counts_of_pool self.old).evictions }
+    {
+        self.parts.resize(n as usize)
     }
 
     /// Gives the devices back as they are, and all memory. No device is called: what was not written is lost.

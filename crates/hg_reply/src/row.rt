@@ -69,7 +69,7 @@ impl Reply {
         ensures errors { self.new.has_error ≡ self.old.has_error }
         ensures short { array_vec_len self.new.text ≤ array_vec_len self.old.text + 3 * length (coding value.now) + 41 }
     {
-        self.put(b",");
+        self.text.push(b',');
         self.put_value(value);
     }
 
@@ -100,6 +100,6 @@ impl Reply {
     {
         self.put(b"row * ");
         self.put_values(row);
-        self.put(b"\n");
+        self.text.push(b'\n');
     }
 }

@@ -1,9 +1,9 @@
 -- a sink that fails within a step
-use Rattle.std.proofs.Common.{◌≡◌, ℕ, ◌+◌, ◌≤◌, List, [], ◌∷◌, ◌++◌, length}
+use Rattle.std.proofs.Common.{ℕ, ◌+◌, ◌≤◌, List, [], ◌∷◌, ◌++◌, length}
 use Rattle.hg_machine.specs.Script.{Line}
 use Rattle.hg_machine.specs.State.{State}
 use Rattle.hg_machine.specs.Reply.{Reply, text_of}
-use Rattle.hg_machine.specs.Run.{Turn, Turns}
+use Rattle.hg_machine.specs.Run.{Turns}
 use Rattle.hg_machine.specs.declared.statements.Statement.{Statement}
 use Rattle.hg_reply.specs.Steps.{Moves, Counted, without_command, DropsCommand}
 use Rattle.hg_serve.specs.declared.lines.Asked.{Asked}

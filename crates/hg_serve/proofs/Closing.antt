@@ -10,7 +10,7 @@ use Rattle.hg_serve.specs.declared.output.Output.{Output}
 use Rattle.hg_serve.specs.declared.session.Session.{Session}
 use Rattle.hg_serve.specs.declared.statuses.Status.{Status}
 use Rattle.hg_serve.specs.declared.statuses.Status.TheVariants as status
-use Rattle.hg_serve.specs.Output.{Moment, moment, Passes, Breaks, Stops}
+use Rattle.hg_serve.specs.Output.{Moment, moment, Passes, Breaks}
 use Rattle.hg_serve.specs.Session.{AnswersLine, Answering, BreaksOff}
 use Rattle.hg_serve.specs.Serving.{Running, Serves, Halts, Answers, AllAnswered, Finishes, Closes}
 use Rattle.hg_serve.proofs.Telling.{passes-then, breaks-then, text_of-append, has_error-append, counted-then, said-then, stops-put, stops-later}

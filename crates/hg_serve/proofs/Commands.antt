@@ -1,5 +1,5 @@
 -- rows and commands, from what stands in front of them and behind them
-use Rattle.std.proofs.Common.{◌≡◌, ◌≤◌, ℕ, List, [], ◌∷◌, ◌++◌, length, refl, sym, ap, ◌∙◌, inl, inr, append_assoc, Option, None, Some, IfSome, IfNone, MatchOption}
+use Rattle.std.proofs.Common.{◌≡◌, ◌≤◌, ℕ, List, [], ◌∷◌, ◌++◌, length, refl, sym, ap, ◌∙◌, inl, inr, append_assoc, Option, None, Some, IfNone}
 use Rattle.hg_model.specs.declared.values.Value.{Value}
 use Rattle.hg_machine.specs.declared.statements.Statement.{Statement}
 use Rattle.hg_machine.specs.declared.statements.Statement.TheVariants as statement

@@ -1,13 +1,12 @@
 -- a machine with a SELECT at work can finish it
-use Rattle.std.proofs.Common.{◌≡◌, ℕ, ◌+◌, List, [], ◌∷◌, ◌++◌, Option, None, Some, refl, sym, ap, ◌∙◌, subst, arith}
+use Rattle.std.proofs.Common.{◌≡◌, List, [], ◌∷◌, Option, None, Some, refl, sym, ap, arith}
 use Rattle.std.specs.List.{flat_map}
-use Rattle.std.specs.List.Sorted.{IsPermutation}
 use Rattle.std.proofs.lemmas.List.Sorted.{IsPermutation-refl}
 use Rattle.hg_base.specs.declared.File.{File}
 use Rattle.hg_base.specs.declared.File.TheVariants.{Main, Temp}
 use Rattle.hg_model.specs.declared.values.Value.{Value}
 use Rattle.hg_machine.specs.Reply.{Reply, row, at_end, fault_lines}
-use Rattle.hg_machine.specs.Run.{Turn, gives_row, ends, GivesTurns, Turns}
+use Rattle.hg_machine.specs.Run.{gives_row, ends, GivesTurns}
 use Rattle.hg_machine.specs.State.{State}
 use Rattle.hg_reply.specs.Steps.{without_command}
 use Rattle.hg_serve.specs.Finishing.{CanFinish}

@@ -14,3 +14,4 @@ pub mod Endings
 pub mod Outcomes
 pub mod Finishing
 pub mod Breaking
+pub mod Feeds

@@ -39,15 +39,6 @@ pub last_part-feed : (taken : List ℕ) (b : ℕ) → b ≡ 10 → last_part [] 
 unfolding last_part
 last_part-feed taken b is = rw (last_part-append, is)
 
--- any other byte goes on with the line
-pub whole_lines-other : (taken : List ℕ) (b : ℕ) → (b == 10) ≡ false → whole_lines (taken ++ b ∷ []) ≡ whole_lines taken
-unfolding ended_lines
-whole_lines-other taken b other = rw (whole_lines-append, other) (append-nil (whole_lines taken))
-
-pub last_part-other : (taken : List ℕ) (b : ℕ) → (b == 10) ≡ false → last_part [] (taken ++ b ∷ []) ≡ last_part [] taken ++ b ∷ []
-unfolding last_part
-last_part-other taken b other = rw (last_part-append, other)
-
 pub runs-push : (old mid new : State) (lines : List Line) (line : Line) (rs ss : List Reply) → RunsLines old lines rs mid
     → RunsLine mid line ss new → RunsLines old (lines ++ line ∷ []) (rs ++ ss) new
 unfolding RunsLines

@@ -1,7 +1,5 @@
--- how a session goes on by a byte
-use Rattle.std.proofs.Common.{◌≡◌, ◌≢◌, ℕ, ◌<◌, ◌≤◌, ◌+◌, true, false, List, [], ◌∷◌, ◌++◌, ◌==◌, ◌||◌, length, take, Option, sym, ap, ◌∙◌, subst, arith, append_assoc, append-nil, length-take, length-append, get_or, drop, drop-cons, add-one}
-use Rattle.std.proofs.lemmas.Bool.Decides.{nat_tests}
-use Rattle.std.proofs.lemmas.List.{take_all, take_more, take-append-le, take-append-drop}
+-- how a session goes on by a line
+use Rattle.std.proofs.Common.{◌≡◌, ℕ, true, false, List, [], ◌∷◌, ◌++◌, ◌||◌, Option, sym, ap, ◌∙◌, subst, arith, append_assoc, append-nil}
 use Rattle.hg_machine.specs.Script.{ended_lines, last_part, whole_lines}
 use Rattle.hg_machine.specs.State.{State}
 use Rattle.hg_machine.specs.Reply.{text_of, has_error}
@@ -13,42 +11,9 @@ use Rattle.hg_serve.specs.Serving.{Serves, Halts}
 use Rattle.hg_serve.proofs.Telling.{passes-then, said-then, text_of-append, has_error-append, text_of-nil, has_error-nil, passes-none, counted-none, counted-then}
 use Rattle.hg_serve.proofs.Breaking.{breaks-lines}
 use Rattle.hg_serve.proofs.Moving.{moves-lines, moves-no_line}
-use Rattle.hg_serve.proofs.Scripts.{whole_lines-append, whole_lines-feed, whole_lines-other, last_part-feed, last_part-other, whole_lines-nil, last_part-nil}
-
-keeps-more : (kept part : List ℕ) (b : ℕ) → kept ≡ take 4097 part → length kept < 4097 → kept ++ b ∷ [] ≡ take 4097 (part ++ b ∷ [])
-keeps-more kept part b is room =
-    let short : length part ≤ 4096 = omega (arith, ap length is, length-take 4097 part) in
-    let whole : kept ≡ part = is ∙ take_all 4097 part (omega arith) in
-    ap (λ l. l ++ b ∷ []) whole ∙ sym (take_all 4097 (part ++ b ∷ []) (omega (arith, length-append part (b ∷ []))))
-
-keeps-same : (kept part : List ℕ) (b : ℕ) → kept ≡ take 4097 part → 4097 ≤ length kept → kept ≡ take 4097 (part ++ b ∷ [])
-keeps-same kept part b is full =
-    let long : 4097 ≤ length part = omega (arith, ap length is, length-take 4097 part) in
-    is ∙ sym (take-append-le 4097 part (b ∷ []) long)
+use Rattle.hg_serve.proofs.Scripts.{whole_lines-append, whole_lines-feed, last_part-feed, whole_lines-nil, last_part-nil}
 
 module _ {E : Type 0} (Stands : E → State → Type 0) where
-  module _ (first now : E) (old new : Moment) (s t : Session) (taken : List ℕ) (b : ℕ) (serves : Serves Stands first now old new s taken)
-      (other : b ≢ 10) (output : t.output ≡ s.output) where
-    no_feed : (b == 10) ≡ false
-    no_feed = grind (arith, nat_tests)
-
-    goes_on : t.line.items ≡ take 4097 (last_part [] taken ++ b ∷ []) → Serves Stands first now old new t (taken ++ b ∷ [])
-    goes_on kept = record {
-      replies = serves.replies;
-      moves = rw (whole_lines-other taken b no_feed) serves.moves;
-      passes = rw output serves.passes;
-      errors = rw output serves.errors;
-      counted = serves.counted;
-      said = serves.said;
-      part = rw (last_part-other taken b no_feed) kept;
-    }
-
-    pub serves-kept : t.line.items ≡ s.line.items ++ b ∷ [] → length s.line.items < 4097 → Serves Stands first now old new t (taken ++ b ∷ [])
-    serves-kept kept room = goes_on (kept ∙ keeps-more s.line.items (last_part [] taken) b serves.part room)
-
-    pub serves-full : t.line.items ≡ s.line.items → 4097 ≤ length s.line.items → Serves Stands first now old new t (taken ++ b ∷ [])
-    serves-full kept full = goes_on (kept ∙ keeps-same s.line.items (last_part [] taken) b serves.part full)
-
   module _ (first now after : E) (old new later : Moment) (s t : Session) (taken : List ℕ) (b : ℕ)
       (serves : Serves Stands first now old new s taken) (feed : b ≡ 10) where
     pub serves-line : AnswersLine Stands now after new later s.output t.output (record { bytes = last_part [] taken; ended = true })
@@ -114,19 +79,6 @@ module _ {E : Type 0} (Stands : E → State → Type 0) where
         ∙ append_assoc h.front h.later (ended_lines (last_part [] taken) more);
     breaks = h.breaks;
   }
-
-pub parts-at : (taken bytes : List ℕ) (i : ℕ) → i < length bytes
-    → ((taken ++ take i bytes) ++ get_or bytes i 0 ∷ []) ++ drop (i + 1) bytes ≡ taken ++ bytes
-parts-at taken bytes i inside =
-    let tail : drop i bytes ≡ get_or bytes i 0 ∷ drop (i + 1) bytes = drop-cons bytes i 0 inside ∙ rw add-one in
-    append_assoc (taken ++ take i bytes) (get_or bytes i 0 ∷ []) (drop (i + 1) bytes)
-    ∙ append_assoc taken (take i bytes) (get_or bytes i 0 ∷ drop (i + 1) bytes)
-    ∙ ap (λ l. taken ++ (take i bytes ++ l)) (sym tail) ∙ ap (λ l. taken ++ l) (take-append-drop i bytes)
-
-pub parts-more : (taken bytes : List ℕ) (i : ℕ) → i < length bytes
-    → (taken ++ take i bytes) ++ get_or bytes i 0 ∷ [] ≡ taken ++ take (i + 1) bytes
-parts-more taken bytes i inside =
-    append_assoc taken (take i bytes) (get_or bytes i 0 ∷ []) ∙ ap (λ l. taken ++ l) (sym (take_more bytes i 0 inside))
 
 module _ {E : Type 0} (Stands : E → State → Type 0) (first now : E) (old new : Moment) where
   pub serves-as : (s : Session) (taken taken' : List ℕ) → taken ≡ taken' → Serves Stands first now old new s taken

@@ -1,6 +1,6 @@
 -- A machine with a SELECT at work can always finish it. After a sink fault the turns that are left are not
 -- given; this law says that they could be.
-use Rattle.std.specs.Prelude.{◌≡◌, ℕ, List}
+use Rattle.std.specs.Prelude.{◌≡◌, List}
 use Rattle.hg_base.specs.declared.File.TheVariants.{Main, Temp}
 use Rattle.hg_machine.specs.Reply.{Reply, fault_lines}
 use Rattle.hg_machine.specs.Run.{Turns}

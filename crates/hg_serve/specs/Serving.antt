@@ -1,5 +1,6 @@
 -- Where a session stands, over the bytes of the script that it took and any engine.
-use Rattle.std.specs.Prelude.{◌≡◌, ◌≤◌, ◌+◌, ℕ, Bool, true, false, List, [], ◌++◌, length, take, Option}
+use Rattle.std.specs.Prelude.{◌≡◌, ◌≢◌, ◌≤◌, ◌+◌, ℕ, Bool, true, false, List, [], ◌++◌, length, take, Option}
+use Rattle.std.specs.List.{AllByRecursion}
 use Rattle.hg_io.specs.Bytes.{then}
 use Rattle.hg_machine.specs.Script.{Line, whole_lines, last_part}
 use Rattle.hg_machine.specs.State.{State}
@@ -16,6 +17,10 @@ use Rattle.hg_serve.specs.Session.{BreaksOff}
 -- the machine runs the lines
 abbrev pub Running : List Line → State → List Reply → State → Type 0
 Running lines old replies new = RunsLines old lines replies new
+
+-- no line feed stands among these bytes
+abbrev pub HasNoFeed : List ℕ → Type 0
+HasNoFeed bytes = AllByRecursion (λ b. b ≢ 10) bytes
 
 -- the whole lines among the bytes taken were answered, and the front of the line at hand is kept
 pub record Serves {E : Type 0} (Stands : E → State → Type 0) (first now : E) (old new : Moment) (s : Session) (taken : List ℕ) : Type 0 where

@@ -1,5 +1,5 @@
 //! A session: the reply lines that wait, the line at hand, and the way of a line through the engine.
-ghost use Rattle.std.specs.Prelude.{◌≡◌, ◌≤◌, ◌+◌, ◌↔◌, List, true, false, OnOk, OnErr};
+ghost use Rattle.std.specs.Prelude.{◌≡◌, ◌≤◌, ◌+◌, ◌↔◌, ◌∷◌, ◌++◌, List, true, false, take, length, OnOk, OnErr, IfSome, IfNone};
 ghost use Rattle.arrayvec.specs.ArrayVec.{array_vec_len};
 ghost use Rattle.hg_io.specs.Count.{HasCause};
 ghost use Rattle.hg_machine.specs.Reply.{Reply as ReplyOf, reply_text, is_error};
@@ -8,6 +8,7 @@ ghost use Rattle.hg_reply.specs.Lines.{reply_of};
 ghost use Rattle.hg_reply.specs.Steps.{statement_in, Says, Moves, NoneFell};
 ghost use Rattle.hg_serve.specs.Output.{moment, Tells};
 ghost use Rattle.hg_serve.specs.Session.{BeginsAsked, BreaksOff};
+ghost use Rattle.hg_serve.specs.Serving.{HasNoFeed};
 
 use crate::lines::{Asked, read_line};
 use crate::output::Output;
@@ -16,6 +17,7 @@ use arrayvec::ArrayVec;
 use hg_io::{Failed, Sink};
 use hg_model::Name;
 use hg_reply::{Kind, Machine, Next, Reply, ReplyLine, StatementRoom, TokenRoom};
+use memchr::memchr;
 
 /// Says one line and nothing else.
 fn say_alone(reply: &mut Reply, line: &ReplyLine) -> Next
@@ -84,6 +86,29 @@ fn give_turns<E: Machine, K: Sink>(
     Ok(())
 }
 
+/// The bytes before the first line feed, and those behind it. None where no line feed stands there.
+fn cut(bytes: &[u8]) -> Option<(&[u8], &[u8])>
+    ensures cut { IfSome result (λ r. (bytes.now ≡ r.0.now ++ 10 ∷ r.1.now) × HasNoFeed r.0.now) }
+    ensures none { IfNone result (HasNoFeed bytes.now) }
+{
+    let at = memchr(b'\n', bytes)?;
+    let (front, rest) = bytes.split_at(at);
+    let (_, behind) = rest.split_at(1);
+    Some((front, behind))
+}
+
+/// The first of these bytes, so many at most.
+fn front(bytes: &[u8], count: usize) -> &[u8]
+    ensures front { result.now ≡ take count bytes.now }
+    ensures few { length result.now ≤ count }
+{
+    if bytes.len() <= count {
+        bytes
+    } else {
+        &bytes[..count]
+    }
+}
+
 /// The bytes of a line that are kept: one more than it may have, so that a longer one is known.
 const KEPT_BYTES: usize = 4097;
 
@@ -105,7 +130,7 @@ impl Session {
     ghost use Rattle.hg_serve.specs.Output.{Moment, moment, Passes, Breaks};
     ghost use Rattle.hg_reply.specs.Steps.{NoneFell};
     ghost use Rattle.hg_serve.specs.Session.{Answering, AnswersLine, BreaksOff};
-    ghost use Rattle.hg_serve.specs.Serving.{Serves, Halts, Finishes, Closes};
+    ghost use Rattle.hg_serve.specs.Serving.{HasNoFeed, Serves, Halts, Finishes, Closes};
 
     pub fn new() -> Session
         ensures empty { result.output.bytes.items ≡ [] }
@@ -154,31 +179,36 @@ impl Session {
         Ok(())
     }
 
-    /// Takes one byte of the script, and answers the line that it ends.
-    fn take_byte<E: Machine, K: Sink>(
+    /// Puts bytes behind the line at hand, as far as they are kept.
+    fn keep(&mut self, bytes: &[u8])
+        ensures line { (whole : List ℕ) → self.old.line.items ≡ take 4097 whole → self.new.line.items ≡ take 4097 (whole ++ bytes.now) }
+        ensures output { self.new.output ≡ self.old.output }
+    {
+        let front = front(bytes, KEPT_BYTES - self.line.len());
+        let _ = self.line.try_extend_from_slice(front);
+    }
+
+    /// Takes bytes of the script with a line feed behind them, and answers the line that they end.
+    fn take_line<E: Machine, K: Sink>(
         &mut self,
-        b: u8,
+        front: &[u8],
         tokens: &mut TokenRoom,
         engine: &mut E,
         sink: &mut K,
     ) -> Result<(), Failed>
         requires idle { E.pending engine.old ≡ false }
+        requires no_feed { HasNoFeed front.now }
         ensures ok { OnOk result ((first : E) (w : Moment) (taken : List ℕ)
             → Serves E.stands first engine.old w (moment (K.written sink.old) (E.faults engine.old) (E.said engine.old)) self.old taken
-            → Serves E.stands first engine.new w (moment (K.written sink.new) (E.faults engine.new) (E.said engine.new)) self.new (taken ++ b ∷ [])) }
+            → Serves E.stands first engine.new w (moment (K.written sink.new) (E.faults engine.new) (E.said engine.new)) self.new (taken ++ (front.now ++ 10 ∷ []))) }
         ensures part { OnErr result ((first : E) (w : Moment) (taken : List ℕ)
             → Serves E.stands first engine.old w (moment (K.written sink.old) (E.faults engine.old) (E.said engine.old)) self.old taken
-            → Halts E.stands first engine.new w (moment (K.written sink.new) (E.faults engine.new) (E.said engine.new)) (whole_lines (taken ++ b ∷ []))) }
+            → Halts E.stands first engine.new w (moment (K.written sink.new) (E.faults engine.new) (E.said engine.new)) (whole_lines (taken ++ (front.now ++ 10 ∷ [])))) }
         ensures idle { E.pending engine.new ≡ false }
         ensures later { NoneFell (E.faults engine.old) (E.faults engine.new) }
         ensures cause { HasCause (K.faults sink.old) (K.faults sink.new) result }
     {
-        if b != b'\n' {
-            if self.line.len() < KEPT_BYTES {
-                self.line.push(b);
-            }
-            return Ok(());
-        }
+        self.keep(front);
         if let Err(Failed) = self.answer_line(true, tokens, engine, sink) {
             return Err(Failed);
         }
@@ -205,11 +235,14 @@ impl Session {
         ensures later { NoneFell (E.faults engine.old) (E.faults engine.new) }
         ensures cause { HasCause (K.faults sink.old) (K.faults sink.new) result }
     {
-        for b in bytes {
-            if let Err(Failed) = self.take_byte(*b, tokens, engine, sink) {
+        let mut rest = bytes;
+        while let Some((front, behind)) = cut(rest) {
+            if let Err(Failed) = self.take_line(front, tokens, engine, sink) {
                 return Err(Failed);
             }
+            rest = behind;
         }
+        self.keep(rest);
         Ok(())
     }
 

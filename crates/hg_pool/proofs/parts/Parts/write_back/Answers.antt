@@ -11,6 +11,8 @@ use Rattle.hg_pool.proofs.Ranges.{held-on-device}
 use Rattle.hg_pool.proofs.Passing.{wrote, wrote-not, recounted, counted-later, frame-set}
 use Rattle.hg_pool.specs.declared.parts.Parts.{Parts}
 use Rattle.hg_pool.specs.FrameLaws.{frame-kept}
+use Rattle.hg_pool.specs.Loans.{frames-set}
+use Rattle.hg_pool.specs.Keys.{at-other}
 use Rattle.hg_pool.proofs.Staying.{frames-stay}
 use Rattle.hg_pool.proofs.parts.Parts.write_back.Goals as goal
 
@@ -91,3 +93,21 @@ returns-in-Ok-clause-frames g c =
     let x : Frame = record (frame_at s.frames.items i) { dirty = false } in
     let after = after-in s w c.set_clean.new.self c.save.new.frames i (recounted w s _ c.count_write.ensures) c.save.ensures.same c.set_clean.ensures in
     frame-kept a b i x c.requires.there refl (ap (λ (z : Store). z.frames.items) after) (ap (λ (z : Store). z.places) after)
+
+pub returns-in-Err-clause-others : goal.returns-in-Err-clause-others
+returns-in-Err-clause-others g c =
+    λ k n. ap (λ (z : FramesSeen). frame_at z.items k) c.save.ensures.same ∙ ap (λ (z : Store). frame_at z.frames.items k) c.count_write.ensures
+
+pub returns-in-Err-clause-failed : goal.returns-in-Err-clause-failed
+returns-in-Err-clause-failed g c =
+    let i : ℕ = c.args.at in
+    ap (λ (z : FramesSeen). frame_at z.items i) c.save.ensures.same ∙ ap (λ (z : Store). frame_at z.frames.items i) c.count_write.ensures
+
+pub returns-in-Ok-clause-others : goal.returns-in-Ok-clause-others
+returns-in-Ok-clause-others g c =
+    let s : Store = c.args.self.now.store in
+    let w : Store = c.count_write.new.self in
+    let i : ℕ = c.args.at in
+    let x : Frame = record (frame_at s.frames.items i) { dirty = false } in
+    let after = after-in s w c.set_clean.new.self c.save.new.frames i (recounted w s _ c.count_write.ensures) c.save.ensures.same c.set_clean.ensures in
+    λ k n. ap (λ (z : Store). frame_at z.frames.items k) after ∙ ap (λ f. f k) (frames-set s.frames.items i x c.requires.there) ∙ at-other (frame_at s.frames.items) i x k n

@@ -1,11 +1,13 @@
-use Rattle.std.proofs.Common.{◌++◌, ◌∷◌, [], ◌+◌, take, drop, get_or, refl, sym, ap, ◌∙◌, append-nil}
-use Rattle.std.proofs.lemmas.List.{take_all}
+use Rattle.std.proofs.Common.{◌++◌, ◌∷◌, [], refl, sym, ◌∙◌, append_assoc, append-nil}
 use Rattle.hg_serve.proofs.Telling.{fell-none, fell-then}
-use Rattle.hg_serve.proofs.ServeLemmas.{halts-later, parts-at, parts-more, serves-as, halts-as}
+use Rattle.hg_serve.proofs.Feeds.{serves-part, parts-rest, parts-done, parts-last, shorter}
+use Rattle.hg_serve.proofs.ServeLemmas.{halts-later, serves-as, halts-as}
 use Rattle.hg_serve.proofs.session.Session.feed.Goals as goal
 
-pub loop-b-init : goal.loop-b-init
-loop-b-init g c = record {
+pub loop-front-init : goal.loop-front-init
+loop-front-init g c = record {
+  done = [];
+  parts = refl;
   idle = c.requires.idle;
   serves = λ first w taken serves. serves-as _ first _ w _ _ _ _ (sym (append-nil taken)) serves;
   later = fell-none _;
@@ -14,29 +16,39 @@ loop-b-init g c = record {
 
 pub returns-in-Err-clause-part : goal.returns-in-Err-clause-part
 returns-in-Err-clause-part g c = λ first w taken serves.
-    let i = c.loop-b.b-index in
-    let bytes = c.args.bytes.now in
-    let so_far = c.loop-b.invariant.serves first w taken serves in
-    halts-as _ first _ w _ _ _ (parts-at taken bytes i c.loop-b-test.true)
-    (halts-later _ first _ w _ ((taken ++ take i bytes) ++ get_or bytes i 0 ∷ []) (drop (i + 1) bytes)
-    ((c.in-Err.ensures {u = tt}).part first w (taken ++ take i bytes) so_far))
+    let so_far = c.loop-front.invariant in
+    let line = c.in-Some.front.now ++ 10 ∷ [] in
+    let cut = (c.in-Some.ensures {u = tt}).cut in
+    halts-as _ first _ w _ _ _
+    (parts-rest taken so_far.done c.in-Some.front.now c.in-Some.behind.now c.loop-front.rest.now c.args.bytes.now so_far.parts cut.0)
+    (halts-later _ first _ w _ ((taken ++ so_far.done) ++ line) c.in-Some.behind.now
+    ((c.in-Err.ensures {u = tt}).part first w (taken ++ so_far.done) (so_far.serves first w taken serves)))
 
-pub loop-b-preserved : goal.loop-b-preserved
-loop-b-preserved g c =
-    let i = c.loop-b.b-index in
-    let bytes = c.args.bytes.now in
-    let so_far = c.loop-b.invariant in
-    let fed = c.in_default.ensures {u = tt} in
+pub returns-in-Err-clause-later : goal.returns-in-Err-clause-later
+returns-in-Err-clause-later g c = fell-then _ _ _ c.loop-front.invariant.later c.take_line.ensures.later
+
+pub loop-front-smaller : goal.loop-front-smaller
+loop-front-smaller g c = shorter c.in-Some.front.now c.in-Some.behind.now c.loop-front.rest.now ((c.in-Some.ensures {u = tt}).cut).0
+
+pub loop-front-preserved : goal.loop-front-preserved
+loop-front-preserved g c =
+    let so_far = c.loop-front.invariant in
+    let line = c.in-Some.front.now ++ 10 ∷ [] in
+    let cut = (c.in-Some.ensures {u = tt}).cut in
+    let fed = c.in_default-take_line.ensures {u = tt} in
     record {
-      idle = c.take_byte.ensures.idle;
+      done = so_far.done ++ line;
+      parts = parts-done so_far.done c.in-Some.front.now c.in-Some.behind.now c.loop-front.rest.now c.args.bytes.now so_far.parts cut.0;
+      idle = c.take_line.ensures.idle;
       serves = λ first w taken serves.
-          serves-as _ first _ w _ _ _ _ (parts-more taken bytes i c.loop-b-test.true)
-          (fed.ok first w (taken ++ take i bytes) (so_far.serves first w taken serves));
-      later = fell-then _ _ _ so_far.later c.take_byte.ensures.later;
+          serves-as _ first _ w _ _ _ _ (append_assoc taken so_far.done line) (fed.ok first w (taken ++ so_far.done) (so_far.serves first w taken serves));
+      later = fell-then _ _ _ so_far.later c.take_line.ensures.later;
       sink_same = fed.cause.stays ∙ so_far.sink_same;
     }
 
 pub returns-clause-ok : goal.returns-clause-ok
 returns-clause-ok g c = λ first w taken serves.
-    serves-as _ first _ w _ _ _ _ (ap (λ l. taken ++ l) (take_all c.loop-b.b-index c.args.bytes.now c.loop-b-test.false))
-    (c.loop-b.invariant.serves first w taken serves)
+    let so_far = c.loop-front.invariant in
+    serves-as _ first _ w _ _ _ _ (parts-last taken so_far.done c.loop-front.rest.now c.args.bytes.now so_far.parts)
+    (serves-part _ first _ w _ c.loop-front.self c.keep.new.self (taken ++ so_far.done) c.loop-front.rest.now (so_far.serves first w taken serves)
+    (c.in_default.ensures {u = tt}).none c.keep.ensures.output c.keep.ensures.line)
