@@ -1,3 +1,5 @@
 pub mod Entries
 pub mod Rewriting
 pub mod Finding
+pub mod Checking
+pub mod Linking

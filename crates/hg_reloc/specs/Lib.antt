@@ -1,3 +1,4 @@
 pub mod Moves
 pub mod Blocks
 pub mod Found
+pub mod Checks
