@@ -3,3 +3,4 @@ pub mod Rewriting
 pub mod Finding
 pub mod Checking
 pub mod Linking
+pub mod Pages

@@ -8,7 +8,7 @@ use Rattle.std.specs.List.{AllByRecursion, concat}
 use Rattle.hg_base.specs.Lines.{has_page}
 use Rattle.hg_base.specs.declared.Check.{Check}
 use Rattle.hg_base.specs.declared.Check.TheVariants.{Kind, Size, Frame, Link, Level, Order, RowBytes}
-use Rattle.hg_reloc.specs.Blocks.{number, word, words, kind, size_for, end, frame, IsKind, HasLength, IsBlock, HasObjects}
+use Rattle.hg_reloc.specs.Blocks.{number, word, words, kind, size_for, end, frame, IsKind, HasLength, IsBlock, HasObjects, IsMade}
 
 -- Marks of the grid of a page, one for each 16 bytes: just these places are marked.
 pub record Marks (marks : List Bool) (places : List ℕ) : Type 0 where
@@ -113,6 +113,10 @@ IsWrong page max Link = HasOddLink page max
 IsWrong page max Level = ⊥
 IsWrong page max Order = ⊥
 IsWrong page max RowBytes = ⊥
+
+-- addresses may be moved on a page that is right
+pub right_made : (page : List ℕ) (max : ℕ) → IsRight page max → IsMade page
+right_made page max r = record { blocks = r.blocks; has = r.has }
 
 -- what `verify` answers
 abbrev pub Verified : List ℕ → ℕ → Result (Unit {0}) Check → Type 0

@@ -2,3 +2,4 @@ pub mod Moves
 pub mod Blocks
 pub mod Found
 pub mod Checks
+pub mod Standing

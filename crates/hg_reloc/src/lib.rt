@@ -19,6 +19,8 @@ mod checks;
 mod map;
 mod moving;
 mod object;
+#[cfg(test)]
+mod tests;
 
 pub use checks::verify;
 pub use map::{Move, MoveMap};

@@ -1,0 +1,24 @@
+-- Pages whose objects lead to one another, and their addresses: what moving the addresses does to the
+-- pages of a heap. Our own rule.
+use Rattle.std.specs.Prelude.{◌≡◌, ℕ, ◌+◌, ◌*◌, ◌<◌, ◌≤◌, ◌^◌, List, [], ◌∷◌, length, Option, None, Some, ◌⊎◌, ⊤}
+use Rattle.std.specs.List.{AllByRecursion}
+use Rattle.hg_base.specs.Content.{Object, row_object, directory}
+use Rattle.hg_base.specs.HeapPage.{IsHeapPage}
+use Rattle.hg_reloc.specs.Moves.{Moves, moved_word}
+
+-- The object that a link leads to had one address and has another: the moved one.
+abbrev pub MovesLink : Moves → (ℕ → ℕ) → (ℕ → ℕ) → Option ℕ → Type 0
+MovesLink m before after None = ⊤
+MovesLink m before after (Some n) = (before n < 2 ^ 64) × (moved_word m (before n) ≡ after n)
+
+-- and so had and has each object that an object leads to; a row's payload has 1 to 3,920 bytes
+abbrev pub MovesLinks : Moves → (ℕ → ℕ) → (ℕ → ℕ) → Object → Type 0
+MovesLinks m before after (row_object payload link) = (0 < length payload) × (length payload ≤ 3920) × MovesLink m before after link
+MovesLinks m before after (directory links) = AllByRecursion (MovesLink m before after) links
+
+-- A page of a heap whose objects have other addresses now.
+pub record MovesPage (m : Moves) (before after : ℕ → ℕ) (roots : List (Option ℕ)) (objects : List Object) (frame : ℕ) (page : List ℕ) : Type 0 where
+  pub is : IsHeapPage before roots objects frame page
+  pub four : (length roots ≡ 4) ⊎ (roots ≡ [])
+  pub roots_move : AllByRecursion (MovesLink m before after) roots
+  pub objects_move : AllByRecursion (MovesLinks m before after) objects
