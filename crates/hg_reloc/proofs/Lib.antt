@@ -3,4 +3,5 @@ pub mod Rewriting
 pub mod Finding
 pub mod Checking
 pub mod Linking
+pub mod Unique
 pub mod Pages

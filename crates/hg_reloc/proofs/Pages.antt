@@ -10,7 +10,8 @@ use Rattle.hg_base.specs.Content.{Object, row_object, directory, payload_length,
 use Rattle.hg_base.specs.HeapPage.{link_word, link_bytes, object_kind, object_link, payload_bytes, object_bytes, roots_bytes, IsHeapPage}
 use Rattle.hg_reloc.specs.Moves.{Moves, moved_word}
 use Rattle.hg_reloc.specs.Blocks.{number, word, words, kind, size_for, end, IsBlock, HasLength, HasObjects, word_count, moved_words, moved_block, moved_page, IsMoved}
-use Rattle.hg_reloc.specs.Standing.{MovesLink, MovesLinks, MovesPage}
+use Rattle.hg_reloc.specs.Standing.{MovesLink, MovesLinks, MovesPage, MovesPages}
+use Rattle.hg_reloc.proofs.Unique.{same_objects}
 
 -- The head of an object.
 length-links : (a : ℕ → ℕ) (links : List (Option ℕ)) → length (flat_map (link_bytes a) links) ≡ 8 * length links
@@ -220,3 +221,9 @@ page_moves m a b roots os frame page p =
       fits = h.fits;
       placed = dropped ∙ ap (λ q. q ++ tail) objects ∙ ap (λ q. flat_map (object_bytes b) os ++ q) free;
     }
+
+pub moves_pages : (m : Moves) (old new : List ℕ) → IsMoved m old new → MovesPages m old new
+moves_pages m old new i a b roots os frame p =
+    let has : HasObjects old (map (object_bytes a) os) = has_objects m a b roots os frame old p in
+    let one : i.blocks ≡ map (object_bytes a) os = same_objects old i.blocks (map (object_bytes a) os) i.has has in
+    subst (IsHeapPage b roots os frame) (sym (i.moved ∙ ap (λ q. moved_page m q old) one)) (page_moves m a b roots os frame old p)

@@ -22,3 +22,10 @@ pub record MovesPage (m : Moves) (before after : ℕ → ℕ) (roots : List (Opt
   pub four : (length roots ≡ 4) ⊎ (roots ≡ [])
   pub roots_move : AllByRecursion (MovesLink m before after) roots
   pub objects_move : AllByRecursion (MovesLinks m before after) objects
+
+-- What the rewriting of a page does to a page of a heap: whatever the objects, they have the other
+-- addresses. The frame that the page names is as before.
+abbrev pub MovesPages : Moves → List ℕ → List ℕ → Type 0
+MovesPages m old new =
+    (before after : ℕ → ℕ) (roots : List (Option ℕ)) (objects : List Object) (frame : ℕ)
+    → MovesPage m before after roots objects frame old → IsHeapPage after roots objects frame new
