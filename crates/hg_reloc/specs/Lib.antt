@@ -3,3 +3,4 @@ pub mod Blocks
 pub mod Found
 pub mod Checks
 pub mod Standing
+pub mod StandingLaws
