@@ -5,3 +5,4 @@ pub mod Checking
 pub mod Linking
 pub mod Unique
 pub mod Pages
+pub mod Exact

@@ -123,6 +123,10 @@ abbrev pub Verified : List ℕ → ℕ → Result (Unit {0}) Check → Type 0
 Verified page max (Ok u) = IsRight page max
 Verified page max (Err check) = IsWrong page max check
 
+-- each check is answered just where it is what is wrong
+abbrev pub TellsWrong : List ℕ → ℕ → Result (Unit {0}) Check → Type 0
+TellsWrong page max result = (check : Check) → (result ≡ Err check) ↔ IsWrong page max check
+
 -- What a walk over the objects of a page finds: where each begins, or the first that is none.
 pub record AreMarked (page : List ℕ) (marks : List Bool) : Type 0 where
   pub blocks : List (List ℕ)

@@ -1,8 +1,8 @@
 //! Whether bytes are a heap's page.
-ghost use Rattle.std.specs.Prelude.{◌≡◌, ℕ, ◌+◌, ◌*◌, ◌%◌, ◌<◌, ◌≤◌, ◌^◌, ◌↔◌, false, IsTrue, List, Ok, Err, length, drop, replicate, slice_index};
+ghost use Rattle.std.specs.Prelude.{◌≡◌, ℕ, ◌+◌, ◌*◌, ◌%◌, ◌<◌, ◌≤◌, ◌^◌, ◌↔◌, false, IsTrue, IsOk, List, Ok, Err, length, drop, replicate, slice_index};
 ghost use Rattle.std.specs.List.{AllByRecursion};
 ghost use Rattle.hg_reloc.specs.Blocks as block;
-ghost use Rattle.hg_reloc.specs.Checks.{Marks, HasHead, AreMarked, Walked, LookedAt, MayLead, LinksChecked, LinkedOrOdd, Verified};
+ghost use Rattle.hg_reloc.specs.Checks.{Marks, HasHead, AreMarked, Walked, LookedAt, MayLead, LinksChecked, LinkedOrOdd, Verified, IsRight, TellsWrong};
 
 use crate::object::{DIRECTORY, END, HEAD, KIND, LINK, ROW, has_length, size_for};
 use crate::{FIRST, PAGE, ROOT_COUNT, ROOTS};
@@ -149,16 +149,9 @@ fn are_linked(page: &[u8], own: u32, max: u32, begins: &[bool; PLACES]) -> bool
     true
 }
 
-/// Whether bytes, which may be any, are a heap's page of a pool of `max` frames, in a walk over the page
-/// and one over its addresses. The checks come in this order. Kind: byte 0 is another one, or an object's
-/// kind. Size: there are not 4,096 bytes, the end of the objects is out of range, or an object's length
-/// is; of an object's kind and length the first wrong place decides. Frame: the frame that the page names
-/// is not below `max`. Link: a root, a link or a word of a directory is neither nil nor may lead to an
-/// object. Of an address of another page of the heap that is its form alone, a frame below `max` and an
-/// offset where an object can begin; whether one does, a reader of all the heap's pages has to see. Of an
-/// address of this very page it is all: an object begins there, and before the row that leads to it.
+/// The checks of a page, in their order.
 #[tactic(auto, using(crate::proofs::Checking::reading))]
-pub fn verify(page: &[u8], max: u32) -> Result<(), Check>
+fn check_page(page: &[u8], max: u32) -> Result<(), Check>
     ensures { Verified page.now max result }
 {
     if page.is_empty() || page[0] != PAGE_KIND {
@@ -177,4 +170,20 @@ pub fn verify(page: &[u8], max: u32) -> Result<(), Check>
         return Err(Check::Link);
     }
     Ok(())
+}
+
+/// Whether bytes, which may be any, are a heap's page of a pool of `max` frames, in a walk over the page
+/// and one over its addresses. The checks come in this order. Kind: byte 0 is another one, or an object's
+/// kind. Size: there are not 4,096 bytes, the end of the objects is out of range, or an object's length
+/// is; of an object's kind and length the first wrong place decides. Frame: the frame that the page names
+/// is not below `max`. Link: a root, a link or a word of a directory is neither nil nor may lead to an
+/// object. Of an address of another page of the heap that is its form alone, a frame below `max` and an
+/// offset where an object can begin; whether one does, a reader of all the heap's pages has to see. Of an
+/// address of this very page it is all: an object begins there, and before the row that leads to it.
+#[tactic(auto, using(crate::proofs::Exact::exact))]
+pub fn verify(page: &[u8], max: u32) -> Result<(), Check>
+    ensures right { IsOk result ↔ IsRight page.now max }
+    ensures wrong { TellsWrong page.now max result }
+{
+    check_page(page, max)
 }

@@ -1,6 +1,6 @@
 use Rattle.std.proofs.Common.{arith, subst}
 use Rattle.hg_reloc.proofs.Linking.{frame_at}
-use Rattle.hg_reloc.proofs.checks.verify.Goals as goal
+use Rattle.hg_reloc.proofs.checks.check_page.Goals as goal
 
 pub are_linked-requires-clause-own : goal.are_linked-requires-clause-own
 are_linked-requires-clause-own c = frame_at c.args.page.now c.get_u32-own.result c.get_u32-own.ensures.value
