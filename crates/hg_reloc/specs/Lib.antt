@@ -4,3 +4,4 @@ pub mod Found
 pub mod Checks
 pub mod Standing
 pub mod StandingLaws
+pub mod WritingLaws
