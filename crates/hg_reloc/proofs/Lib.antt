@@ -6,3 +6,4 @@ pub mod Linking
 pub mod Unique
 pub mod Pages
 pub mod Exact
+pub mod Accepting

@@ -23,13 +23,13 @@ length-payload a (row_object payload link) = refl
 length-payload a (directory links) = length-links a links
 
 -- the bytes of an object behind its head
-abbrev body : (ℕ → ℕ) → Object → List ℕ
+abbrev pub body : (ℕ → ℕ) → Object → List ℕ
 body a o = payload_bytes a o ++ replicate (object_size o - 16 - payload_length o) 0
 
-abbrev head_of : Object → List ℕ
+abbrev pub head_of : Object → List ℕ
 head_of o = to_le_bytes w16 (payload_length o) ++ object_kind o ∷ replicate 5 0
 
-object_parts : (a : ℕ → ℕ) (o : Object) → object_bytes a o ≡ head_of o ++ (link_bytes a (object_link o) ++ body a o)
+pub object_parts : (a : ℕ → ℕ) (o : Object) → object_bytes a o ≡ head_of o ++ (link_bytes a (object_link o) ++ body a o)
 object_parts a o =
     append_assoc (head_of o ++ link_bytes a (object_link o)) (payload_bytes a o) (replicate (object_size o - 16 - payload_length o) 0)
     ∙ append_assoc (head_of o) (link_bytes a (object_link o)) (body a o)
@@ -39,12 +39,12 @@ length-body a o =
     length-append (payload_bytes a o) (replicate (object_size o - 16 - payload_length o) 0)
     ∙ omega (arith, length-payload a o, length-replicate {A = ℕ} (object_size o - 16 - payload_length o) 0)
 
-length-object : (a : ℕ → ℕ) (o : Object) → length (object_bytes a o) ≡ object_size o
+pub length-object : (a : ℕ → ℕ) (o : Object) → length (object_bytes a o) ≡ object_size o
 length-object a o =
     ap length (object_parts a o) ∙ length-append (head_of o) (link_bytes a (object_link o) ++ body a o)
     ∙ omega (arith, length-append (link_bytes a (object_link o)) (body a o), length-body a o)
 
-number-object : (a : ℕ → ℕ) (o : Object) → payload_length o < 2 ^ 16 → number (object_bytes a o) ≡ payload_length o
+pub number-object : (a : ℕ → ℕ) (o : Object) → payload_length o < 2 ^ 16 → number (object_bytes a o) ≡ payload_length o
 unfolding number
 number-object a o h = from_le_bytes-to_le_bytes_2 (payload_length o) h
 
@@ -56,7 +56,7 @@ moved-link : (m : Moves) (a b : ℕ → ℕ) (l : Option ℕ) → MovesLink m a 
 moved-link m a b None h = (omega arith, refl)
 moved-link m a b (Some n) h = h
 
-word-link : (a : ℕ → ℕ) (l : Option ℕ) (rest : List ℕ) → link_word a l < 2 ^ 64 → word (link_bytes a l ++ rest) ≡ link_word a l
+pub word-link : (a : ℕ → ℕ) (l : Option ℕ) (rest : List ℕ) → link_word a l < 2 ^ 64 → word (link_bytes a l ++ rest) ≡ link_word a l
 unfolding word
 word-link a l rest h = from_le_bytes-to_le_bytes_8 (link_word a l) h
 

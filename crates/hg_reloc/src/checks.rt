@@ -2,6 +2,7 @@
 ghost use Rattle.std.specs.Prelude.{◌≡◌, ℕ, ◌+◌, ◌*◌, ◌%◌, ◌<◌, ◌≤◌, ◌^◌, ◌↔◌, false, IsTrue, IsOk, List, Ok, Err, length, drop, replicate, slice_index};
 ghost use Rattle.std.specs.List.{AllByRecursion};
 ghost use Rattle.hg_reloc.specs.Blocks as block;
+ghost use Rattle.hg_reloc.specs.Standing.{TakesPages};
 ghost use Rattle.hg_reloc.specs.Checks.{Marks, HasHead, AreMarked, Walked, LookedAt, MayLead, LinksChecked, LinkedOrOdd, Verified, IsRight, TellsWrong};
 
 use crate::object::{DIRECTORY, END, HEAD, KIND, LINK, ROW, has_length, size_for};
@@ -180,10 +181,11 @@ fn check_page(page: &[u8], max: u32) -> Result<(), Check>
 /// object. Of an address of another page of the heap that is its form alone, a frame below `max` and an
 /// offset where an object can begin; whether one does, a reader of all the heap's pages has to see. Of an
 /// address of this very page it is all: an object begins there, and before the row that leads to it.
-#[tactic(auto, using(crate::proofs::Exact::exact))]
+#[tactic(auto, using(crate::proofs::Accepting::accepting))]
 pub fn verify(page: &[u8], max: u32) -> Result<(), Check>
     ensures right { IsOk result ↔ IsRight page.now max }
     ensures wrong { TellsWrong page.now max result }
+    ensures stands { TakesPages max page.now result }
 {
     check_page(page, max)
 }
