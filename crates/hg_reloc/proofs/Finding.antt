@@ -120,7 +120,7 @@ pub finds : (page : List ℕ) (at : ℕ) (o : Object) → IsThere page at → o.
 finds page at o t k p n w = record { block = t.block; stands = t.stands; shows = shown page t.block at o t.stands k p n w }
 
 -- objects have a multiple of 16 bytes
-grid_of : (bs : List (List ℕ)) → AllByRecursion IsBlock bs → length (concat bs) % 16 ≡ 0
+pub grid_of : (bs : List (List ℕ)) → AllByRecursion IsBlock bs → length (concat bs) % 16 ≡ 0
 grid_of [] a = refl
 grid_of (b ∷ bs) a = let i : IsBlock b = a.0 in omega (arith, length-append b (concat bs), i.size, grid_of bs a.1)
 
@@ -129,7 +129,7 @@ each_one : (before : List (List ℕ)) (b : List ℕ) (behind : List (List ℕ)) 
 each_one [] b behind a = (tt, a.0, a.1)
 each_one (x ∷ before) b behind a = let r = each_one before b behind a.1 in ((a.0, r.0), r.1, r.2)
 
-concat_one : (before : List (List ℕ)) (b : List ℕ) (behind : List (List ℕ)) → concat (before ++ b ∷ behind) ≡ concat before ++ (b ++ concat behind)
+pub concat_one : (before : List (List ℕ)) (b : List ℕ) (behind : List (List ℕ)) → concat (before ++ b ∷ behind) ≡ concat before ++ (b ++ concat behind)
 concat_one [] b behind = refl
 concat_one (x ∷ before) b behind = ap (λ q. x ++ q) (concat_one before b behind) ∙ sym (append_assoc x (concat before) (b ++ concat behind))
 

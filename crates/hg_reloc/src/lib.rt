@@ -15,10 +15,14 @@
 //! stood there, once, also where pages land in one another's old frames; every other byte stays.
 #![tactic(auto)]
 
+mod checks;
 mod map;
 mod moving;
 mod object;
+#[cfg(test)]
+mod tests;
 
+pub use checks::verify;
 pub use map::{Move, MoveMap};
 pub use moving::rewrite;
 pub use object::{Object, next_object, object_at};

@@ -1,6 +1,7 @@
 //! Rewriting the addresses of a page.
 ghost use Rattle.std.specs.Prelude.{◌≡◌, ◌+◌, ◌*◌, ◌≤◌, ◌<◌, ◌++◌, ◌^◌, length, take, drop};
 ghost use Rattle.hg_reloc.specs.Blocks.{IsMade, IsMoved, BeginsObject, MovesObject, moved_words};
+ghost use Rattle.hg_reloc.specs.Standing.{MovesPages};
 
 use crate::object::{END, KIND, size_for, word_count};
 use crate::{FIRST, MoveMap, ROOT_COUNT, ROOTS};
@@ -22,8 +23,8 @@ fn move_words(page: &mut [u8], at: usize, count: usize, map: &MoveMap)
     }
 }
 
-#[tactic(auto, using(crate::proofs::Rewriting::moving_objects))]
 /// Moves the addresses of the object that begins at `at`, and gives how many bytes it has.
+#[tactic(auto, using(crate::proofs::Rewriting::moving_objects))]
 fn move_object(page: &mut [u8], at: usize, map: &MoveMap) -> usize
     requires whole { length page.old ≡ 4096 }
     requires begins { BeginsObject page.old at }
@@ -36,10 +37,15 @@ fn move_object(page: &mut [u8], at: usize, map: &MoveMap) -> usize
     size_for(length)
 }
 
-/// Moves each address of a page, the four roots and those of its objects, once; every other byte stays.
+/// Moves each address of a page that [`verify`] takes, the four roots and those of its objects, once;
+/// every other byte stays, the frame that the page names too. A page of a heap is then one under the
+/// addresses that its objects have after the move.
+///
+/// [`verify`]: crate::verify
 pub fn rewrite(page: &mut [u8], map: &MoveMap)
     requires { IsMade page.old }
-    ensures { IsMoved map.now page.old page.new }
+    ensures moved { IsMoved map.now page.old page.new }
+    ensures stands { MovesPages map.now page.old page.new }
 {
     let end = get_u16(page, END) as usize;
     move_words(page, ROOTS, ROOT_COUNT, map);

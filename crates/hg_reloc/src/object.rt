@@ -11,9 +11,9 @@ pub const END: usize = 2;
 
 pub const KIND: usize = 2;
 
-const LINK: usize = 8;
+pub const LINK: usize = 8;
 
-const HEAD: usize = 16;
+pub const HEAD: usize = 16;
 
 /// The kinds of objects.
 pub const ROW: u8 = 1;

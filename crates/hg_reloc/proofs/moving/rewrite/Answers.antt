@@ -1,5 +1,6 @@
 use Rattle.std.proofs.Common.{◌≡◌, ◌+◌, ◌<◌, ◌∙◌, sym, subst, arith}
 use Rattle.hg_reloc.proofs.Rewriting.{IsMoving, start, next, on, grows, finish}
+use Rattle.hg_reloc.proofs.Pages.{moves_pages}
 use Rattle.hg_reloc.proofs.moving.rewrite.Goals as goal
 
 pub loop-at-init : goal.loop-at-init
@@ -31,5 +32,10 @@ loop-at-preserved c =
     on c.args.map.now c.args.page.now c.loop-at.page c.move_object-at.new.page c.loop-at.at c.get_u16-end.result c.move_object-at.result
     c.loop-at.invariant c.loop-at-test.true c.move_object-at.ensures.moved c.move_object-at.ensures.same_length
 
-pub returns : goal.returns
-returns c = finish c.args.map.now c.args.page.now c.loop-at.page c.loop-at.at c.get_u16-end.result c.loop-at.invariant c.loop-at-test.false
+pub returns-clause-moved : goal.returns-clause-moved
+returns-clause-moved c = finish c.args.map.now c.args.page.now c.loop-at.page c.loop-at.at c.get_u16-end.result c.loop-at.invariant c.loop-at-test.false
+
+pub returns-clause-stands : goal.returns-clause-stands
+returns-clause-stands c =
+    moves_pages c.args.map.now c.args.page.now c.loop-at.page
+    (finish c.args.map.now c.args.page.now c.loop-at.page c.loop-at.at c.get_u16-end.result c.loop-at.invariant c.loop-at-test.false)
