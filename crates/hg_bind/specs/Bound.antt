@@ -1,13 +1,18 @@
 -- What a bound statement is, and how a cause against a statement is answered. Our own rule.
-use Rattle.std.specs.Prelude.{◌≡◌, ℕ, List, [], ◌∷◌, Option, Some, None, map, slice_get}
+use Rattle.std.specs.Prelude.{◌≡◌, ℕ, List, [], ◌∷◌, Option, Some, None, map, not, slice_get}
+use Rattle.std.specs.List.{list_any}
 use Rattle.hg_catalog.specs.Contents.{Contents, CatalogTable}
-use Rattle.hg_model.specs.ChangeBinding.{insert_refusal, insert_targets}
+use Rattle.hg_model.specs.Binding.{cause_if}
+use Rattle.hg_model.specs.ChangeBinding.{insert_refusal, insert_targets, delete_refusal, change_positions, table_scope}
 use Rattle.hg_model.specs.Refusal.{Refusal, UnknownTable, UnknownColumn, AmbiguousColumn, TypeMismatch, TooWide, NameTaken, TooMany, NotGrouped, DoesNotFit, NullNotAllowed, DuplicateKey, BadNumber, RowTooLong, StampsUsedUp, KeyTooLong, code_of}
 use Rattle.hg_model.specs.Scope.{columns_of}
-use Rattle.hg_model.specs.Statements.{InsertTree}
+use Rattle.hg_model.specs.SelectMeaning.{is_aggregate}
+use Rattle.hg_model.specs.Statements.{InsertTree, DeleteTree}
 use Rattle.hg_model.specs.Tables.{Table, table_named}
+use Rattle.hg_model.specs.Types.{all_narrow}
 use Rattle.hg_model.specs.declared.trees.ColRef.{ColRef}
 use Rattle.hg_model.specs.declared.trees.Count.{Count}
+use Rattle.hg_model.specs.declared.trees.Node.{Node}
 use Rattle.hg_bind.specs.declared.errors.BindError.{BindError}
 
 -- The tables of a catalog by their numbers. Binding looks at no row.
@@ -65,8 +70,26 @@ pub record IsTable (tables : List Table) (name : List ℕ) (number : ℕ) : Type
   pub there : slice_get tables number ≡ Some table
   pub named : table_named tables name ≡ Some table
 
+-- A place of a column in a row of the table: 255, and the number of the column.
+abbrev pub row_places : List ℕ → List (ℕ × ℕ)
+row_places numbers = map (λ k. (255, k)) numbers
+
+abbrev pub numbers_of : List (ℕ × ℕ) → List ℕ
+numbers_of places = map (λ p. p.1) places
+
 -- An INSERT that nothing stands against, with the number of its table, and of the column of each value.
 pub record IsPlacedInsert (tables : List Table) (i : InsertTree) (table : ℕ) (targets : List ℕ) : Type 0 where
   pub unrefused : insert_refusal tables i ≡ None
   pub table_is : IsTable tables i.table table
   pub targets_are : targets ≡ insert_targets (columns_of (table_named tables i.table)) i.columns
+
+-- the causes against an UPDATE or a DELETE that are looked for behind those of types
+abbrev pub causes_behind_types : List Node → List (Option Refusal)
+causes_behind_types nodes = cause_if (list_any is_aggregate nodes) NotGrouped ∷ cause_if (not (all_narrow nodes)) TooWide ∷ []
+
+-- A DELETE that nothing stands against, with the number of its table, and for each node the place of its
+-- column: what its meaning looks values up by.
+pub record IsPlacedDelete (tables : List Table) (d : DeleteTree) (table : ℕ) (places : List (ℕ × ℕ)) : Type 0 where
+  pub unrefused : delete_refusal tables d ≡ None
+  pub table_is : IsTable tables d.table table
+  pub places_are : places ≡ row_places (change_positions (table_scope tables d.table) d.nodes)

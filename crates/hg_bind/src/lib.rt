@@ -14,9 +14,13 @@
 #![tactic(auto)]
 
 mod columns;
+mod delete;
 mod errors;
 mod insert;
 mod kinds;
+mod nodes;
+mod width;
 
+pub use delete::{BoundDelete, bind_delete, place_delete};
 pub use errors::BindError;
 pub use insert::{BoundInsert, bind_insert, place_insert};
