@@ -6,4 +6,6 @@ pub mod NameCauses
 pub mod NamedTables
 pub mod Naming
 pub mod NodeKinds
+pub mod SetItems
 pub mod Tuples
+pub mod Updating

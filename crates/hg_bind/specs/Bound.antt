@@ -3,11 +3,11 @@ use Rattle.std.specs.Prelude.{◌≡◌, ℕ, List, [], ◌∷◌, Option, Some,
 use Rattle.std.specs.List.{list_any}
 use Rattle.hg_catalog.specs.Contents.{Contents, CatalogTable}
 use Rattle.hg_model.specs.Binding.{cause_if}
-use Rattle.hg_model.specs.ChangeBinding.{insert_refusal, insert_targets, delete_refusal, change_positions, table_scope}
+use Rattle.hg_model.specs.ChangeBinding.{insert_refusal, insert_targets, delete_refusal, update_refusal, update_targets, change_positions, table_scope}
 use Rattle.hg_model.specs.Refusal.{Refusal, UnknownTable, UnknownColumn, AmbiguousColumn, TypeMismatch, TooWide, NameTaken, TooMany, NotGrouped, DoesNotFit, NullNotAllowed, DuplicateKey, BadNumber, RowTooLong, StampsUsedUp, KeyTooLong, code_of}
 use Rattle.hg_model.specs.Scope.{columns_of}
 use Rattle.hg_model.specs.SelectMeaning.{is_aggregate}
-use Rattle.hg_model.specs.Statements.{InsertTree, DeleteTree}
+use Rattle.hg_model.specs.Statements.{InsertTree, UpdateTree, DeleteTree}
 use Rattle.hg_model.specs.Tables.{Table, table_named}
 use Rattle.hg_model.specs.Types.{all_narrow}
 use Rattle.hg_model.specs.declared.trees.ColRef.{ColRef}
@@ -93,3 +93,15 @@ pub record IsPlacedDelete (tables : List Table) (d : DeleteTree) (table : ℕ) (
   pub unrefused : delete_refusal tables d ≡ None
   pub table_is : IsTable tables d.table table
   pub places_are : places ≡ row_places (change_positions (table_scope tables d.table) d.nodes)
+
+-- the names of SET items
+abbrev pub names_set : List (List ℕ × ℕ) → List (List ℕ)
+names_set sets = map (λ (s : List ℕ × ℕ). s.0) sets
+
+-- An UPDATE that nothing stands against, with the number of its table, of the column of each SET item,
+-- and for each node the place of its column.
+pub record IsPlacedUpdate (tables : List Table) (u : UpdateTree) (table : ℕ) (targets : List ℕ) (places : List (ℕ × ℕ)) : Type 0 where
+  pub unrefused : update_refusal tables u ≡ None
+  pub table_is : IsTable tables u.table table
+  pub targets_are : targets ≡ update_targets (columns_of (table_named tables u.table)) u
+  pub places_are : places ≡ row_places (change_positions (table_scope tables u.table) u.nodes)
