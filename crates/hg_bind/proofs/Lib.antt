@@ -1,3 +1,4 @@
+pub mod Creating
 pub mod Deletion
 pub mod Digits
 pub mod Insertion

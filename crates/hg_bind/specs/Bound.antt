@@ -1,9 +1,10 @@
 -- What a bound statement is, and how a cause against a statement is answered. Our own rule.
-use Rattle.std.specs.Prelude.{◌≡◌, ℕ, List, [], ◌∷◌, Option, Some, None, map, not, slice_get}
+use Rattle.std.specs.Prelude.{◌≡◌, ℕ, zero, suc, List, [], ◌∷◌, Option, Some, None, map, not, slice_get}
 use Rattle.std.specs.List.{list_any}
-use Rattle.hg_catalog.specs.Contents.{Contents, CatalogTable}
+use Rattle.hg_catalog.specs.Contents.{Contents, CatalogTable, CatalogIndex}
 use Rattle.hg_model.specs.Binding.{cause_if}
 use Rattle.hg_model.specs.ChangeBinding.{insert_refusal, insert_targets, delete_refusal, update_refusal, update_targets, change_positions, table_scope}
+use Rattle.hg_model.specs.Creation.{Index}
 use Rattle.hg_model.specs.Refusal.{Refusal, UnknownTable, UnknownColumn, AmbiguousColumn, TypeMismatch, TooWide, NameTaken, TooMany, NotGrouped, DoesNotFit, NullNotAllowed, DuplicateKey, BadNumber, RowTooLong, StampsUsedUp, KeyTooLong, code_of}
 use Rattle.hg_model.specs.Scope.{columns_of}
 use Rattle.hg_model.specs.SelectMeaning.{is_aggregate}
@@ -12,6 +13,7 @@ use Rattle.hg_model.specs.Tables.{Table, table_named}
 use Rattle.hg_model.specs.Types.{all_narrow}
 use Rattle.hg_model.specs.declared.trees.ColRef.{ColRef}
 use Rattle.hg_model.specs.declared.trees.Count.{Count}
+use Rattle.hg_model.specs.declared.trees.NewColumn.{NewColumn}
 use Rattle.hg_model.specs.declared.trees.Node.{Node}
 use Rattle.hg_bind.specs.declared.errors.BindError.{BindError}
 
@@ -21,6 +23,22 @@ table_of t = record { name = t.name; columns = t.columns; rows = [] }
 
 abbrev pub tables_of : Contents → List Table
 tables_of c = map table_of c.tables
+
+-- The indexes of a catalog, as the definitions know them: by the names of their tables.
+abbrev pub name_at : List CatalogTable → ℕ → List ℕ
+name_at [] k = []
+name_at (t ∷ ts) zero = t.name
+name_at (t ∷ ts) (suc k) = name_at ts k
+
+abbrev pub index_of : List CatalogTable → CatalogIndex → Index
+index_of tables x = record { name = x.name; table = name_at tables x.table; columns = x.index.columns.items; unique = x.index.unique }
+
+abbrev pub indexes_of : Contents → List Index
+indexes_of c = map (index_of c.tables) c.indexes
+
+-- the names of new columns
+abbrev pub names_made : List NewColumn → List (List ℕ)
+names_made columns = map (λ (c : NewColumn). c.column.name) columns
 
 -- the name that is written behind an error, with its table where it is so written
 abbrev pub plain_name : List ℕ → ColRef

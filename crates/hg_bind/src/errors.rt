@@ -1,6 +1,6 @@
 //! Why a statement is refused.
 ghost use Rattle.std.specs.Prelude.{◌≡◌};
-ghost use Rattle.hg_model.specs.Refusal.{UnknownTable, UnknownColumn, NameTaken, TypeMismatch, TooWide, NotGrouped};
+ghost use Rattle.hg_model.specs.Refusal.{UnknownTable, UnknownColumn, NameTaken, TypeMismatch, TooWide, TooMany, NotGrouped};
 ghost use Rattle.hg_bind.specs.Bound.{error_of};
 
 use hg_model::{ColRef, Count, Name};
@@ -54,6 +54,17 @@ pub fn name_taken(name: &Name) -> BindError
     ensures { result ≡ error_of (NameTaken name.now) }
 {
     with_name(8, name)
+}
+
+/// Too many of a kind.
+pub fn too_many(kind: Count) -> BindError
+    ensures { result ≡ error_of (TooMany kind) }
+{
+    BindError {
+        code: 9,
+        name: None,
+        kind: Some(kind),
+    }
 }
 
 fn without_words(code: u8) -> BindError

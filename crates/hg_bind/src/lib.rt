@@ -14,6 +14,7 @@
 #![tactic(auto)]
 
 mod columns;
+mod create;
 mod delete;
 mod errors;
 mod insert;
@@ -22,6 +23,7 @@ mod nodes;
 mod update;
 mod width;
 
+pub use create::refuse_table;
 pub use delete::{BoundDelete, bind_delete, place_delete};
 pub use errors::BindError;
 pub use insert::{BoundInsert, bind_insert, place_insert};
