@@ -23,6 +23,11 @@ pub cause_none : first_cause [] ≡ None
 unfolding first_cause
 cause_none = refl
 
+-- no error, no cause
+pub unanswered : (o : Option Refusal) → option_map error_of o ≡ None → o ≡ None
+unanswered None h = refl
+unanswered (Some r) h = absurd cc
+
 -- a cause that comes first is answered
 pub handed : (o : Option Refusal) (more : List (Option Refusal)) (e : BindError) → option_map error_of o ≡ Some e → option_map error_of (first_cause (o ∷ more)) ≡ Some e
 handed None more e h = absurd cc
@@ -68,3 +73,14 @@ module _ (cs : List Column) (names : List (List ℕ)) (i : ℕ) (name : List ℕ
   number_here numbers k so_far here =
       ap (λ l. l ++ k ∷ []) so_far ∙ ap (λ n. map (column_number cs) before ++ n ∷ []) here
       ∙ sym (ap (map (column_number cs)) one_more ∙ map-append (column_number cs) before (name ∷ []))
+
+-- the first cause over a list of nodes, one node after the other
+module _ {X : Type 0} (f : X → Option Refusal) (xs : List X) (i : ℕ) (x : X) (h : i < length xs) (is : x ≡ get_or xs i x) where
+  whole : map f (drop i xs) ≡ f x ∷ map f (drop (i + 1) xs)
+  whole = ap (map f) (drop_more xs i x h ∙ ap (λ y. y ∷ drop (i + 1) xs) (sym is))
+
+  pub cause_at : (e : BindError) → option_map error_of (f x) ≡ Some e → option_map error_of (first_cause (map f (drop i xs))) ≡ Some e
+  cause_at e caused = ap (λ l. option_map error_of (first_cause l)) whole ∙ handed (f x) _ e caused
+
+  pub no_cause_at : f x ≡ None → first_cause (map f (drop (i + 1) xs)) ≡ first_cause (map f (drop i xs))
+  no_cause_at none = sym (ap first_cause (whole ∙ ap (λ o. o ∷ map f (drop (i + 1) xs)) none) ∙ cause_later _)

@@ -70,3 +70,13 @@ module _ (name : List ℕ) where
   columns_are c n cs is columns =
       let s = stands (slice_get c.tables n) cs columns in
       ap columns_of (named c.tables ∙ ap (λ k. option_map table_of (slice_get c.tables k)) (found _ _ n is).0 ∙ s.1) ∙ s.2
+
+  inside : (ts : List CatalogTable) (n : ℕ) → n < length ts → is_some (option_map table_of (slice_get ts n)) ≡ true
+  inside [] n h = absurd (omega arith)
+  inside (t ∷ ts) zero h = refl
+  inside (t ∷ ts) (suc n) h = inside ts n (omega arith)
+
+  pub is_there : (c : Contents) (n : ℕ) → table_number c name ≡ Some n → is_some (table_named (tables_of c) name) ≡ true
+  is_there c n is =
+      let f = found _ _ n is in
+      ap is_some (named c.tables ∙ ap (λ k. option_map table_of (slice_get c.tables k)) f.0) ∙ inside c.tables n f.1

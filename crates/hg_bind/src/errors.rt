@@ -1,6 +1,6 @@
 //! Why a statement is refused.
 ghost use Rattle.std.specs.Prelude.{◌≡◌};
-ghost use Rattle.hg_model.specs.Refusal.{UnknownTable, UnknownColumn, NameTaken, TypeMismatch};
+ghost use Rattle.hg_model.specs.Refusal.{UnknownTable, UnknownColumn, NameTaken, TypeMismatch, TooWide, TooMany, NotGrouped};
 ghost use Rattle.hg_bind.specs.Bound.{error_of};
 
 use hg_model::{ColRef, Count, Name};
@@ -32,6 +32,17 @@ pub fn unknown_table(name: &Name) -> BindError
     with_name(3, name)
 }
 
+/// A column's name, with its table's where it is written, that no column has.
+pub fn unknown_reference(column: &ColRef) -> BindError
+    ensures { result ≡ error_of (UnknownColumn column.now) }
+{
+    BindError {
+        code: 4,
+        name: Some(column.copy()),
+        kind: None,
+    }
+}
+
 /// A column's name without a table that no column has.
 pub fn unknown_column(name: &Name) -> BindError
     ensures { result ≡ error_of (UnknownColumn (record { table = None; name = name.now })) }
@@ -45,12 +56,41 @@ pub fn name_taken(name: &Name) -> BindError
     with_name(8, name)
 }
 
-pub fn type_mismatch() -> BindError
-    ensures { result ≡ error_of TypeMismatch }
+/// Too many of a kind.
+pub fn too_many(kind: Count) -> BindError
+    ensures { result ≡ error_of (TooMany kind) }
 {
     BindError {
-        code: 6,
+        code: 9,
+        name: None,
+        kind: Some(kind),
+    }
+}
+
+fn without_words(code: u8) -> BindError
+    ensures { result ≡ record { code = code; name = None; kind = None } }
+{
+    BindError {
+        code,
         name: None,
         kind: None,
     }
+}
+
+pub fn type_mismatch() -> BindError
+    ensures { result ≡ error_of TypeMismatch }
+{
+    without_words(6)
+}
+
+pub fn too_wide() -> BindError
+    ensures { result ≡ error_of TooWide }
+{
+    without_words(7)
+}
+
+pub fn not_grouped() -> BindError
+    ensures { result ≡ error_of NotGrouped }
+{
+    without_words(10)
 }

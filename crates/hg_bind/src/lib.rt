@@ -14,9 +14,18 @@
 #![tactic(auto)]
 
 mod columns;
+mod create;
+mod delete;
 mod errors;
 mod insert;
 mod kinds;
+mod nodes;
+mod update;
+mod width;
 
+pub use create::refuse_table;
+pub use delete::{BoundDelete, bind_delete, place_delete};
 pub use errors::BindError;
 pub use insert::{BoundInsert, bind_insert, place_insert};
+pub use nodes::Places;
+pub use update::{BoundUpdate, bind_update, place_update};

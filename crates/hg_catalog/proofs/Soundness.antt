@@ -1,6 +1,6 @@
 -- What holds of every catalog stays, whatever is put into it.
-use Rattle.std.proofs.Common.{◌≡◌, ◌≤◌, ◌<◌, ℕ, zero, suc, Bool, true, false, List, [], ◌∷◌, ◌++◌, Some, None, map, refl, sym, ap, ◌∙◌, ◌+◌, length, arith, ◌&&◌, ◌||◌, not, cond, length-append}
-use Rattle.std.specs.Prelude.{nat_lt, nat_le, slice_get}
+use Rattle.std.proofs.Common.{◌≡◌, ◌≤◌, ◌<◌, ℕ, zero, suc, Bool, true, false, List, [], ◌∷◌, ◌++◌, Some, None, map, refl, sym, ap, subst, ◌∙◌, ◌+◌, length, arith, ◌&&◌, ◌||◌, not, cond, length-append}
+use Rattle.std.specs.Prelude.{nat_lt, nat_le, slice_get, option_map}
 use Rattle.std.specs.List.{position, position_or_len, list_all, list_any}
 use Rattle.std.proofs.lemmas.Bool.Decides.{nat_tests}
 use Rattle.std.proofs.lemmas.List.{map-append}
@@ -8,6 +8,7 @@ use Rattle.std.proofs.lemmas.List.Folds.{list_all-append, list_any-append}
 use Rattle.hg_base.specs.declared.Index.{Index}
 use Rattle.hg_base.specs.declared.Table.{Table as TableData}
 use Rattle.hg_model.specs.Tables.{same_name}
+use Rattle.hg_model.specs.declared.trees.Column.{Column}
 use Rattle.hg_catalog.specs.Contents.{CatalogTable, CatalogIndex, IsSound, IsNewTable, table_number, are_different_names, columns_of_table, is_new_table, is_index_of, fits_tables, with_pages, with_index}
 
 both : (a b : Bool) → a ≡ true → b ≡ true → (a && b) ≡ true
@@ -190,3 +191,20 @@ sound_with_index tables indexes i old new s is same = record {
   tables_fit = s.tables_fit;
   indexes_fit = indexes_stay tables indexes i old new is same ∙ s.indexes_fit;
 }
+
+-- the columns of a table that is there
+at_most_of : (a b : ℕ) → nat_le a b ≡ true → a ≤ b
+at_most_of a b h = grind (arith, nat_tests)
+
+new_of : (t : CatalogTable) → is_new_table t ≡ true → IsNewTable t.columns
+new_of t h = record {
+  some_columns = omega (arith, below_of 0 (length t.columns) (first _ _ h));
+  few_columns = at_most_of (length t.columns) 16 (first _ _ (second _ _ h));
+  different = second _ _ (second _ _ h);
+}
+
+pub columns_fit : (ts : List CatalogTable) (n : ℕ) (cs : List Column) → list_all is_new_table ts ≡ true
+    → option_map (λ (t : CatalogTable). t.columns) (slice_get ts n) ≡ Some cs → IsNewTable cs
+columns_fit [] n cs h is = absurd cc
+columns_fit (t ∷ ts) zero cs h is = let here : t.columns ≡ cs = cc in subst IsNewTable here (new_of t (first _ _ h))
+columns_fit (t ∷ ts) (suc n) cs h is = columns_fit ts n cs (second _ _ h) is

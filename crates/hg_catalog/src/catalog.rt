@@ -106,7 +106,8 @@ impl Catalog {
     /// The columns of a table.
     pub fn columns(&self, t: u8) -> &ArrayVec<Column, 16>
         requires { t < length self.now.tables }
-        ensures { option_map (λ (x : CatalogTable). x.columns) (slice_get self.now.tables t) ≡ Some result.now.items }
+        ensures value { option_map (λ (x : CatalogTable). x.columns) (slice_get self.now.tables t) ≡ Some result.now.items }
+        ensures fits { IsNewTable result.now.items }
     {
         &self.tables[t as usize].columns
     }

@@ -14,7 +14,7 @@ returns-in_default-clause-err c =
 pub returns-in-Err-clause-err : goal.returns-in-Err-clause-err
 returns-in-Err-clause-err c =
     let number = sym c.table.ensures.value ∙ c.in-Some.is in
-    let columns = c.columns.ensures ∙ ap Some (sym c.as_slice-columns.ensures.value) in
+    let columns = c.columns.ensures.value ∙ ap Some (sym c.as_slice-columns.ensures.value) in
     insert_names (tables_of c.args.catalog.now) (insert_tree c.args.insert.now) c.in-Some.table c.as_slice-columns.result.now
     (table_is c.args.insert.now.table c.args.catalog.now c.in-Some.table c.as_slice-columns.result.now number columns)
     (columns_are c.args.insert.now.table c.args.catalog.now c.in-Some.table c.as_slice-columns.result.now number columns)
@@ -23,7 +23,7 @@ returns-in-Err-clause-err c =
 pub returns-then-not-tuples_fit-clause-err : goal.returns-then-not-tuples_fit-clause-err
 returns-then-not-tuples_fit-clause-err c =
     let number = sym c.table.ensures.value ∙ c.in-Some.is in
-    let columns = c.columns.ensures ∙ ap Some (sym c.as_slice-columns.ensures.value) in
+    let columns = c.columns.ensures.value ∙ ap Some (sym c.as_slice-columns.ensures.value) in
     ap (option_map error_of) (insert_mixes (tables_of c.args.catalog.now) (insert_tree c.args.insert.now) c.in-Some.table c.as_slice-columns.result.now
     (table_is c.args.insert.now.table c.args.catalog.now c.in-Some.table c.as_slice-columns.result.now number columns)
     (columns_are c.args.insert.now.table c.args.catalog.now c.in-Some.table c.as_slice-columns.result.now number columns)
@@ -34,7 +34,7 @@ returns-then-not-tuples_fit-clause-err c =
 pub returns-clause-ok : goal.returns-clause-ok
 returns-clause-ok c =
     let number = sym c.table.ensures.value ∙ c.in-Some.is in
-    let columns = c.columns.ensures ∙ ap Some (sym c.as_slice-columns.ensures.value) in
+    let columns = c.columns.ensures.value ∙ ap Some (sym c.as_slice-columns.ensures.value) in
     subst (IsPlacedInsert (tables_of c.args.catalog.now) (insert_tree c.args.insert.now) c.in-Some.table) c.as_slice-2.ensures.value
     (insert_placed (tables_of c.args.catalog.now) (insert_tree c.args.insert.now) c.in-Some.table c.as_slice-columns.result.now
     (table_is c.args.insert.now.table c.args.catalog.now c.in-Some.table c.as_slice-columns.result.now number columns)
