@@ -14,6 +14,7 @@
 #![tactic(auto)]
 
 mod constants;
+mod create;
 mod input;
 mod insert;
 mod keep;
