@@ -15,6 +15,7 @@
 
 mod constants;
 mod create;
+mod expression;
 mod input;
 mod insert;
 mod keep;
