@@ -1,5 +1,5 @@
 -- What a room keeps of a statement, and how it is put there.
-use Rattle.std.specs.Prelude.{ℕ, ◌+◌, ◌++◌, ◌≡◌, ◌≤◌, Bool, List, Option, Some, None, length, Result, Ok, Err, ⊤, ◌<◌}
+use Rattle.std.specs.Prelude.{ℕ, ◌+◌, ◌++◌, ◌≡◌, ◌≤◌, Bool, true, false, List, Option, Some, None, length, Result, Ok, Err, ⊤, ◌<◌}
 use Rattle.std.specs.Option.{option_map}
 use Rattle.hg_model.specs.declared.trees.ColRef.{ColRef}
 use Rattle.hg_model.specs.declared.trees.FromTable.{FromTable}
@@ -172,3 +172,14 @@ abbrev pub Went : {Y : Type 0} → Result (Option Y) Syntax → Input → Input 
 Went (Ok None) i j = tokens j ≡ tokens i
 Went (Ok (Some y)) i j = length (tokens j) < length (tokens i)
 Went (Err e) i j = ⊤
+
+-- what one turn of a chain gave that keeps something
+abbrev pub turned_on : Result Bool Syntax → Room → Input → Turn Kept ⊤
+turned_on (Ok true) r i = Go (got (kept r) tt (tokens i))
+turned_on (Ok false) r i = Stop
+turned_on (Err e) r i = Go None
+
+abbrev pub WentOn : Result Bool Syntax → Input → Room → Input → Room → Type 0
+WentOn (Ok true) i r j s = length (tokens j) < length (tokens i)
+WentOn (Ok false) i r j s = (tokens j ≡ tokens i) × (kept s ≡ kept r)
+WentOn (Err e) i r j s = ⊤

@@ -9,3 +9,4 @@ pub mod Keeping
 pub mod Judging
 pub mod AtHand
 pub mod Kept
+pub mod Commands

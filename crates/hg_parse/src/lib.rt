@@ -13,6 +13,7 @@
 //! [`a_line_has_one_reading`], with [`a_line_is_read_by_descent`].
 #![tactic(auto)]
 
+mod command;
 mod constants;
 mod create;
 mod expression;
@@ -23,6 +24,7 @@ mod laws;
 mod lists;
 mod places;
 mod room;
+mod select;
 
 pub use laws::{
     a_line_has_one_reading, a_line_is_read_by_descent, fronts_are_kept, tokens_have_one_tree,
