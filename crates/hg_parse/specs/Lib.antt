@@ -10,3 +10,4 @@ pub mod Judging
 pub mod AtHand
 pub mod Kept
 pub mod Commands
+pub mod Statements
