@@ -19,3 +19,4 @@ pub mod Eaten
 pub mod Moving
 pub mod Values
 pub mod Turns
+pub mod Expressions

@@ -23,6 +23,9 @@ eaten_far i r j s k m g = record {
   room = (let a = m.room in let b = g.left in omega arith);
 }
 
+pub pushed_far : (i : Input) (r : Room) (j : Input) (s t : Room) → Moves i r j s → used t ≡ used s → Moves i r j t
+pushed_far i r j s t m e = record { goes_on = m.goes_on; room = (let a = m.room in omega (arith, e)) }
+
 pub still_fits : (i : Input) (r : Room) (j : Input) (s : Room) → Fits i r → Moves i r j s → Fits j s
 still_fits i r j s f m = let a = m.room in omega arith
 

@@ -4,8 +4,13 @@ use Rattle.std.specs.List.{list_any}
 use Rattle.std.specs.Option.{is_some}
 use Rattle.hg_model.specs.Reading.{is_long_name, is_long_text}
 use Rattle.hg_model.specs.Tokens.{Token, Word, Digits, Letters, Sign, lower, number_of, is_reserved}
+use Rattle.hg_model.specs.Grammar.{plus, minus}
+use Rattle.hg_model.specs.declared.trees.Fold.{Fold}
+use Rattle.hg_model.specs.declared.trees.Op.{Op}
+use Rattle.hg_model.specs.declared.trees.Op.TheVariants.{Add, Sub}
+use Rattle.hg_parse.specs.Descent.{fold_of}
 use Rattle.hg_parse.specs.Keeping.{Kept}
-use Rattle.hg_parse.specs.Steps.{Answer, got, behind}
+use Rattle.hg_parse.specs.Steps.{Answer, got, behind, eats}
 use Rattle.hg_parse.specs.declared.input.Input.{Input}
 use Rattle.hg_parse.specs.declared.places.NameAt.{NameAt}
 use Rattle.hg_parse.specs.declared.places.NumberAt.{NumberAt}
@@ -109,3 +114,11 @@ text_in _ = None
 abbrev pub told_at : {X Y : Type 0} → Kept → (Y → X) → Result Y Syntax → Input → Answer Kept X
 told_at k f (Ok y) i = got k (f y) (tokens i)
 told_at k f (Err e) i = None
+
+-- the fold and the sign of a sum that come next
+abbrev pub fold_in : List Token → Option Fold
+fold_in (Word w ∷ ts) = fold_of w
+fold_in _ = None
+
+abbrev pub sum_sign : List Token → Option Op
+sum_sign ts = if eats plus ts then Some Add else if eats minus ts then Some Sub else None

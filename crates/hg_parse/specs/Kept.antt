@@ -1,5 +1,5 @@
 -- What a room keeps of a statement, and how it is put there.
-use Rattle.std.specs.Prelude.{ℕ, ◌+◌, ◌++◌, ◌≡◌, ◌≤◌, Bool, List, Option, Some, None, length, Result, Ok, Err, ⊤}
+use Rattle.std.specs.Prelude.{ℕ, ◌+◌, ◌++◌, ◌≡◌, ◌≤◌, Bool, true, false, List, Option, Some, None, length, Result, Ok, Err, ⊤, ◌<◌}
 use Rattle.std.specs.Option.{option_map}
 use Rattle.hg_model.specs.declared.trees.ColRef.{ColRef}
 use Rattle.hg_model.specs.declared.trees.FromTable.{FromTable}
@@ -17,7 +17,7 @@ use Rattle.hg_parse.specs.AtHand.{word_at, number_at, tokens, left, GoesOn}
 use Rattle.hg_parse.specs.Building.{Builder}
 use Rattle.hg_parse.specs.Keeping.{Kept, Front, keeping, pushed, wide_pushed}
 use Rattle.hg_parse.specs.Rules.{Flags, flags, from_table, Heading, Form, TableForm, IndexForm, InsertForm, UpdateForm, DeleteForm, VacuumForm, SelectForm, OpenForm, StartForm, WorkForm, FetchForm, CloseForm, PoolForm, MplForm, MemoryForm}
-use Rattle.hg_parse.specs.Steps.{Answer, got}
+use Rattle.hg_parse.specs.Steps.{Answer, got, Turn, Stop, Go}
 use Rattle.hg_parse.specs.declared.input.Input.{Input}
 use Rattle.hg_parse.specs.declared.input.Syntax.{Syntax}
 use Rattle.hg_parse.specs.declared.places.ColumnAt.{ColumnAt}
@@ -160,3 +160,26 @@ Fits i r = used r + left i ≤ 4096
 pub record Moves (i : Input) (r : Room) (j : Input) (s : Room) : Type 0 where
   pub goes_on : GoesOn i j
   pub room : used s + left j ≤ used r + left i
+
+-- what one turn of a chain gave that keeps nothing
+abbrev pub turned_at : {X Y : Type 0} → Kept → (Y → X) → Result (Option Y) Syntax → Input → Turn Kept X
+turned_at k f (Ok None) i = Stop
+turned_at k f (Ok (Some y)) i = Go (got k (f y) (tokens i))
+turned_at k f (Err e) i = Go None
+
+-- a turn that goes on reads a token at least, and one that stops none
+abbrev pub Went : {Y : Type 0} → Result (Option Y) Syntax → Input → Input → Type 0
+Went (Ok None) i j = tokens j ≡ tokens i
+Went (Ok (Some y)) i j = length (tokens j) < length (tokens i)
+Went (Err e) i j = ⊤
+
+-- what one turn of a chain gave that keeps something
+abbrev pub turned_on : Result Bool Syntax → Room → Input → Turn Kept ⊤
+turned_on (Ok true) r i = Go (got (kept r) tt (tokens i))
+turned_on (Ok false) r i = Stop
+turned_on (Err e) r i = Go None
+
+abbrev pub WentOn : Result Bool Syntax → Input → Room → Input → Room → Type 0
+WentOn (Ok true) i r j s = length (tokens j) < length (tokens i)
+WentOn (Ok false) i r j s = (tokens j ≡ tokens i) × (kept s ≡ kept r)
+WentOn (Err e) i r j s = ⊤

@@ -9,3 +9,5 @@ pub mod Keeping
 pub mod Judging
 pub mod AtHand
 pub mod Kept
+pub mod Commands
+pub mod Statements

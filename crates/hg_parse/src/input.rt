@@ -56,7 +56,7 @@ fn has_long_text(piece: &Piece<'_>) -> bool
 }
 
 impl<'a> Input<'a> {
-    ghost use Rattle.std.specs.Prelude.{◌≡◌, ◌≤◌, ◌<◌, ◌+◌, false, length, IfSome};
+    ghost use Rattle.std.specs.Prelude.{◌≡◌, ◌≤◌, ◌<◌, ◌+◌, ◌&&◌, false, length, IfSome};
     ghost use Rattle.std.specs.Bool.{OnTrue};
     ghost use Rattle.std.specs.List.{list_any};
     ghost use Rattle.std.specs.Option.{is_some, option_map};
@@ -66,7 +66,7 @@ impl<'a> Input<'a> {
     ghost use Rattle.hg_parse.specs.AtHand.{tokens, carried, left, stream, is_whole, past, word_at, number_at, letters_at, name_in, digits_in, text_in, told_at, GoesOn};
     ghost use Rattle.hg_parse.specs.Descent.{name};
     ghost use Rattle.hg_parse.specs.Keeping.{Kept};
-    ghost use Rattle.hg_parse.specs.Rules.{number};
+    ghost use Rattle.hg_parse.specs.Rules.{number, is_end};
     ghost use Rattle.hg_parse.specs.Steps.{eats, behind};
     ghost use Rattle.hg_scan.specs.Words.{word_of, bytes_of};
 
@@ -241,5 +241,16 @@ impl<'a> Input<'a> {
         }
         self.advance();
         Some(NameAt { piece })
+    }
+
+    /// Whether nothing is left of the line.
+    #[tactic(auto, unfolding(crate::specs::AtHand::tokens, crate::specs::AtHand::carried))]
+    pub fn is_at_end(&self) -> bool
+        ensures { result ≡ (is_end (tokens self.now) && (carried self.now).whole) }
+    {
+        match self.piece.kind {
+            Kind::End => true,
+            _ => false,
+        }
     }
 }

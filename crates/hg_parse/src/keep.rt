@@ -2,6 +2,7 @@
 use crate::places::{ColumnAt, Constraints, KeyAt, NameAt, NumberAt, TableAt, TextAt, TypeAt};
 use crate::room::Room;
 use hg_model::{Name, Cmp, ColRef, Column, Fold, FromTable, Literal, NewColumn, Node, Op, OrderBy, OrderKey, Output, Span, SqlType};
+use arrayvec::{ArrayString, ArrayVec};
 use hg_scan::Number;
 
 impl<'a> ColumnAt<'a> {
@@ -84,10 +85,12 @@ impl<'a> KeyAt<'a> {
 
 #[tactic(auto, unfolding(crate::specs::Kept::kept, crate::specs::Kept::keeper))]
 impl Room {
-    ghost use Rattle.std.specs.Prelude.{◌≡◌, ◌≤◌, ◌+◌, Option, Some, None, pos, neg_ℤ, false, length};
+    ghost use Rattle.std.specs.Prelude.{◌≡◌, ◌≤◌, ◌+◌, Option, Some, None, pos, neg_ℤ, false, length, []};
     ghost use Rattle.hg_model.specs.declared.trees.Literal.TheVariants as literal;
     ghost use Rattle.hg_model.specs.declared.trees.Node.TheVariants as node;
     ghost use Rattle.hg_parse.specs.AtHand.{word_at, number_at, letters_at};
+    ghost use Rattle.hg_parse.specs.Building.{empty_draft};
+    ghost use Rattle.hg_parse.specs.Keeping.{kept_of};
     ghost use Rattle.hg_parse.specs.Kept.{kept, keeper, used, column_at, type_at, by_at, table_at, flags_at, output_of, key_of, with_letters, span_of, with_node, with_value, with_output, with_table, with_group, with_key, with_column, with_name, with_set, with_end};
     ghost use Rattle.std.specs.Option.{option_map};
     ghost use Rattle.hg_model.specs.declared.trees.Fold.TheVariants as of;
@@ -468,5 +471,85 @@ impl Room {
         ensures texts { used self.new ≡ used self.old }
     {
         self.put_end(self.value_count);
+    }
+
+    /// Empties the room.
+    pub fn clear(&mut self)
+        ensures kept { kept self.new ≡ kept_of empty_draft }
+        ensures texts { used self.new ≡ 0 }
+    {
+        self.clear_lists();
+        self.node_count = 0;
+        self.output_count = 0;
+        self.table_count = 0;
+        self.group_count = 0;
+        self.order_count = 0;
+        self.column_count = 0;
+        self.name_count = 0;
+        self.set_count = 0;
+        self.value_count = 0;
+        self.end_count = 0;
+        self.bad_node = false;
+        self.bad_key = false;
+        self.bad_type = false;
+        self.bad_value = false;
+    }
+
+    /// Empties the lists alone.
+    fn clear_lists(&mut self)
+        ensures nodes { self.new.nodes.items ≡ [] }
+        ensures texts { self.new.texts.bytes ≡ [] }
+        ensures outputs { self.new.outputs.items ≡ [] }
+        ensures tables { self.new.tables.items ≡ [] }
+        ensures group { self.new.group.items ≡ [] }
+        ensures order { self.new.order.items ≡ [] }
+        ensures columns { self.new.columns.items ≡ [] }
+        ensures names { self.new.names.items ≡ [] }
+        ensures sets { self.new.sets.items ≡ [] }
+        ensures values { self.new.values.items ≡ [] }
+        ensures ends { self.new.ends.items ≡ [] }
+    {
+        self.nodes.clear();
+        self.texts.clear();
+        self.outputs.clear();
+        self.tables.clear();
+        self.group.clear();
+        self.order.clear();
+        self.columns.clear();
+        self.names.clear();
+        self.sets.clear();
+        self.values.clear();
+        self.ends.clear();
+    }
+
+    /// A room with nothing in it.
+    pub fn new() -> Room {
+        Room {
+            nodes: ArrayVec::new(),
+            texts: ArrayString::new(),
+            outputs: ArrayVec::new(),
+            tables: ArrayVec::new(),
+            group: ArrayVec::new(),
+            order: ArrayVec::new(),
+            columns: ArrayVec::new(),
+            names: ArrayVec::new(),
+            sets: ArrayVec::new(),
+            values: ArrayVec::new(),
+            ends: ArrayVec::new(),
+            node_count: 0,
+            output_count: 0,
+            table_count: 0,
+            group_count: 0,
+            order_count: 0,
+            column_count: 0,
+            name_count: 0,
+            set_count: 0,
+            value_count: 0,
+            end_count: 0,
+            bad_node: false,
+            bad_key: false,
+            bad_type: false,
+            bad_value: false,
+        }
     }
 }

@@ -13,14 +13,20 @@
 //! [`a_line_has_one_reading`], with [`a_line_is_read_by_descent`].
 #![tactic(auto)]
 
+mod command;
 mod constants;
+mod create;
+mod expression;
 mod input;
 mod insert;
+mod judge;
 mod keep;
 mod laws;
 mod lists;
 mod places;
 mod room;
+mod select;
+mod statement;
 
 pub use laws::{
     a_line_has_one_reading, a_line_is_read_by_descent, fronts_are_kept, tokens_have_one_tree,
