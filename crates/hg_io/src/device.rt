@@ -35,7 +35,7 @@ pub trait PageDevice {
     fn limit(&self) -> u32
         ensures { result ≡ pages self.now };
 
-    /// Puts the page's bytes into `buf`.
+    /// Puts the page's bytes into `buf`. A read that failed leaves any bytes in `buf`.
     fn read(&mut self, no: u32, buf: &mut [u8]) -> Result<(), Failed>
         requires in_range { no < pages self.old }
         requires whole_page { length buf.old ≡ 4096 }

@@ -27,7 +27,7 @@ pub trait Source {
     ghost faults: { Self → ℕ };
 
     /// Puts the next bytes into the front of `buf` and answers their number. 0 for a buffer that is
-    /// not empty is the end of the script.
+    /// not empty is the end of the script. Behind them, and after a read that failed, `buf` has any bytes.
     fn read(&mut self, buf: &mut [u8]) -> Result<usize, Failed>
         ensures bound { IfOk result (λ n. n ≤ length buf.old) }
         ensures bytes { Reads (left self.old) (left self.new) result buf.new }

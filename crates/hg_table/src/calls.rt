@@ -12,9 +12,11 @@ use hg_value::Row;
 /// it answers as [`PageFault::Damaged`], with the page and what was wrong: `Kind` and `Size` of a
 /// page that is no slotted page, `RowBytes` of a place whose page cannot be pinned or that holds no
 /// version, `Level` of a page of the chain, the first or a successor, that cannot be pinned, `Order`
-/// of a walk that passes more pages than are taken. Successors are kept beside the pages, over every
-/// space: where the pages of the table are known and the walk begins on one of them, neither of the last
-/// two comes. Kind comes only where byte 0 is another one.
+/// of a walk that passes more pages than are taken, which names the page that it would enter next.
+/// Successors are kept beside the pages, over every space: where the pages of the table are known and the
+/// walk begins on one of them, neither of the last two comes. The bytes that a pin showed are not told
+/// after the call, so which of their checks failed is exact in the calls of `hg_slot` on bytes alone:
+/// Kind comes only where byte 0 is another one.
 pub trait TableCalls {
     ghost use Rattle.std.specs.Prelude.{◌≡◌, ◌≢◌, ℕ, ◌+◌, ◌≤◌, ◌⊎◌, true, false, List, length, Some, None, Ok, Err, IfOk, IfErr, OnOk, OnErr, IfSome, IsSome, IsErrOf, option_map};
     ghost use Rattle.hg_base.specs.Space.{NoPins};
@@ -94,7 +96,7 @@ pub trait TableCalls {
             → IsErrOf result (wrong_place at.page) };
 
     /// Whether a version stands at a place and the snapshot sees it. Its row is put into `out` then;
-    /// where it is not seen, `out` stays as it was.
+    /// where it is not seen, `out` stays as it was; refused, `out` is as it was or has no values.
     fn read<S: Pages>(
         &self,
         space: &mut S,
@@ -152,8 +154,8 @@ pub trait TableCalls {
 
     /// The first version behind `at`, in order of pages and slots, that the snapshot sees; the first of
     /// all that it sees where `at` is None. Its row is put into `out`, under the pin under which it was
-    /// found; each page is pinned once. None where no such version is left: `out` then stays as it was. A
-    /// version need not stand at `at` any more. Since the pages of the table are known over every space,
+    /// found; each page is pinned once. None where no such version is left: `out` then stays as it was.
+    /// Refused, `out` is as it was or has no values. A version need not stand at `at` any more. Since the pages of the table are known over every space,
     /// neither Level nor Order comes: what is damaged is a page of the table, or the bytes of a record.
     fn next_visible<S: Pages>(
         &self,
@@ -182,7 +184,8 @@ pub trait TableCalls {
             → IfErr result (NamesOneOf pages) }
         ensures refused { OnErr result (LeavesRow out.old out.new) };
 
-    /// The stamps of the version at a place, seen or not. Its row is put into `out`.
+    /// The stamps of the version at a place, seen or not. Its row is put into `out`; refused, `out` is as
+    /// it was or has no values.
     fn version<S: Pages>(
         &self,
         space: &mut S,
