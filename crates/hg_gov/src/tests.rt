@@ -1,0 +1,1 @@
+//! The governor's queues and limits, worked out by hand.
