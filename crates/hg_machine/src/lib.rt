@@ -18,5 +18,5 @@ pub use plain::{
     rows_and_memory_fit_a_reply, runs_are_loose_runs, runs_are_steady, turns_end,
     turns_fit_a_reply, turns_take_what_they_give, worked_scripts,
 };
-pub use statements::{Cell, Content, Row, Statement};
+pub use statements::{Cell, Content, Statement, Tuple};
 pub use tokens::{Part, RESERVED, Sign, Token};
