@@ -7,11 +7,11 @@ use Rattle.hg_base.specs.declared.File.TheVariants.{Main, Temp}
 use Rattle.hg_base.specs.declared.pages.PageFault.{PageFault}
 use Rattle.hg_base.specs.declared.pages.PageFault.TheVariants as fault
 use Rattle.hg_model.specs.declared.values.Value.{Value}
-use Rattle.hg_machine.specs.State.{State, TableState, IsTableAt, Draws}
+use Rattle.hg_machine.specs.State.{State, TableState, IsTableAt, UsesStamp}
 use Rattle.hg_machine.specs.Reply.{inserted, syntax_error, unknown_table, stamps_used_up}
 use Rattle.hg_machine.specs.Insert.{Inserts, MayInsert, rows_misfit, rows_nowhere, no_stamp_left, device_failed, file_full, page_damaged}
 use Rattle.hg_reply.specs.Steps.{TellsFound, TellOnlyFound}
-use Rattle.hg_table.specs.Marks.{last, Draws as DrawsStamp, Commits}
+use Rattle.hg_table.specs.Marks.{last, Draws, Commits}
 use Rattle.hg_engine.specs.Named.{IsNamedAt}
 use Rattle.hg_engine.specs.Putting.{Puts, PutsSome, PutFault, FindsLast, HaveColumns, CanPut}
 use Rattle.hg_engine.specs.Standing.{TableStands, Stands}
@@ -105,7 +105,7 @@ can-put-at s x state k rows st inside fit e he =
 module _ (a b : Space) (old new : Tables) (mid last_marks : List Bool) (name : List ℕ) (rows : List (List Value)) (k stamp : ℕ)
     (idle : old.scan ≡ None) (still : new.scan ≡ old.scan) (at : IsNamedAt old.entries.items name k) (d : Entry)
     (fit : (e : Entry) → slice_get old.entries.items k ≡ Some e → HaveColumns (length e.columns.items) rows)
-    (draws : DrawsStamp old.stamps mid stamp) (room : last old.stamps < 2 ^ 20) where
+    (draws : Draws old.stamps mid stamp) (room : last old.stamps < 2 ^ 20) where
   few : last mid ≤ 2 ^ 20
   few = let n = draws.next in let e = draws.drawn in omega arith
 
@@ -152,7 +152,7 @@ module _ (a b : Space) (old new : Tables) (mid last_marks : List Bool) (name : L
   }
     where
       by-cause : (f : PageFault) (before after : State) (t : TableState) → MayInsert before name rows k t → PutFault a b (length rows) f
-          → Draws before after (length rows) → before.used ≡ Rattle.hg_base.specs.Space.taken_in a Main → before.limit ≡ a.limit Main → before.told ≡ a.told
+          → UsesStamp before after (length rows) → before.used ≡ Rattle.hg_base.specs.Space.taken_in a Main → before.limit ≡ a.limit Main → before.told ≡ a.told
           → Inserts before name rows (line_of f ∷ []) after
       by-cause fault.MainFault before after t may cause draws used limit told = device_failed Main k t may refl draws
       by-cause fault.TempFault before after t may cause draws used limit told = device_failed Temp k t may refl draws

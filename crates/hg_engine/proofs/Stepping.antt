@@ -5,10 +5,10 @@ use Rattle.hg_base.specs.Space.{Space, taken_in}
 use Rattle.hg_base.specs.declared.File.TheVariants.{Main}
 use Rattle.hg_base.specs.declared.Table.{Table}
 use Rattle.hg_model.specs.declared.values.Value.{Value}
-use Rattle.hg_machine.specs.State.{State, TableState, Draws}
+use Rattle.hg_machine.specs.State.{State, TableState, UsesStamp}
 use Rattle.hg_machine.specs.Reply.{inserted}
-use Rattle.hg_machine.specs.Insert.{Inserts, MayInsert, with_rows, rows_joined}
-use Rattle.hg_table.specs.Marks.{last, committed, Draws as DrawsStamp, Commits}
+use Rattle.hg_machine.specs.Insert.{Inserts, MayInsert, with_more_rows, rows_joined}
+use Rattle.hg_table.specs.Marks.{last, committed, Draws, Commits}
 use Rattle.hg_engine.specs.Putting.{Puts, HaveColumns}
 use Rattle.hg_engine.specs.Standing.{TableStands, TablesStand, LeftStands, Stands}
 use Rattle.hg_engine.specs.declared.entries.Entry.{Entry}
@@ -16,17 +16,17 @@ use Rattle.hg_engine.proofs.StandLaws.{IsLater, with_data, with_more, pages_with
 use Rattle.hg_engine.proofs.Creating.{FoundAt}
 
 -- a stamp that was drawn
-pub later-drawn : (old new : List Bool) (s : ℕ) → DrawsStamp old new s → IsLater old new
+pub later-drawn : (old new : List Bool) (s : ℕ) → Draws old new s → IsLater old new
 later-drawn old new s d = record { last = let n = d.next in let e = d.drawn in omega arith; same = λ k h. d.committed k }
 
 -- a stamp that was drawn and committed
-pub later-committed : (old mid new : List Bool) (s : ℕ) → DrawsStamp old mid s → Commits mid new s → IsLater old new
+pub later-committed : (old mid new : List Bool) (s : ℕ) → Draws old mid s → Commits mid new s → IsLater old new
 later-committed old mid new s d c = record {
   last = let n = d.next in let e = d.drawn in let l = c.last in omega arith;
   same = λ k h. c.others k (λ e. let n = d.next in absurd (omega arith)) ∙ d.committed k;
 }
 
-hidden-drawn : (old new : List Bool) (s : ℕ) → DrawsStamp old new s → committed new s ≡ false
+hidden-drawn : (old new : List Bool) (s : ℕ) → Draws old new s → committed new s ≡ false
 hidden-drawn old new s d = d.committed s ∙ not-drawn old s (let n = d.next in omega arith)
   where
     beyond : (marks : List Bool) (n : ℕ) → length marks ≤ n → Rattle.std.specs.Prelude.slice_index_or marks n false ≡ false
@@ -41,7 +41,7 @@ hidden-drawn old new s d = d.committed s ∙ not-drawn old s (let n = d.next in 
 -- the table is there, the rows fit it, and a stamp was left
 pub may-insert : (a : Space) (entries : List Entry) (old new : List Bool) (state : State) (k : ℕ) (name : List ℕ) (rows : List (List Value)) (s : ℕ)
     → (st : Stands a entries old None state) → (f : FoundAt a old entries state.tables st.pages k) → f.entry.name ≡ name
-    → HaveColumns (length f.entry.columns.items) rows → DrawsStamp old new s → last new ≤ 2 ^ 20 → MayInsert state name rows k f.table
+    → HaveColumns (length f.entry.columns.items) rows → Draws old new s → last new ≤ 2 ^ 20 → MayInsert state name rows k f.table
 may-insert a entries old new state k name rows s st f named fit d few = record {
   found = record { place = f.at_table; named = f.stands.name ∙ named };
   fit = subst (λ n. HaveColumns n rows) (sym (ap length f.stands.columns)) fit;
@@ -51,13 +51,13 @@ may-insert a entries old new state k name rows s st f named fit d few = record {
 -- the rows were put, and the stamp is committed
 pub insert-joined : (a b : Space) (entries : List Entry) (old mid new : List Bool) (state : State) (k : ℕ) (name : List ℕ) (rows : List (List Value)) (s : ℕ) (ends : Table)
     → (st : Stands a entries old None state) → state.left ≡ None → (f : FoundAt a old entries state.tables st.pages k) → f.entry.name ≡ name
-    → HaveColumns (length f.entry.columns.items) rows → DrawsStamp old mid s → last mid ≤ 2 ^ 20 → Commits mid new s
+    → HaveColumns (length f.entry.columns.items) rows → Draws old mid s → last mid ≤ 2 ^ 20 → Commits mid new s
     → Puts a b f.entry.data ends (st.pages k) s (length f.entry.columns.items) rows
     → (after : State) × Stands b (slice_set entries k (with_data f.entry ends)) new None after × Inserts state name rows (inserted (length rows) ∷ []) after
 insert-joined a b entries old mid new state k name rows s ends st idle f named fit d few c p =
     let t : TableState = f.table in
     let more : TableState = with_more t rows in
-    let joined : State = with_rows state k t rows in
+    let joined : State = with_more_rows state k t rows in
     let after : State = record joined { used = taken_in b Main; stamps = state.stamps + 1 } in
     let later : IsLater old new = later-committed old mid new s d c in
     let drawn : s ≤ last new = let e = d.drawn in let l = c.last in omega arith in
@@ -68,7 +68,7 @@ insert-joined a b entries old mid new state k name rows s ends st idle f named f
     p.grows (length-set state.tables k more) (λ j apart. get-set-other state.tables k j more apart) (get-set-here state.tables k more inside) one in
     let may : MayInsert state name rows k t = may-insert a entries old mid state k name rows s st f named fit d few in
     let used = st.used in
-    let draws : Draws joined after (length rows) = record {
+    let draws : UsesStamp joined after (length rows) = record {
       used = taken_in b Main;
       more = let m = p.grows.more in omega arith;
       few = let m = p.grows.few in omega arith;
@@ -91,9 +91,9 @@ insert-joined a b entries old mid new state k name rows s ends st idle f named f
 -- the rows were put in part, and the stamp is not committed
 pub insert-failed : (a b : Space) (entries : List Entry) (old new : List Bool) (state : State) (k : ℕ) (name : List ℕ) (rows done : List (List Value)) (s : ℕ) (ends : Table)
     → (st : Stands a entries old None state) → state.left ≡ None → (f : FoundAt a old entries state.tables st.pages k)
-    → DrawsStamp old new s → length done ≤ length rows
+    → Draws old new s → length done ≤ length rows
     → Puts a b f.entry.data ends (st.pages k) s (length f.entry.columns.items) done
-    → (after : State) × Stands b (slice_set entries k (with_data f.entry ends)) new None after × Draws state after (length rows)
+    → (after : State) × Stands b (slice_set entries k (with_data f.entry ends)) new None after × UsesStamp state after (length rows)
 insert-failed a b entries old new state k name rows done s ends st idle f d less p =
     let t : TableState = f.table in
     let after : State = record state { used = taken_in b Main; stamps = state.stamps + 1 } in

@@ -2,7 +2,7 @@
 ghost use Rattle.std.specs.Prelude.{◌≡◌, ◌≤◌, length, MatchBool};
 ghost use Rattle.hg_engine.specs.Stepping.{MayCreate};
 
-use crate::entries::{Entry, all_different, place_of};
+use crate::entries::{Entry, all_different, number_of};
 use crate::tables::Tables;
 use arrayvec::ArrayVec;
 use hg_base::{NoMemory, Table};
@@ -20,7 +20,7 @@ const TABLES: usize = 64;
 fn may_create(entries: &[Entry], name: &Name, columns: &[Name]) -> bool
     ensures { MatchBool result (MayCreate entries.now name.now columns.now) (¬ MayCreate entries.now name.now columns.now) }
 {
-    match place_of(entries, name) {
+    match number_of(entries, name) {
         Some(_) => false,
         None => {
             if entries.len() >= TABLES {

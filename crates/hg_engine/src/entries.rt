@@ -8,7 +8,7 @@ ghost use Rattle.hg_engine.specs.Named.{IsNamedAt};
 
 use arrayvec::ArrayVec;
 use hg_base::Table;
-use hg_machine::Row as Tuple;
+use hg_machine::Tuple;
 use hg_model::Name;
 
 /// A table: its name, the names of its columns in order, and where its pages stand.
@@ -43,7 +43,7 @@ pub fn all_fit(rows: &[Tuple], width: usize) -> bool
 }
 
 /// The number of the table of a name.
-pub fn place_of(entries: &[Entry], name: &Name) -> Option<usize>
+pub fn number_of(entries: &[Entry], name: &Name) -> Option<usize>
     ensures found { IfSome result (λ k. IsNamedAt entries.now name.now k) }
     ensures unknown { IfNone result (All (λ (e : EntryOf). e.name ≢ name.now) entries.now) }
 {

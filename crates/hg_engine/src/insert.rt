@@ -1,12 +1,12 @@
 //! INSERT: rows join a table under one stamp, all of them or none.
 ghost use Rattle.std.specs.Prelude.{◌≡◌, ◌<◌, MatchBool, slice_get, Some};
 
-use crate::entries::{Entry, all_fit, place_of};
+use crate::entries::{Entry, all_fit, number_of};
 use crate::faults::say_fault;
 use crate::putting::put_rows;
 use crate::tables::Tables;
 use hg_base::{PageFault, Pages, Stamp};
-use hg_machine::Row as Tuple;
+use hg_machine::Tuple;
 use hg_model::Name;
 use hg_reply::{Reply, ReplyLine};
 
@@ -81,7 +81,7 @@ impl Tables {
         ensures idle { self.new.scan ≡ None }
         ensures same { IsSameSpace (S.state space.old) (S.state space.new) }
     {
-        let Some(at) = place_of(&self.entries, name) else {
+        let Some(at) = number_of(&self.entries, name) else {
             reply.say(&ReplyLine::UnknownTable(name));
             return;
         };

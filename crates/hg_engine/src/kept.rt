@@ -1,7 +1,7 @@
 //! What an engine keeps, and one step of it.
 use crate::tables::Tables;
 use hg_io::PageDevice;
-use hg_machine::Row;
+use hg_machine::Tuple;
 use hg_model::Name;
 use hg_pool::Pool;
 use hg_reply::{Kind, Next, Reply, StatementRoom};
@@ -50,7 +50,7 @@ impl<M: PageDevice, T: PageDevice> Kept<M, T> {
     }
 
     /// INSERT.
-    fn insert(&mut self, table: &Name, rows: &[Row], reply: &mut Reply)
+    fn insert(&mut self, table: &Name, rows: &[Tuple], reply: &mut Reply)
         requires idle { is_pending self.old ≡ false }
         requires stands { IsSomeEngine M.PageDevice T.PageDevice self.old }
         ensures step { EngineSteps M.PageDevice T.PageDevice self.old self.new reply.new

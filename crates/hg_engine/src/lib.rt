@@ -22,7 +22,7 @@ mod tables;
 
 pub use database::{Database, Devices};
 pub use engine::Engine;
-pub use hg_machine::{Cell, Content, Row};
+pub use hg_machine::{Cell, Content, Tuple};
 pub use hg_model::Name;
 pub use hg_pool::Config;
 pub use hg_reply::{Kind, Machine, Next, Reply, StatementRoom, TokenRoom};

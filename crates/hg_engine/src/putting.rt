@@ -11,7 +11,7 @@ ghost use Rattle.hg_engine.specs.Putting.{OneMore, CanPut, HaveColumns, Puts, Pu
 
 use crate::fill::fill;
 use hg_base::{PageFault, Pages, Stamp};
-use hg_machine::Row as Tuple;
+use hg_machine::Tuple;
 use hg_table::TableCalls;
 use hg_value::Row;
 

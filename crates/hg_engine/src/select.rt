@@ -1,5 +1,5 @@
 //! SELECT: the rows of a table, a turn at a time.
-use crate::entries::place_of;
+use crate::entries::number_of;
 use crate::faults::say_fault;
 use crate::next::{Found, next_row};
 use crate::scan::Scan;
@@ -38,7 +38,7 @@ impl Tables {
             × StepsTo (S.state space.now) (S.state space.now) self.old self.new (λ before lines after. Selects before name.now lines after) lines
             × TellOnlyFound (λ page check. ⊥) lines }
     {
-        let Some(table) = place_of(&self.entries, name) else {
+        let Some(table) = number_of(&self.entries, name) else {
             reply.say(&ReplyLine::UnknownTable(name));
             return;
         };

@@ -12,7 +12,7 @@ use Rattle.hg_machine.specs.Reply.{Reply, main_full}
 use Rattle.hg_machine.specs.Run.{Begins, LineBegins, asks, is_blank_line, too_long, has_no_reading, Turn, gives_row, ends, fails, gives_any_row, ends_any_time, finds_damage, GivesTurns, RunsLine, RunsLines}
 use Rattle.hg_machine.specs.Script.{Line}
 use Rattle.hg_machine.specs.Select.{Selects, rows_found, rows_unknown}
-use Rattle.hg_machine.specs.State.{State, Draws, first_state}
+use Rattle.hg_machine.specs.State.{State, UsesStamp, first_state}
 
 abbrev IsOther : Reply → Type 0
 IsOther reply = reply ≢ main_full
@@ -49,7 +49,7 @@ stays : (old new : State) (replies : List Reply) (n : ℕ) → new ≡ old → N
 stays old new replies n same none =
     draws_none old new replies n (ap (λ (s : State). s.limit) same) (ap (λ (s : State). s.used) same) none
 
-draws : (old new : State) (replies : List Reply) (n : ℕ) → Draws old new n → (old.used + n ≤ old.limit → NoneFull replies) → DrawsFew old new replies n
+draws : (old new : State) (replies : List Reply) (n : ℕ) → UsesStamp old new n → (old.used + n ≤ old.limit → NoneFull replies) → DrawsFew old new replies n
 draws old new replies n drawn none = record {
   limit = ap (λ (s : State). s.limit) drawn.after;
   used = omega (arith, ap (λ (s : State). s.used) drawn.after, drawn.few);

@@ -14,3 +14,4 @@ pub mod Rooms
 pub mod TurnRooms
 pub mod Owing
 pub mod Raising
+pub mod Answering

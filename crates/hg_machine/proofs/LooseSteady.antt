@@ -82,12 +82,12 @@ alike_steady a b alike steady =
       some_may = subst (λ n. 1 ≤ n) mpl steady.some_may;
     }
 
-loose_steady : (step : State → List ReplyLine → State → Type 0) → ((old new : State) (lines : List ReplyLine) → step old lines new → IsSteady old → IsSteady new)
-    → (old new : State) (lines : List ReplyLine) → Loosely step old lines new → IsSteady old → IsSteady new
-loose_steady step keeps old new lines (with_any_rows seen alike taken) steady = keeps seen new lines taken (alike_steady old seen alike steady)
-loose_steady step keeps old new lines (finds_damage seen file page check more alike taken said) steady =
+loose_steady : (looks : State → Type 0) (step : State → List ReplyLine → State → Type 0) → ((old new : State) (lines : List ReplyLine) → step old lines new → IsSteady old → IsSteady new)
+    → (old new : State) (lines : List ReplyLine) → Loosely looks step old lines new → IsSteady old → IsSteady new
+loose_steady looks step keeps old new lines (with_any_rows seen alike taken) steady = keeps seen new lines taken (alike_steady old seen alike steady)
+loose_steady looks step keeps old new lines (finds_damage seen file page check more looked alike taken said) steady =
     keeps seen new (device_fault file ∷ more) taken (alike_steady old seen alike steady)
-loose_steady step keeps old new lines (misses_doubles seen after alike taken indexes is) steady =
+loose_steady looks step keeps old new lines (misses_doubles seen after alike taken indexes is) steady =
     let before : IsSteady seen = alike_steady old seen alike steady in
     let plain : IsSteady (without_uniques seen) = record { round = before.round; waiting = before.waiting; full = before.full; some_may = before.some_may } in
     let kept : IsSteady after = keeps (without_uniques seen) after lines taken plain in
@@ -95,9 +95,9 @@ loose_steady step keeps old new lines (misses_doubles seen after alike taken ind
 
 steps_loosely : (m : Manner) → StepsKeepSteady m → StepsKeepSteady (loosely m)
 steps_loosely m steps = record {
-  begins = λ old new line lines begun steady. loose_steady (λ s. m.begins s line) (λ o n ls b k. steps.begins o n line ls b k) old new lines begun steady;
-  turns = loose_steady m.turn steps.turns;
-  closes = loose_steady m.closes steps.closes;
+  begins = λ old new line lines begun steady. loose_steady _ (λ s. m.begins s line) (λ o n ls b k. steps.begins o n line ls b k) old new lines begun steady;
+  turns = loose_steady _ m.turn steps.turns;
+  closes = loose_steady _ m.closes steps.closes;
 }
 
 pub exact_steps_keep_steady : ExactStepsKeepSteady

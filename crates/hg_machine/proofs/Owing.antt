@@ -18,7 +18,7 @@ same_some a b e = cc
 abbrev Owed : CursorName → CursorState → CursorState → List ReplyLine → Type 0
 Owed name before now lines = (now.left ≡ before.left) ⊎ TookOne name before now lines
 
-one_name : (a b : CursorName) → same_cursor a b ≡ true → a ≡ b
+pub one_name : (a b : CursorName) → same_cursor a b ≡ true → a ≡ b
 one_name None None e = refl
 one_name None (Some b) e = absurd (true≢false (sym e))
 one_name (Some a) None e = absurd (true≢false (sym e))
@@ -44,7 +44,7 @@ set_owed old new lines name others c after is same made owed n before now was th
         inl (ap (λ (x : CursorState). x.left) (sym kept))
 
 -- the cursor with the turn is closed
-closed_named : (cursors : List CursorState) (gone name : CursorName) (now : CursorState) → same_cursor gone name ≡ true → cursor_named (without_cursor cursors gone) name ≡ Some now → ⊥
+pub closed_named : (cursors : List CursorState) (gone name : CursorName) (now : CursorState) → same_cursor gone name ≡ true → cursor_named (without_cursor cursors gone) name ≡ Some now → ⊥
 closed_named [] gone name now e there = cc
 closed_named (x ∷ cs) gone name now e there = go (same_cursor gone x.name) refl (λ later. closed_named cs gone name now e later)
   where

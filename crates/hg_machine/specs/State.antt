@@ -36,7 +36,7 @@ pub record IsTableAt (state : State) (name : List ℕ) (k : ℕ) (table : TableS
   pub named : table.name ≡ name
 
 -- so many pages more may be in use, and one stamp more was given
-pub record Draws (old new : State) (pages : ℕ) : Type 0 where
+pub record UsesStamp (old new : State) (pages : ℕ) : Type 0 where
   pub used : ℕ
   pub more : old.used ≤ used
   pub few : used ≤ old.used + pages

@@ -16,7 +16,7 @@ pub use laws::few_rows_never_fill_main;
 pub use plain::{
     commands_can_finish, fitting_lines_never_fill, floors_prevent_the_limit, lines_end_at_rest,
     rows_and_memory_fit_a_reply, runs_are_loose_runs, runs_are_steady, turns_end,
-    turns_fit_a_reply, turns_take_what_they_give, worked_scripts,
+    turns_fit_a_reply, turns_give_answers, turns_take_what_they_give, worked_scripts,
 };
-pub use statements::{Cell, Content, Row, Statement};
+pub use statements::{Cell, Content, Statement, Tuple};
 pub use tokens::{Part, RESERVED, Sign, Token};

@@ -79,3 +79,11 @@ pub fn turns_fit_a_reply()
 pub fn turns_take_what_they_give()
     ensures { owed.TurnsTakeWhatTheyGive }
 {}
+
+/// The rows that a cursor gives in its turns are an answer of what was left to it: with any answer of what is
+/// left behind them, they are one of what was left before; and where its end was said, they are one by
+/// themselves.
+pub fn turns_give_answers()
+    ensures turns { owed.TurnsGiveAnswers }
+    ensures ended { owed.EndedTurnsGiveAnswers }
+{}

@@ -43,13 +43,13 @@ impl Cell {
     }
 }
 
-/// A row of at most 16 values, which contracts see as their list.
+/// The values of a row in a statement, at most 16, which contracts see as their list.
 #[derive(Drop, Default)]
-pub struct Row {
+pub struct Tuple {
     cells: ArrayVec<Cell, 16>,
 }
 
-impl Model for Row {
+impl Model for Tuple {
     ghost use Rattle.std.specs.Prelude.{◌≤◌, List, length};
     ghost use Rattle.hg_model.specs.declared.values.Value.{Value as Scalar};
 
@@ -60,13 +60,13 @@ impl Model for Row {
     ghost invariant = { λ r. length r.cells.items ≤ 16 };
 }
 
-impl Row {
+impl Tuple {
     ghost use Rattle.std.specs.Prelude.{◌≡◌, ◌≤◌, length};
 
-    pub fn new(cells: ArrayVec<Cell, 16>) -> Row
+    pub fn new(cells: ArrayVec<Cell, 16>) -> Tuple
         ensures { result ≡ cells.items }
     {
-        Row { cells }
+        Tuple { cells }
     }
 
     pub fn cells(&self) -> &[Cell]
@@ -86,7 +86,7 @@ pub enum Statement {
     },
     Insert {
         table: Name,
-        rows: ArrayVec<Row, 64>,
+        rows: ArrayVec<Tuple, 64>,
     },
     Select {
         table: Name,

@@ -485,3 +485,14 @@ pub fn print(line: &ReplyLine, out: &mut Text)
     put_bare(out, line);
     put(out, b"\n");
 }
+
+/// Puts the last row that was wanted of a cursor behind the lines that stand there, and `done` behind it.
+pub fn print_last_row(cursor: &Cursor, values: &[Look], out: &mut Text)
+    requires room { array_vec_len out.old
+        + length (said.text_of (said.row (shape.name_of cursor.now) (shape.values_of values.now) ∷ said.done (shape.name_of cursor.now) ∷ [])) ≤ 16384 }
+    ensures text { out.new.items ≡ out.old.items
+        ++ said.text_of (said.row (shape.name_of cursor.now) (shape.values_of values.now) ∷ said.done (shape.name_of cursor.now) ∷ []) }
+{
+    print(&ReplyLine::Row(*cursor, values), out);
+    print(&ReplyLine::Done(*cursor), out);
+}

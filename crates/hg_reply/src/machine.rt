@@ -1,7 +1,7 @@
 //! What answers statements in small steps.
 use crate::reply::Reply;
 use arrayvec::ArrayVec;
-use hg_machine::Row;
+use hg_machine::Tuple;
 use hg_model::Name;
 
 /// Whether a statement at work has more to give.
@@ -27,7 +27,7 @@ pub struct StatementRoom {
     pub kind: Kind,
     pub table: Name,
     pub columns: ArrayVec<Name, 16>,
-    pub rows: ArrayVec<Row, 64>,
+    pub rows: ArrayVec<Tuple, 64>,
 }
 
 /// What answers statements: one call is one small step of the plain machine, so that the reply of a

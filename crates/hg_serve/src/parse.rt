@@ -13,7 +13,7 @@ ghost use Rattle.hg_serve.specs.Parse.{StandsFirst, BeginsWithNoComma, NoCommand
 ghost use Rattle.hg_machine.specs.Grammar.{IsFree, is_reserved, Separated, negative, IsColumn, IsValue, IsTuple, IsCreateTable, IsInsert, IsSelect, IsEnd, StandsFor};
 
 use arrayvec::ArrayVec;
-use hg_machine::{Cell, Content, RESERVED, Row, Sign, Token};
+use hg_machine::{Cell, Content, RESERVED, Sign, Token, Tuple};
 use hg_model::Name;
 use hg_reply::{Kind, StatementRoom};
 
@@ -186,7 +186,7 @@ impl Item for Cell {
 }
 
 /// A row in parentheses.
-fn tuple(tokens: &[Token]) -> Option<(Row, &[Token])>
+fn tuple(tokens: &[Token]) -> Option<(Tuple, &[Token])>
     ensures sound { IfSome result (λ p. StandsFirst IsTuple tokens.now p.0 p.1.now) }
     ensures complete { (x : List Scalar) (rest : List Tok) → StandsFirst IsTuple tokens.now x rest
         → IsSomeAnd result (λ p. (p.0 ≡ x) × (p.1.now ≡ rest)) }
@@ -195,13 +195,13 @@ fn tuple(tokens: &[Token]) -> Option<(Row, &[Token])>
     let mut cells = ArrayVec::new();
     let behind = separated::<Cell, 16>(inner, &mut cells)?;
     let rest = sign(behind, Sign::Close)?;
-    Some((Row::new(cells), rest))
+    Some((Tuple::new(cells), rest))
 }
 
-impl Item for Row {
+impl Item for Tuple {
     ghost reads = { IsTuple };
 
-    fn read(tokens: &[Token]) -> Option<(Row, &[Token])> {
+    fn read(tokens: &[Token]) -> Option<(Tuple, &[Token])> {
         tuple(tokens)
     }
 }
@@ -262,7 +262,7 @@ fn insert(tokens: &[Token], room: &mut StatementRoom) -> Option<()>
         → NoCommand (IsInsert table rows) tokens.now) }
 {
     let (table, rest) = insert_head(tokens)?;
-    let behind = separated::<Row, 64>(rest, &mut room.rows)?;
+    let behind = separated::<Tuple, 64>(rest, &mut room.rows)?;
     if !is_end(behind) {
         return None;
     }
