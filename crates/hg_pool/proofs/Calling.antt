@@ -1,5 +1,5 @@
 -- The calls of a pool as its code makes them: each on its devices and what it keeps.
-use Rattle.std.specs.Prelude.{◌≡◌, ℕ, ◌+◌, ◌-◌, ◌<◌, ◌≤◌, ◌||◌, Bool, true, false, List, [], length, slice_set, Option, None, Some, Result, Ok, Err}
+use Rattle.std.specs.Prelude.{◌≡◌, ℕ, ◌+◌, ◌-◌, ◌<◌, Bool, true, false, List, length, slice_set, Option, None, Some, Result, Ok, Err}
 use Rattle.std.proofs.Common.{sym, ◌∙◌, ap, subst, refl, arith, length-set, inl, inr}
 use Rattle.std.proofs.lemmas.Bool.Decides.{eqb_tells}
 use Rattle.hg_base.specs.Space.{Space, at, key, key_in, with_counts, with_pin, without_pin, without_page, with_next, unpinned_bytes, IsSame, IsPinned, IsMade}
@@ -21,18 +21,17 @@ use Rattle.hg_pool.specs.Keys.{at-here, at-other, key_in-one, by_key-main, by_ke
 use Rattle.hg_pool.specs.Views.{page-of-in, coherent-at, fits-kept}
 use Rattle.hg_pool.specs.Loans.{frames-set, frame-in, and-left, picture-frame, with_written}
 use Rattle.hg_pool.specs.Clocking.{IsRunning, is_busy, used, back, forgotten}
-use Rattle.std.proofs.lemmas.Bool.{false≢true}
 use Rattle.hg_pool.specs.Seen.{Frame}
 use Rattle.hg_pool.specs.declared.maps.Maps.{Maps}
 use Rattle.hg_pool.specs.declared.places.Places.{Places}
 use Rattle.hg_pool.specs.declared.store.Store.{Store}
 use Rattle.hg_pool.proofs.Steps.{Pinned, Made, Becomes, held, settled, unpinned, released, dropped, linked, pinned-found, lent-found, bytes-found, told-pin}
-use Rattle.hg_pool.proofs.Counting.{pins-same, pins-more, pins-less, lent-same, lent-each, none-pinned}
+use Rattle.hg_pool.proofs.Counting.{pins-same, pins-more, pins-less, lent-same}
 use Rattle.hg_pool.proofs.Ranges.{was-taken}
 use Rattle.hg_pool.proofs.Passing.{shape-kept, shape-frame, shape-same, running-set, running-same, sound-scored, sound-out, place-set, places-same, room-same}
 
 -- A pool is sound where its picture is one that is sound, and its devices are as they were.
-sound-of : (d : Disks) (s z : Store) (b : Picture) → picture_of d z ≡ b → IsCoherent b → limit_of z.maps ≡ limit_of s.maps → IsSound d s → IsShaped z → IsSound d z
+pub sound-of : (d : Disks) (s z : Store) (b : Picture) → picture_of d z ≡ b → IsCoherent b → limit_of z.maps ≡ limit_of s.maps → IsSound d s → IsShaped z → IsSound d z
 sound-of d s z b p coherent limit h made =
     let P : Picture → Type 0 = λ v. IsCoherent v in record {
       coherent = subst P (sym p) coherent;
@@ -49,12 +48,12 @@ pub record HoldsPin (d : Disks) (s z : Store) (p : PageId) : Type 0 where
   pub inside : is_inside z (key p) ≡ true
 
 -- the clock where a frame was used and is out
-running-used : (s : Store) (f : ℕ) (y : Frame) → IsShaped s → f < length s.frames.items → is_busy y ≡ true → IsRunning (set_item s.frames f y) (used s.clock f)
+pub running-used : (s : Store) (f : ℕ) (y : Frame) → IsShaped s → f < length s.frames.items → is_busy y ≡ true → IsRunning (set_item s.frames f y) (used s.clock f)
 running-used s f y h there busy = running-set s.frames s.clock (used s.clock f) f y h.clock there
     (sound-scored s.clock f 7 (slice_set s.clock.out f true) h.clock.sound (omega arith) (length-set s.clock.out f true))
     (length-set s.clock.scores f 7) (ap (slice_set s.clock.out f) (sym busy))
 
-running-back : (s : Store) (f : ℕ) (y : Frame) → IsShaped s → f < length s.frames.items → is_busy y ≡ false → IsRunning (set_item s.frames f y) (back s.clock f)
+pub running-back : (s : Store) (f : ℕ) (y : Frame) → IsShaped s → f < length s.frames.items → is_busy y ≡ false → IsRunning (set_item s.frames f y) (back s.clock f)
 running-back s f y h there busy = running-set s.frames s.clock (back s.clock f) f y h.clock there
     (sound-out s.clock (slice_set s.clock.out f false) h.clock.sound (length-set s.clock.out f false)) refl (ap (slice_set s.clock.out f) (sym busy))
 
@@ -79,7 +78,7 @@ holds-pin d s f p h found free home few =
     let same : picture_of d z ≡ b = λ i. record (picture_of d z) { frame = frames-set s.frames.items f y found.there i; current = length-set s.frames.items f y i } in
     let whole : IsSound d z = sound-of d s z b same step.coherent refl h
     (shape-kept s z h.shape (pins-more s.frames.items f y found.there free refl ∙ ap (λ n. n + 1) h.shape.counted) (omega (arith, few))
-    (lent-same s.frames.items f y found.there refl ∙ h.shape.lent_counted) h.shape.none_lent (length-set s.frames.items f y)
+    (lent-same s.frames.items f y found.there refl ∙ h.shape.lent_counted) h.shape.lent_fits (length-set s.frames.items f y)
     (running-used s f y h.shape found.there refl) (λ m. m) refl h.shape.placed (λ to. refl)) in record {
       whole = whole;
       ok = record {
@@ -194,7 +193,7 @@ makes-page file d s m w f n h room takes wide few =
     } in record {
       whole = sound-of d s z b same step.coherent takes.after.limit h
           (shape-kept s z h.shape (pins-more s.frames.items f y room.there room.free refl ∙ ap (λ k. k + 1) h.shape.counted) (omega (arith, few))
-          (lent-same s.frames.items f y room.there (sym room.home) ∙ h.shape.lent_counted) h.shape.none_lent (length-set s.frames.items f y)
+          (lent-same s.frames.items f y room.there (sym room.home) ∙ h.shape.lent_counted) h.shape.lent_fits (length-set s.frames.items f y)
           (running-used s f y h.shape room.there refl) takes.after.sound takes.after.limit (λ to k t. let l = new-placed s m w file n h.shape takes wide to k t in let e = places-same w p f to in omega arith) (λ to. room-same w p f to ∙ wide.room to));
       ok = record {
         in_file = refl;
@@ -266,7 +265,7 @@ lets-go d s p h out =
     let same : picture_of d z ≡ b = λ i. record (picture_of d z) { frame = frames-set s.frames.items f y found.there i; current = length-set s.frames.items f y i } in record {
       whole = sound-of d s z b same step.coherent refl h
           (shape-kept s z h.shape (pins-less s.frames.items f y found.there pinned refl ∙ ap (λ n. n - 1) h.shape.counted) (let l = h.shape.few in omega (arith, l))
-          (lent-same s.frames.items f y found.there refl ∙ h.shape.lent_counted) h.shape.none_lent (length-set s.frames.items f y)
+          (lent-same s.frames.items f y found.there refl ∙ h.shape.lent_counted) h.shape.lent_fits (length-set s.frames.items f y)
           (running-back s f y h.shape found.there home) (λ m. m) refl h.shape.placed (λ to. refl));
       after = ap shown same ∙ step.after;
     }
@@ -299,7 +298,7 @@ gives-back d s m f p h found free home after =
     } in record {
       whole = sound-of d s z b same step.coherent after.limit h
           (shape-kept s z h.shape (pins-same s.frames.items f y found.there refl ∙ h.shape.counted) h.shape.few
-          (lent-same s.frames.items f y found.there refl ∙ h.shape.lent_counted) h.shape.none_lent (length-set s.frames.items f y)
+          (lent-same s.frames.items f y found.there refl ∙ h.shape.lent_counted) h.shape.lent_fits (length-set s.frames.items f y)
           (running-forgotten s f y h.shape found.there refl) after.sound after.limit (given-placed s m p h.shape after) (λ to. refl));
       after = ap shown same ∙ step.after;
     }
@@ -376,11 +375,4 @@ pinned-frame d s p h out =
 
 -- with few pins there is room
 pub few-room : (s : Store) → IsShaped s → s.pins < 8 → HasRoom s
-few-room s h few = let a = h.none_lent in let b = h.at_least in omega (arith, a, b, few)
-
--- no frame was handed out
-pub none-lent : (d : Disks) (s : Store) → IsSound d s → (f : ℕ) → (frame_at s.frames.items f).lent ≡ false
-none-lent d s h f = lent-each s.frames.items (h.shape.lent_counted ∙ h.shape.none_lent) f
-
-pub none-busy : (d : Disks) (s : Store) → IsSound d s → s.pins ≡ 0 → (f : ℕ) → is_busy (frame_at s.frames.items f) ≡ false
-none-busy d s h pins f = λ i. none-pinned s.frames.items (h.shape.counted ∙ pins) f i || none-lent d s h f i
+few-room s h few = let a = h.lent_fits in omega (arith, a, few)

@@ -82,15 +82,6 @@ none-pinned (x ∷ xs) e zero = let a = sum_by-cons pins_of x xs in let n : pins
     none-of false h = refl
 none-pinned (x ∷ xs) e (suc f) = let a = sum_by-cons pins_of x xs in none-pinned xs (omega (arith, a, e)) f
 
-pub lent-each : (frames : List Frame) → lent_in frames ≡ 0 → (f : ℕ) → (frame_at frames f).lent ≡ false
-lent-each [] e f = refl
-lent-each (x ∷ xs) e zero = let a = sum_by-cons lent_by x xs in let n : lent_by x ≡ 0 = omega (arith, a, e) in none-of x.lent n
-  where
-    none-of : (s : Bool) → ◌≡◌ {A = ℕ} (if s then 1 else 0) 0 → s ≡ false
-    none-of true h = absurd (omega (arith, h))
-    none-of false h = refl
-lent-each (x ∷ xs) e (suc f) = let a = sum_by-cons lent_by x xs in lent-each xs (omega (arith, a, e)) f
-
 pub pinned-none : (frames : List Frame) → ((f : ℕ) → (frame_at frames f).pinned ≡ false) → pinned_in frames ≡ 0
 pinned-none [] h = refl
 pinned-none (x ∷ xs) h =
@@ -132,3 +123,13 @@ lent-set frames f x h = sum_by-set lent_by frames f x no_frame h
 pub lent-same : (frames : List Frame) (f : ℕ) (x : Frame) → f < length frames → x.lent ≡ (frame_at frames f).lent → lent_in (slice_set frames f x) ≡ lent_in frames
 lent-same frames f x h e =
     let one : lent_by x ≡ lent_by (frame_at frames f) = ap (λ b. if b then 1 else 0) e in omega (arith, lent-set frames f x h)
+
+pub lent-more : (frames : List Frame) (f : ℕ) (x : Frame) → f < length frames → (frame_at frames f).lent ≡ false → x.lent ≡ true → lent_in (slice_set frames f x) ≡ lent_in frames + 1
+lent-more frames f x h was now =
+    let one : lent_by x ≡ 1 = ap (λ b. if b then 1 else 0) now in
+    let none : lent_by (frame_at frames f) ≡ 0 = ap (λ b. if b then 1 else 0) was in omega (arith, lent-set frames f x h)
+
+pub lent-less : (frames : List Frame) (f : ℕ) (x : Frame) → f < length frames → (frame_at frames f).lent ≡ true → x.lent ≡ false → lent_in (slice_set frames f x) ≡ lent_in frames - 1
+lent-less frames f x h was now =
+    let none : lent_by x ≡ 0 = ap (λ b. if b then 1 else 0) now in
+    let one : lent_by (frame_at frames f) ≡ 1 = ap (λ b. if b then 1 else 0) was in omega (arith, lent-set frames f x h)

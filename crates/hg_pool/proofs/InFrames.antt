@@ -1,10 +1,9 @@
 -- What the marks and chains of a pool's frames say of the frames, and what a change of one of them leaves.
-use Rattle.std.specs.Prelude.{◌≡◌, ◌≢◌, ℕ, zero, suc, ◌+◌, ◌-◌, ◌<◌, ◌≤◌, ◌||◌, ◌&&◌, ◌==◌, ◌^◌, Bool, true, false, not, List, [], ◌∷◌, ◌++◌, length, take, replicate, Option, None, Some, if◌then◌else◌, slice_index_or, slice_set, vec_capacity, IsTrue}
+use Rattle.std.specs.Prelude.{◌≡◌, ◌≢◌, ℕ, zero, suc, ◌+◌, ◌<◌, ◌||◌, ◌^◌, Bool, true, false, not, List, [], ◌∷◌, length, if◌then◌else◌, slice_index_or, slice_set, vec_capacity}
 use Rattle.std.proofs.Common.{sym, ◌∙◌, ap, subst, refl, arith, inl, inr, length-set}
 use Rattle.std.proofs.lemmas.Bool.{false≢true}
-use Rattle.std.proofs.lemmas.Bool.Decides.{eqb_tells, nat_tests}
+use Rattle.std.proofs.lemmas.Bool.Decides.{eqb_tells}
 use Rattle.std.proofs.lemmas.List.{get_or-set_same, get_or-set_other}
-use Rattle.hg_base.specs.declared.PageId.{PageId}
 use Rattle.hg_raw.specs.Frames.{RegionId, RegionSeen, ChainSeen, numbers, is_in, bytes_of, is_home, home_bytes}
 use Rattle.hg_pool.specs.Seen.{Frame, FramesSeen, IsFrames, no_mark, mark_at, bytes_at, frame_seen, seen_from, frames_seen, is_away}
 use Rattle.hg_pool.specs.Picture.{frame_at, no_frame}

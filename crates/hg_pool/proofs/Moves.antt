@@ -1,8 +1,8 @@
 -- A frame of a pool that goes from one owner of memory to another.
-use Rattle.std.specs.Prelude.{◌≡◌, ◌≢◌, ℕ, zero, suc, ◌+◌, ◌<◌, ◌≤◌, ◌||◌, ◌&&◌, ◌==◌, Bool, true, false, not, List, [], ◌∷◌, ◌++◌, length, take, replicate, ◌⊎◌, ◌^◌, Option, None, Some, if◌then◌else◌, slice_index_or, slice_set, is_some, vec_capacity}
-use Rattle.std.proofs.Common.{sym, ◌∙◌, ap, subst, refl, arith, inl, inr, length-set}
+use Rattle.std.specs.Prelude.{◌≡◌, ◌≢◌, ℕ, zero, suc, ◌<◌, ◌≤◌, ◌||◌, ◌&&◌, ◌==◌, Bool, true, false, not, List, [], ◌∷◌, ◌++◌, length, take, replicate, ◌⊎◌, ◌^◌, Option, None, Some, if◌then◌else◌, slice_index_or, slice_set, is_some, vec_capacity}
+use Rattle.std.proofs.Common.{sym, ◌∙◌, ap, subst, refl, arith, inl, inr}
 use Rattle.std.proofs.lemmas.Bool.{false≢true}
-use Rattle.std.proofs.lemmas.Bool.Decides.{eqb_tells, nat_tests}
+use Rattle.std.proofs.lemmas.Bool.Decides.{nat_tests}
 use Rattle.std.proofs.lemmas.Grind.{common_steps}
 use Rattle.std.proofs.lemmas.List.{get_or-set_same, get_or-set_other, set-get_or}
 use Rattle.hg_raw.specs.Frames.{RegionId, RegionSeen, ChainSeen, numbers, is_in, bytes_of, is_home, home_bytes, bytes_or_none, taken, given_back}
@@ -16,7 +16,7 @@ use Rattle.hg_base.specs.Space.{zero_page}
 use Rattle.hg_base.specs.declared.PageId.{PageId}
 use Rattle.hg_pool.specs.declared.frames.Mark.{Mark}
 use Rattle.hg_pool.specs.declared.frames.Frames.TheInside.{Inside}
-use Rattle.hg_pool.proofs.InFrames.{Changes, changed-is, changed-seen, not-or, count-is, there-is, frame-is, page-is, dirty-is, pinned-is, lent-is, away-is, max-is, region-is, home-is, home-bytes-is, has-is, out-bytes-is}
+use Rattle.hg_pool.proofs.InFrames.{Changes, changed-is, changed-seen, not-or, count-is, there-is, frame-is, page-is, dirty-is, pinned-is, lent-is, away-is, max-is, region-is, home-bytes-is, out-bytes-is}
 
 pub mark-at-here : (marks : List Mark) (f : ℕ) (x : Mark) → f < length marks → x ≡ slice_index_or marks f x → x ≡ mark_at marks f
 mark-at-here marks f x h e = grind (arith, nat_tests, common_steps)

@@ -1,6 +1,6 @@
 -- A pool that is opened.
-use Rattle.std.specs.Prelude.{◌≡◌, ℕ, ◌≤◌, ◌/◌, ◌%◌, ◌==◌, ◌&&◌, ◌||◌, Bool, true, false, List, length, Option, None, Some, if◌then◌else◌, slice_index_or, replicate}
-use Rattle.std.proofs.Common.{sym, ◌∙◌, ap, subst, refl, arith, inl, inr}
+use Rattle.std.specs.Prelude.{◌≡◌, ℕ, ◌≤◌, ◌/◌, ◌%◌, ◌==◌, ◌&&◌, ◌||◌, Bool, true, false, length, Option, None, Some, if◌then◌else◌, slice_index_or}
+use Rattle.std.proofs.Common.{sym, ◌∙◌, ap, subst, refl, arith}
 use Rattle.std.proofs.lemmas.Bool.{false≢true}
 use Rattle.std.proofs.lemmas.List.{length-replicate}
 use Rattle.hg_base.specs.Space.{Space, NoPins, key, key_in}
@@ -19,7 +19,6 @@ use Rattle.hg_clock.specs.Clock as clock
 use Rattle.hg_pool.specs.Clocking.{IsRunning}
 use Rattle.hg_pool.specs.Shown.{NoneIn}
 use Rattle.hg_pool.specs.declared.Config.{Config}
-use Rattle.hg_pool.specs.Seen.{Frame}
 use Rattle.hg_pool.specs.declared.store.Answers.{Answers}
 use Rattle.hg_pool.specs.declared.store.Store.{Store}
 use Rattle.hg_pool.specs.declared.parts.Parts.{Parts}
@@ -80,7 +79,7 @@ new-sound c d s possible h =
         counted = pinned ∙ sym h.pins;
         few = (let l = h.pins in omega arith);
         lent_counted = lent ∙ sym h.lent;
-        none_lent = h.lent;
+        lent_fits = (let l = h.lent in let k = h.frames.count in let m = possible.at_least in omega (arith, l, k, m));
         at_least = (let l = possible.at_least in omega arith);
         at_most = (let l = possible.reserved in let k = possible.at_most in omega arith);
         clock = new-running c s possible.reserved possible.at_most h;

@@ -118,15 +118,15 @@ pub ticks : (s : Store) (f : ℕ) → IsShaped s → f < length s.frames.items �
 ticks s f h there = let a = h.clock.count in let b = h.clock.inside in omega (arith, a, b, there)
 
 -- the shape of a store that is as large as before, and whose taken pages have places
-pub shape-kept : (s z : Store) → IsShaped s → pinned_in z.frames.items ≡ z.pins → z.pins ≤ 8 → lent_in z.frames.items ≡ z.lent → z.lent ≡ 0
+pub shape-kept : (s z : Store) → IsShaped s → pinned_in z.frames.items ≡ z.pins → z.pins ≤ 8 → lent_in z.frames.items ≡ z.lent → z.lent + 8 ≤ length s.frames.items
     → length z.frames.items ≡ length s.frames.items → IsRunning z.frames z.clock → (AreSound s.maps → AreSound z.maps) → limit_of z.maps ≡ limit_of s.maps
     → ((file : File) (n : ℕ) → taken_at z.maps (key_in file n) ≡ true → n < places_in z.places file)
     → ((file : File) → room_in z.places file ≡ room_in s.places file) → IsShaped z
-shape-kept s z h counted few lent_counted none_lent frames running maps limit placed room = record {
+shape-kept s z h counted few lent_counted lent_fits frames running maps limit placed room = record {
   counted = counted;
   few = few;
   lent_counted = lent_counted;
-  none_lent = none_lent;
+  lent_fits = omega (arith, lent_fits, frames);
   at_least = (let l = h.at_least in omega (arith, l, frames));
   at_most = (let l = h.at_most in omega (arith, l, frames));
   clock = running;
@@ -145,7 +145,7 @@ shape-frame s z f y h there p l frames pins lent clk maps limit placed room =
     (ap (λ (fr : FramesSeen). pinned_in fr.items) frames ∙ pins-same s.frames.items f y there p ∙ h.counted ∙ sym pins)
     (let a = h.few in omega (arith, a, pins))
     (ap (λ (fr : FramesSeen). lent_in fr.items) frames ∙ lent-same s.frames.items f y there l ∙ h.lent_counted ∙ sym lent)
-    (lent ∙ h.none_lent)
+    (let l = h.lent_fits in omega (arith, l, lent))
     (ap (λ (fr : FramesSeen). length fr.items) frames ∙ length-set s.frames.items f y)
     (subst (λ (c : ClockState). IsRunning z.frames c) (sym clk) (subst (λ (fr : FramesSeen). IsRunning fr s.clock) (sym frames) (running-same s.frames s.clock f y h.clock there (λ j. p j || l j))))
     maps limit placed room
@@ -159,7 +159,7 @@ shape-same s z h frames pins lent running maps limit placed room =
     (ap (λ (fr : FramesSeen). pinned_in fr.items) frames ∙ h.counted ∙ sym pins)
     (let a = h.few in omega (arith, a, pins))
     (ap (λ (fr : FramesSeen). lent_in fr.items) frames ∙ h.lent_counted ∙ sym lent)
-    (lent ∙ h.none_lent)
+    (let l = h.lent_fits in omega (arith, l, lent))
     (ap (λ (fr : FramesSeen). length fr.items) frames)
     (subst (λ (fr : FramesSeen). IsRunning fr z.clock) (sym frames) running)
     maps limit placed room

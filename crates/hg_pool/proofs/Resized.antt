@@ -1,26 +1,25 @@
 -- Another number of frames in use: the pages that are written before, and the frames behind it.
-use Rattle.std.specs.Prelude.{◌≡◌, ◌≢◌, ℕ, zero, suc, ◌<◌, ◌≤◌, ◌⊎◌, ◌||◌, ◌&&◌, Bool, true, false, List, [], ◌∷◌, length, Option, None, Some, Result, Ok, Err, if◌then◌else◌, nat_lt, IfErr, OnErr}
+use Rattle.std.specs.Prelude.{◌≡◌, ◌≢◌, ℕ, zero, suc, ◌<◌, ◌≤◌, ◌⊎◌, ◌||◌, ◌&&◌, true, false, List, [], ◌∷◌, length, Option, None, Some, Ok, if◌then◌else◌}
 use Rattle.std.proofs.Common.{sym, ◌∙◌, ap, subst, refl, inl, inr, arith}
 use Rattle.std.proofs.lemmas.Bool.{false≢true}
 use Rattle.std.proofs.lemmas.Bool.Decides.{nat_tests, eqb_tells}
 use Rattle.hg_io.specs.declared.device.PageDevice.{Ghosts}
-use Rattle.hg_base.specs.Space.{Space, Counts, IsSame, key, with_counts}
-use Rattle.hg_base.specs.Causes.{PinFault, fault_of, Later}
+use Rattle.hg_base.specs.Space.{Space, key, with_counts}
 use Rattle.hg_base.specs.declared.File.{File}
 use Rattle.hg_base.specs.declared.PageId.{PageId}
 use Rattle.hg_base.specs.declared.pages.PageFault.{PageFault}
 use Rattle.hg_pool.specs.Disks.{Disks, disks_in}
-use Rattle.hg_pool.specs.Picture.{Picture, shown, picture_of, counts_of, frame_at, place_at, no_frame, is_in, is_key_of, is_lent}
-use Rattle.hg_pool.specs.Sound.{Fits, IsCoherent, IsSound, IsShaped}
+use Rattle.hg_pool.specs.Picture.{Picture, shown, picture_of, frame_at, no_frame, is_key_of}
+use Rattle.hg_pool.specs.Sound.{Fits, IsCoherent, IsSound}
 use Rattle.hg_clock.specs.Clock.{is_out}
-use Rattle.hg_pool.specs.Clocking.{is_busy, IsRunning}
-use Rattle.hg_pool.specs.Keeping.{Resizes, SameStock}
+use Rattle.hg_pool.specs.Clocking.{is_busy}
+use Rattle.hg_pool.specs.Keeping.{Resizes}
 use Rattle.hg_pool.specs.Keys.{is_key_of-true}
 use Rattle.hg_pool.specs.Passing.{Passes, PassesParts, Clears, IsClean}
 use Rattle.hg_pool.specs.Resizing.{NoneOut, with_current, with_writes, with_calls, Writes, KeepsBelow, StaysWhole, Cleaned}
 use Rattle.hg_pool.specs.Seen.{Frame, FramesSeen}
-use Rattle.hg_pool.specs.Shown.{state_of, disks_of, in_frame, frame_of, page_in, owed, current_of, Asked, SameFrames}
-use Rattle.hg_pool.specs.Views.{shown-same, same-at, same-here, fits-kept, in-found, pinned_by, out_by, held_by}
+use Rattle.hg_pool.specs.Shown.{state_of, disks_of, frame_of, page_in, owed, current_of, Asked, SameFrames}
+use Rattle.hg_pool.specs.Views.{shown-same, same-at, same-here, fits-kept}
 use Rattle.hg_pool.specs.Work.{Calls, calls_in, with_write, with_call, owed_of, owed_by, IsFaultOf}
 use Rattle.hg_pool.specs.declared.devices.Devices.{Devices}
 use Rattle.hg_pool.specs.declared.PoolCounts.{PoolCounts}
@@ -131,7 +130,7 @@ resized-sound d s fr n h pins lent least most r free clean =
         counted = pinned-none fr.items (λ f. (not-or (frame_at fr.items f).pinned (frame_at fr.items f).lent (busy f)).0) ∙ sym pins;
         few = h.shape.few;
         lent_counted = lent-none fr.items (λ f. (not-or (frame_at fr.items f).pinned (frame_at fr.items f).lent (busy f)).1) ∙ sym lent;
-        none_lent = lent;
+        lent_fits = (let c = r.count in omega (arith, c, lent, least));
         at_least = (let c = r.count in omega (arith, c, least));
         at_most = (let c = r.count in let k = h.shape.clock.most in omega (arith, c, k, most));
         clock = record {

@@ -1,15 +1,15 @@
 -- The steps of a pool: what each of them leaves of the space that it shows, and that frames stay coherent.
-use Rattle.std.specs.Prelude.{◌≡◌, ◌≢◌, ℕ, ◌+◌, ◌-◌, ◌&&◌, ◌||◌, ◌⊎◌, not, Bool, true, false, List, [], length, Option, None, Some, if◌then◌else◌}
-use Rattle.std.proofs.Common.{sym, ◌∙◌, ap, subst, refl, inl, inr}
+use Rattle.std.specs.Prelude.{◌≡◌, ◌≢◌, ℕ, ◌+◌, ◌-◌, ◌&&◌, ◌||◌, not, Bool, true, false, List, length, Option, None, Some, if◌then◌else◌}
+use Rattle.std.proofs.Common.{sym, ◌∙◌, ap, refl, inl, inr}
 use Rattle.std.proofs.lemmas.Bool.{false≢true}
 use Rattle.std.proofs.lemmas.Bool.Decides.{eqb_tells}
 use Rattle.hg_base.specs.Space.{Space, Counts, at, key, zero_page, length-zero_page, with_counts, with_pin, with_new, without_pin, without_page, with_next, unpinned_bytes}
 use Rattle.hg_base.specs.declared.PageId.{PageId}
 use Rattle.hg_pool.specs.Picture.{Picture, shown, is_in, is_pinned, is_lent, held_in, tells, bytes_told, is_key_of}
-use Rattle.hg_pool.specs.Sound.{Fits, IsCoherent}
+use Rattle.hg_pool.specs.Sound.{IsCoherent}
 use Rattle.hg_pool.specs.Seen.{Frame}
 use Rattle.hg_pool.specs.Keys.{at-here, at-other, is_key_of-true, is_key_of-here, is_key_of-other}
-use Rattle.hg_pool.specs.Views.{SameAt, shown-same, bytes-at, pinned-at, same-at, same-frame, same-here, away, coherent-at, fits-kept, in-found, not-found, other-page, page-of-in, same-pins, same-lent, lent-at, bytes-same, pinned_by, out_by, held_by, SameHere}
+use Rattle.hg_pool.specs.Views.{SameAt, shown-same, bytes-at, pinned-at, same-at, same-frame, same-here, away, coherent-at, fits-kept, in-found, not-found, other-page, page-of-in, same-pins, same-lent}
 
 -- b is sound in its frames, and the space of a but for counts
 pub record Keeps (a b : Picture) : Type 0 where
@@ -76,7 +76,7 @@ none-apart o p P n s = let e : ◌≡◌ {A = Option PageId} None (Some p) = sym
 key-of-none : (q : ℕ) (o : Option PageId) → o ≡ None → is_key_of q o ≡ false
 key-of-none q o e = ap (is_key_of q) e
 
-key-of-other : (q : ℕ) (o : Option PageId) (p : PageId) → o ≡ Some p → q ≢ key p → is_key_of q o ≡ false
+pub key-of-other : (q : ℕ) (o : Option PageId) (p : PageId) → o ≡ Some p → q ≢ key p → is_key_of q o ≡ false
 key-of-other q o p e n = ap (is_key_of q) e ∙ is_key_of-other q p n
 
 -- what is held by a frame that is as it is on its device
@@ -210,7 +210,7 @@ pub record Pinned (a b : Picture) (p : PageId) (held : List ℕ) : Type 0 where
   pub was : bytes_told a (key p) ≡ unpinned_bytes a.told (Some held)
   pub after : shown b ≡ with_pin (shown a) (key p) held
 
-was-of : (t : Bool) (x : List ℕ) → ◌≡◌ {A = Option (List ℕ)} (if t then Some x else None) (unpinned_bytes t (Some x))
+pub was-of : (t : Bool) (x : List ℕ) → ◌≡◌ {A = Option (List ℕ)} (if t then Some x else None) (unpinned_bytes t (Some x))
 was-of true x = refl
 was-of false x = refl
 
@@ -293,7 +293,7 @@ pub record Becomes (b : Picture) (s : Space) : Type 0 where
   pub coherent : IsCoherent b
   pub after : shown b ≡ s
 
-if-unpinned : (t : Bool) (x : List ℕ) → ◌≡◌ {A = Option (List ℕ)} (if t then Some x else None) (unpinned_bytes t (Some x))
+pub if-unpinned : (t : Bool) (x : List ℕ) → ◌≡◌ {A = Option (List ℕ)} (if t then Some x else None) (unpinned_bytes t (Some x))
 if-unpinned true x = refl
 if-unpinned false x = refl
 

@@ -1,5 +1,5 @@
 -- The clock over the frames of a pool: which frame a page comes into. Our own rule.
-use Rattle.std.specs.Prelude.{◌≡◌, ℕ, ◌≤◌, ◌||◌, Bool, true, false, List, length, slice_set}
+use Rattle.std.specs.Prelude.{◌≡◌, ℕ, ◌≤◌, ◌||◌, Bool, true, false, length, slice_set}
 use Rattle.hg_clock.specs.Clock.{ClockState, IsSound, Takes, frame_count, is_out}
 use Rattle.hg_pool.specs.Seen.{Frame, FramesSeen}
 use Rattle.hg_pool.specs.Picture.{frame_at}

@@ -1,5 +1,5 @@
 -- What the calls on the parts of a pool leave of them. Our own rule.
-use Rattle.std.specs.Prelude.{◌≡◌, ℕ, ◌<◌, ◌≤◌, Bool, true, false, List, [], ◌∷◌, length, Option, None, Some, slice_set}
+use Rattle.std.specs.Prelude.{◌≡◌, ℕ, ◌<◌, ◌≤◌, Bool, true, false, List, [], ◌∷◌, length, Option, None, Some, slice_set, ◌||◌}
 use Rattle.std.specs.Vec.{with_item}
 use Rattle.hg_base.specs.Space.{at, key, key_in, zero_page}
 use Rattle.hg_base.specs.declared.File.{File}
@@ -86,6 +86,14 @@ with_frame s f x = record s { frames = set_item s.frames f x }
 -- a frame with a new page, which a pin holds
 abbrev pub new_frame : PageId → Frame
 new_frame page = record { bytes = zero_page; page = Some page; dirty = true; pinned = true; lent = false }
+
+-- a frame that was handed out with its bytes
+abbrev pub lent_frame : Frame → Frame
+lent_frame x = record x { bytes = []; lent = true }
+
+-- and put back, with these bytes: it is dirty where it is said to be or was
+abbrev pub put_frame : Frame → List ℕ → Bool → Frame
+put_frame x w dirty = record x { bytes = w; lent = false; dirty = dirty || x.dirty }
 
 -- a chain of this frame alone
 abbrev pub IsJust : ChainSeen → ℕ → Type 0

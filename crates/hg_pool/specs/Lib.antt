@@ -14,3 +14,4 @@ pub mod Work
 pub mod Loans
 pub mod FrameLaws
 pub mod Resizing
+pub mod Lending

@@ -1,5 +1,5 @@
 -- The frames of a pool as contracts see them: which page stands in each, and its bytes. Our own rule.
-use Rattle.std.specs.Prelude.{◌≡◌, ℕ, suc, ◌<◌, ◌≤◌, ◌||◌, ◌^◌, Bool, true, false, not, List, [], ◌∷◌, length, Option, None, Some, if◌then◌else◌, slice_index_or, vec_capacity}
+use Rattle.std.specs.Prelude.{◌≡◌, ℕ, suc, ◌<◌, ◌≤◌, ◌||◌, ◌^◌, Bool, true, false, not, List, [], ◌∷◌, length, Option, None, if◌then◌else◌, slice_index_or, vec_capacity}
 use Rattle.hg_base.specs.declared.PageId.{PageId}
 use Rattle.hg_raw.specs.Frames.{RegionId, RegionSeen, ChainSeen, numbers, is_in, bytes_of, is_home, home_bytes}
 use Rattle.hg_pool.specs.declared.frames.Mark.{Mark}

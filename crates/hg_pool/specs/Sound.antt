@@ -50,8 +50,8 @@ pub record IsShaped (s : Store) : Type 0 where
   pub counted : pinned_in s.frames.items ≡ s.pins
   pub few : s.pins ≤ 8
   pub lent_counted : lent_in s.frames.items ≡ s.lent
-  -- no call hands a frame out yet
-  pub none_lent : s.lent ≡ 0
+  -- so many are left for pins
+  pub lent_fits : s.lent + 8 ≤ length s.frames.items
   pub at_least : 16 ≤ length s.frames.items
   pub at_most : length s.frames.items ≤ 65536
   pub clock : IsRunning s.frames s.clock

@@ -16,11 +16,16 @@
 //! What a call asks of the devices is said by their own counts of reads and writes (`Asked`): a page
 //! that is in a frame asks nothing, and any other at most one write, of the page that leaves the frame
 //! where it owes one, and then one read. The pool's counts rise just as those do.
+//!
+//! Beside pins, `take_page` hands a page out with its frame, as a chain of its own, and `put_page` takes
+//! it back; more than eight frames are always left for pins and for a victim. `resize` changes how many
+//! frames are in use while none is out.
 #![tactic(auto)]
 
 mod calls;
 mod devices;
 mod frames;
+mod lending;
 mod maps;
 mod opening;
 mod pages;

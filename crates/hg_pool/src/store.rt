@@ -1,11 +1,12 @@
 //! What a pool keeps in memory.
-ghost use Rattle.std.specs.Prelude.{◌≡◌, ℕ, ◌+◌, ◌-◌, ◌<◌, ◌≤◌, ◌↔◌, true, false, None, Some, IsTrue, IfSome, IfNone, length};
+ghost use Rattle.std.specs.Prelude.{◌≡◌, ℕ, ◌+◌, ◌-◌, ◌<◌, ◌≤◌, ◌↔◌, true, false, None, Some, IsTrue, IfSome, IfNone, length, [], ◌∷◌};
 ghost use Rattle.hg_clock.specs.Clock.{Takes, IsSound, frame_count};
 ghost use Rattle.hg_base.specs.Space.{key};
 ghost use Rattle.hg_pool.specs.Clocking.{is_busy, used, back, forgotten};
 ghost use Rattle.hg_pool.specs.Picture.{frame_at, place_at, places_in, taken_at, is_pinned, is_lent};
 ghost use Rattle.hg_pool.specs.Sound.{IsShaped};
-ghost use Rattle.hg_pool.specs.Keeping.{with_place, with_frame, IsFoundAt, IsFullIn, is_inside, new_frame};
+ghost use Rattle.hg_pool.specs.Keeping.{with_place, with_frame, IsFoundAt, IsFullIn, is_inside, new_frame, lent_frame, put_frame, IsJust};
+ghost use Rattle.hg_raw.specs.Frames.{bytes_of};
 ghost use Rattle.hg_pool.specs.Passing.{IsClean, HasRoom};
 ghost use Rattle.hg_io.specs.Count.{raised};
 
@@ -15,6 +16,7 @@ use crate::maps::Maps;
 use crate::places::Places;
 use hg_base::{File, FrameNo, PageFault, PageId};
 use hg_clock::Clock;
+use hg_raw::Chain;
 
 /// How often a call was answered by a fault of each device, and by each file being full.
 #[derive(Drop)]
@@ -55,7 +57,7 @@ pub(crate) struct Store {
     pub(crate) maps: Maps,
     /// How many pins are out.
     pub(crate) pins: u32,
-    /// How many frames are handed out: none yet, as no call does so.
+    /// How many frames are handed out.
     pub(crate) lent: u32,
     pub(crate) answers: Answers,
     pub(crate) counts: PoolCounts,
@@ -251,6 +253,42 @@ impl Store {
     {
         self.frames.let_go(at);
         self.pins = self.pins.saturating_sub(1);
+        self.clock.set_out(FrameNo(at as u32), false);
+    }
+
+    /// Hands the frame out, with its bytes.
+    pub(crate) fn lend(&mut self, at: usize) -> Chain
+        requires there { at < length self.old.frames.items }
+        requires free { is_busy (frame_at self.old.frames.items at) ≡ false }
+        requires most { length self.old.frames.items ≤ 65536 }
+        requires clock { at < frame_count self.old.clock }
+        requires few { self.old.lent < 65536 }
+        ensures chain { result ≡ record { region = self.old.frames.region; frames = (at, (frame_at self.old.frames.items at).bytes) ∷ [] } }
+        ensures after { self.new ≡ record (with_frame self.old at (lent_frame (frame_at self.old.frames.items at)))
+            { lent = self.old.lent + 1; clock = used self.old.clock at } }
+    {
+        let chain = self.frames.lend(at);
+        self.lent += 1;
+        self.use_frame(at);
+        chain
+    }
+
+    /// Takes a frame that was handed out home, with the bytes that it has by now.
+    pub(crate) fn take_home(&mut self, at: usize, chain: Chain, dirty: bool)
+        requires there { at < length self.old.frames.items }
+        requires lent { (frame_at self.old.frames.items at).lent ≡ true }
+        requires region { chain.region ≡ self.old.frames.region }
+        requires just { IsJust chain at }
+        requires most { length self.old.frames.items ≤ 65536 }
+        requires clock { at < frame_count self.old.clock }
+        ensures whole { length (bytes_of chain.frames at) ≡ 4096 }
+        ensures after { self.new ≡ record (with_frame self.old at (put_frame (frame_at self.old.frames.items at) (bytes_of chain.frames at) dirty))
+            { lent = self.old.lent - 1; clock = back self.old.clock at } }
+    {
+        let was = self.frames.mark(at).dirty;
+        self.frames.put(at, chain);
+        self.frames.set_dirty(at, dirty | was);
+        self.lent = self.lent.saturating_sub(1);
         self.clock.set_out(FrameNo(at as u32), false);
     }
 

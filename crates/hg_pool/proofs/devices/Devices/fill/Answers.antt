@@ -1,5 +1,4 @@
-use Rattle.std.proofs.Common.{◌≡◌, ℕ, ◌∙◌, sym, ap, List}
-use Rattle.hg_raw.specs.Frames.{bytes_of}
+use Rattle.std.proofs.Common.{ℕ, ◌∙◌, sym, ap, List}
 use Rattle.hg_pool.specs.Seen.{Frame, FramesSeen}
 use Rattle.hg_pool.specs.Picture.{frame_at}
 use Rattle.hg_pool.specs.Keeping.{set_item}

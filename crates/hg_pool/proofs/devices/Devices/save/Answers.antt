@@ -1,7 +1,6 @@
-use Rattle.std.proofs.Common.{◌≡◌, ℕ, ◌∙◌, sym, ap, refl, List, [], ◌∷◌}
-use Rattle.std.proofs.lemmas.Bool.Decides.{nat_tests}
+use Rattle.std.proofs.Common.{◌≡◌, ℕ, ◌∙◌, ap, refl, List}
 use Rattle.hg_raw.specs.Frames.{ChainSeen, bytes_of}
-use Rattle.hg_pool.specs.Seen.{Frame, FramesSeen}
+use Rattle.hg_pool.specs.Seen.{FramesSeen}
 use Rattle.hg_pool.specs.Picture.{frame_at}
 use Rattle.hg_pool.specs.Keeping.{set_item}
 use Rattle.hg_pool.proofs.Moves.{put-back, item-same, one-bytes}

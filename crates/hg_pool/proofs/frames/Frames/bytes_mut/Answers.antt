@@ -5,13 +5,11 @@ use Rattle.hg_base.specs.Lending.{refit}
 use Rattle.hg_raw.proofs.CallerLemmas.{numbers-with_page, bytes-with, bytes-with_page-other}
 use Rattle.hg_pool.specs.Keeping.{set_item}
 use Rattle.hg_pool.proofs.Moves.{length-refit}
-use Rattle.std.proofs.Common.{◌≡◌, ℕ, ◌<◌, ◌∙◌, sym, ap, subst, refl, length, List, [], ◌∷◌, true, false, arith, Fits, w32}
-use Rattle.hg_raw.specs.Frames.{RegionSeen, ChainSeen, numbers, is_in, bytes_of, home_bytes}
-use Rattle.hg_pool.specs.Seen.{Frame, FramesSeen, mark_at}
+use Rattle.std.proofs.Common.{ℕ, ◌∙◌, sym, ap, refl, length, List, true, arith}
+use Rattle.hg_raw.specs.Frames.{is_in, bytes_of}
 use Rattle.hg_pool.specs.Picture.{frame_at}
-use Rattle.hg_pool.specs.declared.frames.Mark.{Mark}
-use Rattle.hg_pool.proofs.InFrames.{count-is, there-is, below-word, below-max, home-is, home-bytes-is, has-is, out-bytes-is}
-use Rattle.hg_pool.proofs.Moves.{Knows, Leads, Joins, Splits, mark-at-here, noted, held, let-home, lent-out, come-back, rewritten}
+use Rattle.hg_pool.proofs.InFrames.{there-is, below-word, has-is, out-bytes-is}
+use Rattle.hg_pool.proofs.Moves.{Knows, mark-at-here, rewritten}
 use Rattle.hg_pool.proofs.frames.Frames.bytes_mut.Goals as goal
 
 pub index_mut-mark-requires : goal.index_mut-mark-requires

@@ -1,6 +1,5 @@
-use Rattle.std.proofs.Common.{◌≡◌, ℕ, ◌<◌, ◌||◌, ◌∙◌, sym, ap, not, arith}
-use Rattle.hg_raw.specs.Frames.{RegionSeen, is_home, is_in, numbers, given_back}
-use Rattle.hg_pool.specs.Seen.{is_away, mark_at}
+use Rattle.std.proofs.Common.{◌<◌, ◌||◌, ◌∙◌, sym, ap, not, arith}
+use Rattle.hg_raw.specs.Frames.{RegionSeen, is_in, numbers}
 use Rattle.hg_pool.proofs.InFrames.{away-is}
 use Rattle.hg_pool.proofs.frames.Frames.close.Goals as goal
 

@@ -1,4 +1,4 @@
-use Rattle.std.proofs.Common.{◌≡◌, ◌≤◌, ◌-◌, ◌+◌, ℕ, ◌++◌, ◌∙◌, refl, sym, ap, length, replicate, vec_capacity, arith}
+use Rattle.std.proofs.Common.{◌≡◌, ◌≤◌, ◌-◌, ℕ, ◌++◌, ◌∙◌, refl, ap, length, replicate, vec_capacity, arith}
 use Rattle.std.proofs.lemmas.List.{length-replicate}
 use Rattle.std.proofs.Common.{length-append}
 use Rattle.hg_pool.specs.Seen.{no_mark}

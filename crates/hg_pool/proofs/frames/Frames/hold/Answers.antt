@@ -1,13 +1,10 @@
 use Rattle.std.specs.Vec.{with_item}
 use Rattle.hg_pool.specs.declared.frames.Frames.TheInside.{Inside}
 use Rattle.std.proofs.Common.{◌||◌, if◌then◌else◌}
-use Rattle.std.proofs.Common.{◌≡◌, ℕ, ◌<◌, ◌∙◌, sym, ap, subst, refl, length, List, [], ◌∷◌, true, false, arith, Fits, w32}
-use Rattle.hg_raw.specs.Frames.{RegionSeen, ChainSeen, numbers, is_in, bytes_of, home_bytes}
-use Rattle.hg_pool.specs.Seen.{Frame, FramesSeen, mark_at}
-use Rattle.hg_pool.specs.Picture.{frame_at}
-use Rattle.hg_pool.specs.declared.frames.Mark.{Mark}
-use Rattle.hg_pool.proofs.InFrames.{count-is, there-is, below-word, below-max, home-is, home-bytes-is, has-is, out-bytes-is}
-use Rattle.hg_pool.proofs.Moves.{Knows, Leads, Joins, Splits, mark-at-here, noted, held, let-home, lent-out, come-back, rewritten}
+use Rattle.std.proofs.Common.{ℕ, ◌∙◌, sym, ap, refl, List, true, arith}
+use Rattle.hg_raw.specs.Frames.{ChainSeen, numbers, is_in, bytes_of, home_bytes}
+use Rattle.hg_pool.proofs.InFrames.{there-is, below-word, home-is}
+use Rattle.hg_pool.proofs.Moves.{Knows, Joins, mark-at-here, held}
 use Rattle.hg_pool.proofs.frames.Frames.hold.Goals as goal
 
 pub overflow_cast-at : goal.overflow_cast-at

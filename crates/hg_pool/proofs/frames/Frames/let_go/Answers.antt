@@ -3,13 +3,10 @@ use Rattle.hg_pool.specs.declared.frames.Frames.TheInside.{Inside}
 use Rattle.std.proofs.Common.{◌||◌}
 use Rattle.hg_raw.specs.Frames.{is_home, given_back}
 use Rattle.hg_pool.proofs.Moves.{or-true}
-use Rattle.std.proofs.Common.{◌≡◌, ℕ, ◌<◌, ◌∙◌, sym, ap, subst, refl, length, List, [], ◌∷◌, true, false, arith, Fits, w32}
-use Rattle.hg_raw.specs.Frames.{RegionSeen, ChainSeen, numbers, is_in, bytes_of, home_bytes}
-use Rattle.hg_pool.specs.Seen.{Frame, FramesSeen, mark_at}
-use Rattle.hg_pool.specs.Picture.{frame_at}
-use Rattle.hg_pool.specs.declared.frames.Mark.{Mark}
-use Rattle.hg_pool.proofs.InFrames.{count-is, there-is, below-word, below-max, home-is, home-bytes-is, has-is, out-bytes-is}
-use Rattle.hg_pool.proofs.Moves.{Knows, Leads, Joins, Splits, mark-at-here, noted, held, let-home, lent-out, come-back, rewritten}
+use Rattle.std.proofs.Common.{◌≡◌, ℕ, ◌∙◌, ap, refl, List, [], ◌∷◌, true, false, arith}
+use Rattle.hg_raw.specs.Frames.{ChainSeen, bytes_of, home_bytes}
+use Rattle.hg_pool.proofs.InFrames.{there-is, below-word, has-is}
+use Rattle.hg_pool.proofs.Moves.{Knows, Splits, mark-at-here, let-home}
 use Rattle.hg_pool.proofs.frames.Frames.let_go.Goals as goal
 
 pub overflow_cast-at : goal.overflow_cast-at

@@ -1,4 +1,4 @@
-use Rattle.std.proofs.Common.{◌≡◌, ◌≤◌, ◌<◌, ℕ, ◌∙◌, sym, ap, length, arith}
+use Rattle.std.proofs.Common.{◌≡◌, ◌≤◌, ◌<◌, ◌∙◌, sym, ap, length, arith}
 use Rattle.hg_pool.specs.Seen.{no_mark, mark_at}
 use Rattle.hg_pool.specs.declared.frames.Mark.{Mark}
 use Rattle.hg_pool.proofs.InFrames.{page-is, dirty-is, pinned-is, lent-is}

@@ -1,4 +1,4 @@
-use Rattle.std.proofs.Common.{◌≡◌, ℕ, ◌∙◌, ap, length, refl, List, false, None}
+use Rattle.std.proofs.Common.{◌≡◌, ℕ, ◌∙◌, ap, length, refl, List}
 use Rattle.std.proofs.lemmas.List.{length-replicate}
 use Rattle.hg_pool.specs.Seen.{no_mark, mark_at}
 use Rattle.hg_pool.specs.declared.frames.Mark.{Mark}

@@ -1,16 +1,12 @@
-use Rattle.std.proofs.Common.{Bool, Option}
-use Rattle.hg_base.specs.declared.PageId.{PageId}
+use Rattle.std.proofs.Common.{Bool}
 use Rattle.hg_pool.specs.Keeping.{set_item}
-use Rattle.hg_pool.proofs.Moves.{m-page, m-dirty}
+use Rattle.hg_pool.proofs.Moves.{m-dirty}
 use Rattle.std.specs.Vec.{with_item}
 use Rattle.hg_pool.specs.declared.frames.Frames.TheInside.{Inside}
-use Rattle.std.proofs.Common.{◌≡◌, ℕ, ◌<◌, ◌∙◌, sym, ap, subst, refl, length, List, [], ◌∷◌, true, false, arith, Fits, w32}
-use Rattle.hg_raw.specs.Frames.{RegionSeen, ChainSeen, numbers, is_in, bytes_of, home_bytes}
-use Rattle.hg_pool.specs.Seen.{Frame, FramesSeen, mark_at}
+use Rattle.std.proofs.Common.{◌∙◌, ap, refl, arith}
 use Rattle.hg_pool.specs.Picture.{frame_at}
-use Rattle.hg_pool.specs.declared.frames.Mark.{Mark}
-use Rattle.hg_pool.proofs.InFrames.{count-is, there-is, below-word, below-max, home-is, home-bytes-is, has-is, out-bytes-is}
-use Rattle.hg_pool.proofs.Moves.{Knows, Leads, Joins, Splits, mark-at-here, noted, held, let-home, lent-out, come-back, rewritten}
+use Rattle.hg_pool.proofs.InFrames.{there-is}
+use Rattle.hg_pool.proofs.Moves.{Knows, mark-at-here, noted}
 use Rattle.hg_pool.proofs.frames.Frames.set_page.Goals as goal
 
 pub index_mut-mark-requires : goal.index_mut-mark-requires

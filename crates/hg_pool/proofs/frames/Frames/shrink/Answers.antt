@@ -1,4 +1,4 @@
-use Rattle.std.proofs.Common.{◌≡◌, ◌≤◌, ℕ, ◌∙◌, refl, sym, arith}
+use Rattle.std.proofs.Common.{◌∙◌, refl, sym, arith}
 use Rattle.hg_pool.specs.declared.frames.Frames.TheInside.{Inside}
 use Rattle.hg_pool.proofs.InFrames.{count-is}
 use Rattle.hg_pool.proofs.Moves.{shrinks, resized, resized-is}

@@ -3,7 +3,7 @@ use Rattle.hg_pool.specs.declared.parts.Parts.{Parts}
 use Rattle.hg_pool.specs.Shown.{disks_of}
 use Rattle.hg_pool.specs.Resizing.{Cleaned}
 use Rattle.hg_pool.proofs.Passing.{passes-then}
-use Rattle.hg_pool.proofs.Resized.{CleansOne, cleaned-none, cleaned-more, cleaned-not}
+use Rattle.hg_pool.proofs.Resized.{cleaned-more}
 use Rattle.hg_pool.proofs.parts.Parts.clean_from.Goals as goal
 
 pub returns-in-Err-clause-passes : goal.returns-in-Err-clause-passes

@@ -2,10 +2,9 @@ use Rattle.std.proofs.Common.{None}
 use Rattle.hg_pool.specs.Shown.{owed}
 use Rattle.hg_pool.specs.Work.{Asks}
 use Rattle.hg_pool.specs.declared.PoolCounts.{PoolCounts}
-use Rattle.std.proofs.Common.{◌≡◌, ℕ, ◌+◌, ◌<◌, ◌∙◌, ap, sym, subst, refl, arith, Result, OnErr}
-use Rattle.hg_base.specs.Space.{at, key, IsMade, IsFull}
+use Rattle.std.proofs.Common.{◌≡◌, ℕ, ◌+◌, ◌<◌, ◌∙◌, ap, sym, subst, refl, arith}
+use Rattle.hg_base.specs.Space.{at, key, IsMade}
 use Rattle.hg_base.specs.declared.PageId.{PageId}
-use Rattle.hg_base.specs.declared.pages.PageFault.{PageFault}
 use Rattle.hg_pool.specs.Disks.{Disks, disks_in}
 use Rattle.hg_pool.specs.Picture.{shown, picture_of, place_at, places_in}
 use Rattle.hg_pool.specs.Sound.{IsSound}
@@ -13,7 +12,6 @@ use Rattle.hg_pool.specs.Keeping.{with_frame, with_place, new_frame, IsFullIn, i
 use Rattle.hg_pool.specs.declared.maps.Maps.{Maps}
 use Rattle.hg_pool.specs.declared.store.Store.{Store}
 use Rattle.std.proofs.lemmas.Bool.{false≢true}
-use Rattle.std.proofs.lemmas.Result.{err_from_is_err_and}
 use Rattle.hg_pool.proofs.Calling.{makes-page, made-behind}
 use Rattle.std.proofs.Common.{◌||◌, length}
 use Rattle.hg_clock.specs.Clock.{score_of}

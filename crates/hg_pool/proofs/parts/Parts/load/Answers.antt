@@ -1,5 +1,5 @@
-use Rattle.std.proofs.Common.{◌≡◌, ℕ, ◌<◌, ◌∙◌, ap, sym, subst, refl, length, length-set, arith, List, Ok, Err, None, Some, false, ◌||◌}
-use Rattle.hg_base.specs.Space.{key, at}
+use Rattle.std.proofs.Common.{◌≡◌, ℕ, ◌<◌, ◌∙◌, ap, sym, subst, refl, length, length-set, arith, List, Ok, Err, Some, false, ◌||◌}
+use Rattle.hg_base.specs.Space.{key}
 use Rattle.hg_base.specs.declared.PageId.{PageId}
 use Rattle.hg_pool.specs.Disks.{Disks, disks_in}
 use Rattle.hg_pool.specs.Clocking.{is_busy}

@@ -1,4 +1,4 @@
-use Rattle.std.proofs.Common.{◌≡◌, ℕ, ◌∙◌, ap, refl, arith, length}
+use Rattle.std.proofs.Common.{ℕ, ◌∙◌, ap, refl, arith}
 use Rattle.hg_base.specs.Space.{Space}
 use Rattle.hg_pool.specs.declared.parts.Parts.{Parts}
 use Rattle.hg_pool.specs.Shown.{disks_of, current_of}
@@ -49,3 +49,13 @@ pub returns-else-count-clause-keeps : goal.returns-else-count-clause-keeps
 returns-else-count-clause-keeps g c =
     let a : Parts g.row.M.Denot g.row.T.Denot = c.args.self.now in
     keeps-below g.M.PageDevice g.T.PageDevice a a c.args.count c.args.count c.grow.new.self (cleaned-none g.M.PageDevice g.T.PageDevice a c.args.count c.requires.whole) c.grow.ensures
+
+pub clean_from-requires-clause-free : goal.clean_from-requires-clause-free
+clean_from-requires-clause-free g c =
+    none-out (disks_of g.M.PageDevice g.T.PageDevice c.args.self.now) c.args.self.now.store c.requires.whole c.requires.none_out
+
+pub shrink-requires-clause-free : goal.shrink-requires-clause-free
+shrink-requires-clause-free g c =
+    let a : Parts g.row.M.Denot g.row.T.Denot = c.args.self.now in
+    let b : Parts g.row.M.Denot g.row.T.Denot = c.clean_from.new.self in
+    λ f _. (ready g.M.PageDevice g.T.PageDevice a b c.args.count c.requires.whole c.requires.none_out c.requires.reserved c.in_ok-clean_from.ensures.cleaned).free f

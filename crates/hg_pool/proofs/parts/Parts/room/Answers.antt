@@ -1,4 +1,4 @@
-use Rattle.std.proofs.Common.{◌≡◌, ℕ, ◌+◌, ◌∙◌, ap, sym, subst, None, Ok, Err, OnErr, arith, Result}
+use Rattle.std.proofs.Common.{◌≡◌, ℕ, ◌∙◌, ap, sym, subst, None, Ok, Err, OnErr, Result}
 use Rattle.hg_base.specs.declared.pages.PageFault.{PageFault}
 use Rattle.hg_pool.specs.Disks.{Disks, disks_in}
 use Rattle.hg_pool.specs.Passing.{Passes, AreEmpty}
@@ -8,7 +8,7 @@ use Rattle.hg_pool.proofs.Passing.{moved-on, passes-then, passes-err, passes-ok}
 use Rattle.hg_pool.specs.Picture.{frame_at}
 use Rattle.hg_clock.specs.Clock.{ClockState, Takes}
 use Rattle.hg_pool.specs.Clocking.{is_busy}
-use Rattle.std.proofs.Common.{length, IfErr}
+use Rattle.std.proofs.Common.{length}
 use Rattle.std.specs.Prelude.{◌<◌, ◌-◌, ◌^◌}
 use Rattle.hg_pool.specs.Shown.{page_in, SameFrames}
 use Rattle.hg_pool.specs.Work.{evicted}

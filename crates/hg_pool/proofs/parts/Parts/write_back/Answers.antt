@@ -1,4 +1,4 @@
-use Rattle.std.proofs.Common.{◌≡◌, ℕ, ◌<◌, ◌∙◌, ap, sym, subst, refl, length, Ok, Err, false}
+use Rattle.std.proofs.Common.{◌≡◌, ℕ, ◌∙◌, ap, sym, subst, refl, Ok, Err, false}
 use Rattle.hg_pool.specs.Disks.{Disks, disks_in}
 use Rattle.hg_pool.specs.Picture.{frame_at}
 use Rattle.hg_pool.specs.Clocking.{is_busy}

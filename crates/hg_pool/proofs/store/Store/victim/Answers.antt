@@ -1,4 +1,4 @@
-use Rattle.std.proofs.Common.{◌≡◌, ℕ, ◌<◌, ◌∙◌, sym, ap, refl, arith}
+use Rattle.std.proofs.Common.{◌∙◌, sym, refl, arith}
 use Rattle.hg_pool.proofs.Counting.{some-free}
 use Rattle.hg_pool.proofs.store.Store.victim.Goals as goal
 
