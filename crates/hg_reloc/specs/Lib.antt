@@ -5,3 +5,4 @@ pub mod Checks
 pub mod Standing
 pub mod StandingLaws
 pub mod WritingLaws
+pub mod HeapWritingLaws

@@ -108,7 +108,7 @@ length-mapped : (f : ℕ) (xs : List ℕ) → length (map (λ at. f * 4096 + at)
 length-mapped f [] = refl
 length-mapped f (x ∷ xs) = omega (arith, length-mapped f xs)
 
-length-addresses : (layout : List (List Object)) (fs : List ℕ) → length fs ≡ length layout → length (addresses_in layout fs) ≡ length (flat_map (λ page. page) layout)
+pub length-addresses : (layout : List (List Object)) (fs : List ℕ) → length fs ≡ length layout → length (addresses_in layout fs) ≡ length (flat_map (λ page. page) layout)
 length-addresses [] fs h = refl
 length-addresses (page ∷ layout) [] h = absurd (omega arith)
 length-addresses (page ∷ layout) (f ∷ fs) h =
@@ -150,7 +150,7 @@ all_first : (P : Object → Type 0) (xs ys : List Object) → AllByRecursion P (
 all_first P [] ys h = (tt, h)
 all_first P (x ∷ xs) ys h = let r = all_first P xs ys h.1 in ((h.0, r.0), r.1)
 
-all_pages : (P : Object → Type 0) (layout : List (List Object)) → AllByRecursion P (flat_map (λ page. page) layout) → AllByRecursion (AllByRecursion P) layout
+pub all_pages : (P : Object → Type 0) (layout : List (List Object)) → AllByRecursion P (flat_map (λ page. page) layout) → AllByRecursion (AllByRecursion P) layout
 all_pages P [] h = tt
 all_pages P (page ∷ layout) h = let r = all_first P page (flat_map (λ p. p) layout) h in (r.0, all_pages P layout r.1)
 
@@ -176,7 +176,7 @@ pages_move m a b roots (os ∷ layout) (f ∷ fs) (g ∷ gs) (old ∷ olds) [] h
 pages_move m a b roots (os ∷ layout) (f ∷ fs) (g ∷ gs) (old ∷ olds) (new ∷ news) h four r o w =
     (one_moves m a b roots os f g old new h.0 four r o.0 w.0, pages_move m a b [] layout fs gs olds news h.1 (inr refl) tt o.1 w.1)
 
-same_many : (a : ℕ → ℕ) (roots : List (Option ℕ)) (layout : List (List Object)) (fs : List ℕ) (pages : List (List ℕ)) → AreHeapPages a roots layout fs pages → length fs ≡ length layout
+pub same_many : (a : ℕ → ℕ) (roots : List (Option ℕ)) (layout : List (List Object)) (fs : List ℕ) (pages : List (List ℕ)) → AreHeapPages a roots layout fs pages → length fs ≡ length layout
 same_many a roots [] [] [] h = refl
 same_many a roots [] [] (p ∷ pages) h = absurd h
 same_many a roots [] (f ∷ fs) pages h = absurd h
