@@ -3,7 +3,7 @@ use Rattle.std.specs.Prelude.{◌≡◌, ◌≢◌, ℕ, ◌+◌, ◌-◌, ◌*�
 use Rattle.std.specs.List.{AllByRecursion, flat_map, sum_by}
 use Rattle.std.specs.Int.{w16, w64, to_le_bytes}
 use Rattle.std.proofs.Common.{inl, inr, sym, ◌∙◌, ap, subst, refl, arith, length-append, append_assoc}
-use Rattle.std.proofs.lemmas.List.Sums.{sum_by-append, sum_by-cons}
+use Rattle.std.proofs.lemmas.Bool.{lt-ltb, le-ltb}
 use borrow.Rule.Slice.PartMut.{put_mid}
 use Rattle.hg_base.specs.Content.{Object, row_object, directory, Objects, placed, object_size, page_end, offsets_from, addresses_in, address_of}
 use Rattle.hg_base.specs.HeapContent.{with_last, with_object, next_address, changed_on, changed_in}
@@ -11,7 +11,7 @@ use Rattle.hg_base.specs.HeapFacts.{LeadsBelow, IsObject, AreObjects, AreWellPla
 use Rattle.hg_base.specs.HeapLaws.{addresses_in-last}
 use Rattle.hg_base.specs.HeapPage.{link_bytes, object_bytes, roots_bytes, IsHeapPage, AreHeapPages, Stands}
 use Rattle.hg_reloc.specs.StandingLaws.{same_many, length-addresses, all_pages}
-use Rattle.hg_reloc.specs.WritingLaws.{IsPartOf, root_written, object_written, object_placed, length-object}
+use Rattle.hg_reloc.specs.WritingLaws.{IsPartOf, root_written, object_written, object_placed, payload_part, word_part}
 
 -- Addresses that are the same for all links of an object make the same bytes.
 abbrev pub SameLink : (ℕ → ℕ) → (ℕ → ℕ) → Option ℕ → Type 0
@@ -170,3 +170,89 @@ stands_placed page layout roots x fs pages w i room s =
           (with_last_pages (SameLinks a b) page layout x all (object_below a b count count x same (omega arith) i))
           (placed_pages a roots page layout x fs pages (let f = w.four in omega arith) room s.bytes);
     }
+
+-- An object changed in a part of its bytes, on the page on which it stands.
+abbrev pub page_changed : (List ℕ → List ℕ) → ℕ → List (List ℕ) → List (List ℕ)
+page_changed f n [] = []
+page_changed f zero (page ∷ pages) = f page ∷ pages
+page_changed f (suc n) (page ∷ pages) = page ∷ page_changed f n pages
+
+offsets_same : (at : ℕ) (front behind : List Object) (x new : Object) → object_size new ≡ object_size x → offsets_from at (front ++ new ∷ behind) ≡ offsets_from at (front ++ x ∷ behind)
+offsets_same at [] behind x new e = ap (λ n. at ∷ offsets_from (at + n) behind) e
+offsets_same at (o ∷ front) behind x new e = ap (λ q. at ∷ q) (offsets_same (at + object_size o) front behind x new e)
+
+addresses_same : (before after : List (List Object)) (front behind : List Object) (x new : Object) (fs : List ℕ) → object_size new ≡ object_size x
+    → addresses_in (before ++ (front ++ new ∷ behind) ∷ after) fs ≡ addresses_in (before ++ (front ++ x ∷ behind) ∷ after) fs
+addresses_same [] after front behind x new [] e = refl
+addresses_same [] after front behind x new (f ∷ fs) e = ap (λ q. map (λ at. f * 4096 + at) q ++ addresses_in after fs) (offsets_same 64 front behind x new e)
+addresses_same (page ∷ before) after front behind x new [] e = refl
+addresses_same (page ∷ before) after front behind x new (f ∷ fs) e =
+    ap (λ q. map (λ at. f * 4096 + at) (offsets_from 64 page) ++ q) (addresses_same before after front behind x new fs e)
+
+changed_pages : (a : ℕ → ℕ) (roots : List (Option ℕ)) (before after : List (List Object)) (front behind : List Object) (x new : Object) (fs : List ℕ) (pages : List (List ℕ)) (at n : ℕ) (bytes : List ℕ)
+    → 8 * length roots ≤ 48 → IsPartOf a x new at n bytes → AreHeapPages a roots (before ++ (front ++ x ∷ behind) ∷ after) fs pages
+    → AreHeapPages a roots (before ++ (front ++ new ∷ behind) ∷ after) fs (page_changed (λ page. put_mid (page_end front + at) n page bytes) (length before) pages)
+changed_pages a roots [] after front behind x new [] pages at n bytes four p h = absurd h
+changed_pages a roots [] after front behind x new (f ∷ fs) [] at n bytes four p h = absurd h
+changed_pages a roots [] after front behind x new (f ∷ fs) (page ∷ pages) at n bytes four p h =
+    (object_written a roots front behind x new f page at n bytes four p h.0, h.1)
+changed_pages a roots (os ∷ before) after front behind x new [] pages at n bytes four p h = absurd h
+changed_pages a roots (os ∷ before) after front behind x new (f ∷ fs) [] at n bytes four p h = absurd h
+changed_pages a roots (os ∷ before) after front behind x new (f ∷ fs) (page ∷ pages) at n bytes four p h =
+    (h.0, changed_pages a [] before after front behind x new fs pages at n bytes (omega arith) p h.1)
+
+pub stands_changed : (roots : List (Option ℕ)) (before after : List (List Object)) (front behind : List Object) (x new : Object) (fs : List ℕ) (pages : List (List ℕ)) (at n : ℕ) (bytes : List ℕ)
+    → length roots ≡ 4 → IsPartOf (address_of (record { layout = before ++ (front ++ x ∷ behind) ∷ after; roots = roots }) fs) x new at n bytes
+    → Stands (record { layout = before ++ (front ++ x ∷ behind) ∷ after; roots = roots }) fs pages
+    → Stands (record { layout = before ++ (front ++ new ∷ behind) ∷ after; roots = roots }) fs
+    (page_changed (λ page. put_mid (page_end front + at) n page bytes) (length before) pages)
+stands_changed roots before after front behind x new fs pages at n bytes four p s = record {
+  apart = s.apart;
+  below = s.below;
+  bytes = subst (λ (q : List ℕ). AreHeapPages (λ k. slice_index_or q k 0) roots (before ++ (front ++ new ∷ behind) ∷ after) fs
+      (page_changed (λ page. put_mid (page_end front + at) n page bytes) (length before) pages))
+      (sym (addresses_same before after front behind x new fs p.same))
+      (changed_pages (address_of (record { layout = before ++ (front ++ x ∷ behind) ∷ after; roots = roots }) fs) roots before after front behind x new fs pages at n bytes (omega arith) p s.bytes);
+}
+
+-- another payload of a row, as long as the one before, and another word of a directory
+pub stands_payload : (roots : List (Option ℕ)) (before after : List (List Object)) (front behind : List Object) (payload bytes : List ℕ) (link : Option ℕ) (fs : List ℕ) (pages : List (List ℕ))
+    → length roots ≡ 4 → length bytes ≡ length payload
+    → Stands (record { layout = before ++ (front ++ row_object payload link ∷ behind) ∷ after; roots = roots }) fs pages
+    → Stands (record { layout = before ++ (front ++ row_object bytes link ∷ behind) ∷ after; roots = roots }) fs
+    (page_changed (λ page. put_mid (page_end front + 16) (length payload) page bytes) (length before) pages)
+stands_payload roots before after front behind payload bytes link fs pages four e s =
+    stands_changed roots before after front behind (row_object payload link) (row_object bytes link) fs pages 16 (length payload) bytes four
+    (payload_part (address_of (record { layout = before ++ (front ++ row_object payload link ∷ behind) ∷ after; roots = roots }) fs) payload bytes link e) s
+
+pub stands_word : (roots : List (Option ℕ)) (before after : List (List Object)) (front behind : List Object) (links : List (Option ℕ)) (k : ℕ) (to : Option ℕ) (fs : List ℕ) (pages : List (List ℕ))
+    → length roots ≡ 4 → k < length links
+    → Stands (record { layout = before ++ (front ++ directory links ∷ behind) ∷ after; roots = roots }) fs pages
+    → Stands (record { layout = before ++ (front ++ directory (slice_set links k to) ∷ behind) ∷ after; roots = roots }) fs
+    (page_changed (λ page. put_mid (page_end front + (16 + 8 * k)) 8 page
+    (link_bytes (address_of (record { layout = before ++ (front ++ directory links ∷ behind) ∷ after; roots = roots }) fs) to)) (length before) pages)
+stands_word roots before after front behind links k to fs pages four h s =
+    let a : ℕ → ℕ = address_of (record { layout = before ++ (front ++ directory links ∷ behind) ∷ after; roots = roots }) fs in
+    stands_changed roots before after front behind (directory links) (directory (slice_set links k to)) fs pages (16 + 8 * k) 8 (link_bytes a to) four (word_part a links k to h) s
+
+-- The n-th of all objects is this one: those before it are so many, and it is the one that is changed.
+changed_on-there : (g : Object → Object) (front behind : List Object) (x : Object) → changed_on g (length front) (front ++ x ∷ behind) ≡ front ++ g x ∷ behind
+changed_on-there g [] behind x = refl
+changed_on-there g (o ∷ front) behind x = ap (λ q. o ∷ q) (changed_on-there g front behind x)
+
+pub changed_in-there : (g : Object → Object) (before after : List (List Object)) (front behind : List Object) (x : Object)
+    → changed_in g (length (flat_map (λ page. page) before) + length front) (before ++ (front ++ x ∷ behind) ∷ after) ≡ before ++ (front ++ g x ∷ behind) ∷ after
+changed_in-there g [] after front behind x =
+    let n : 0 + length front ≡ length front = omega arith in
+    let l : nat_lt (0 + length front) (length (front ++ x ∷ behind)) ≡ true = lt-ltb (0 + length front) (length (front ++ x ∷ behind)) (omega (arith, length-append front (x ∷ behind))) in
+    ap (λ b. if b then changed_on g (0 + length front) (front ++ x ∷ behind) ∷ after else (front ++ x ∷ behind) ∷ changed_in g (0 + length front - length (front ++ x ∷ behind)) after) l
+    ∙ ap (λ q. changed_on g q (front ++ x ∷ behind) ∷ after) n
+    ∙ ap (λ q. q ∷ after) (changed_on-there g front behind x)
+changed_in-there g (page ∷ before) after front behind x =
+    let all : length (page ++ flat_map (λ p. p) before) ≡ length page + length (flat_map (λ p. p) before) = length-append page (flat_map (λ p. p) before) in
+    let k : ℕ = length (page ++ flat_map (λ p. p) before) + length front in
+    let l : nat_lt k (length page) ≡ false = le-ltb k (length page) (omega arith) in
+    let n : k - length page ≡ length (flat_map (λ p. p) before) + length front = omega arith in
+    ap (λ b. if b then changed_on g k page ∷ (before ++ (front ++ x ∷ behind) ∷ after) else page ∷ changed_in g (k - length page) (before ++ (front ++ x ∷ behind) ∷ after)) l
+    ∙ ap (λ q. page ∷ changed_in g q (before ++ (front ++ x ∷ behind) ∷ after)) n
+    ∙ ap (λ q. page ∷ q) (changed_in-there g before after front behind x)
