@@ -6,3 +6,4 @@ pub mod Standing
 pub mod StandingLaws
 pub mod WritingLaws
 pub mod HeapWritingLaws
+pub mod PlaceLaws
