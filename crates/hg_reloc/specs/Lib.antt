@@ -7,3 +7,4 @@ pub mod StandingLaws
 pub mod WritingLaws
 pub mod HeapWritingLaws
 pub mod PlaceLaws
+pub mod FittingLaws

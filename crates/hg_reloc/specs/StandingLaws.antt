@@ -100,11 +100,11 @@ nth_small (x ∷ xs) zero h = h.0
 nth_small (x ∷ xs) (suc n) h = nth_small xs n h.1
 
 -- each object has an address, and it is small
-length-offsets : (at : ℕ) (os : List Object) → length (offsets_from at os) ≡ length os
+pub length-offsets : (at : ℕ) (os : List Object) → length (offsets_from at os) ≡ length os
 length-offsets at [] = refl
 length-offsets at (o ∷ os) = omega (arith, length-offsets (at + object_size o) os)
 
-length-mapped : (f : ℕ) (xs : List ℕ) → length (map (λ at. f * 4096 + at) xs) ≡ length xs
+pub length-mapped : (f : ℕ) (xs : List ℕ) → length (map (λ at. f * 4096 + at) xs) ≡ length xs
 length-mapped f [] = refl
 length-mapped f (x ∷ xs) = omega (arith, length-mapped f xs)
 
