@@ -1,15 +1,15 @@
 -- A page of a heap, with its objects as bytes.
-use Rattle.std.specs.Prelude.{◌≡◌, ◌≢◌, ℕ, ◌+◌, ◌-◌, ◌*◌, ◌/◌, ◌%◌, ◌<◌, ◌≤◌, ◌^◌, ◌==◌, ◌⊎◌, if◌then◌else◌, zero, suc, List, [], ◌∷◌, ◌++◌, length, take, drop, replicate, map, slice_index, Option, None, Some}
+use Rattle.std.specs.Prelude.{◌≡◌, ℕ, ◌+◌, ◌-◌, ◌*◌, ◌/◌, ◌<◌, ◌≤◌, ◌^◌, ◌⊎◌, suc, List, [], ◌∷◌, ◌++◌, length, take, drop, replicate, map, slice_index, Option, None, Some}
 use Rattle.std.specs.List.{AllByRecursion, flat_map, concat, sum_by}
-use Rattle.std.specs.Int.{w16, w32, w64, from_le_bytes, to_le_bytes}
-use Rattle.std.proofs.Common.{inl, inr, sym, ◌∙◌, ap, subst, refl, arith, length-append, length-take, length-drop, append_assoc, append-nil}
+use Rattle.std.specs.Int.{w16, w64, from_le_bytes, to_le_bytes}
+use Rattle.std.proofs.Common.{inl, inr, sym, ◌∙◌, ap, subst, refl, arith, length-append, length-take, append_assoc}
 use Rattle.std.proofs.lemmas.Nat.{from_le_bytes-to_le_bytes_2, from_le_bytes-to_le_bytes_8}
-use Rattle.std.proofs.lemmas.List.{take_at, drop_at, take-append-drop, drop-drop, drop-take, length-replicate, take-take, get_or-take, drop-append-le}
+use Rattle.std.proofs.lemmas.List.{take_at, drop_at, drop-drop, drop-take, length-replicate, take-take, get_or-take, drop-append-le}
 use Rattle.std.proofs.lemmas.List.Sums.{sum_by-cons}
 use Rattle.hg_base.specs.Content.{Object, row_object, directory, payload_length, object_size, page_end}
-use Rattle.hg_base.specs.HeapPage.{link_word, link_bytes, object_kind, object_link, payload_bytes, object_bytes, roots_bytes, IsHeapPage}
+use Rattle.hg_base.specs.HeapPage.{link_word, link_bytes, object_kind, object_link, payload_bytes, object_bytes, IsHeapPage}
 use Rattle.hg_reloc.specs.Moves.{Moves, moved_word}
-use Rattle.hg_reloc.specs.Blocks.{number, word, words, kind, size_for, end, IsBlock, HasLength, HasObjects, word_count, moved_words, moved_block, moved_page, IsMoved}
+use Rattle.hg_reloc.specs.Blocks.{number, word, kind, size_for, end, IsBlock, HasObjects, word_count, moved_words, moved_block, moved_page, IsMoved}
 use Rattle.hg_reloc.specs.Standing.{MovesLink, MovesLinks, MovesPage, MovesPages}
 use Rattle.hg_reloc.proofs.Unique.{same_objects}
 

@@ -1,12 +1,12 @@
 -- Each page of a heap that stands is taken by the checks of its bytes.
-use Rattle.std.specs.Prelude.{◌≡◌, ◌≢◌, ℕ, ◌+◌, ◌-◌, ◌*◌, ◌/◌, ◌%◌, ◌<◌, ◌≤◌, ◌^◌, ◌==◌, ◌||◌, ◌⊎◌, zero, suc, Bool, true, false, List, [], ◌∷◌, ◌++◌, length, map, slice_index_or, Option, None, Some, if◌then◌else◌, ⊤}
+use Rattle.std.specs.Prelude.{◌≡◌, ◌≢◌, ℕ, ◌+◌, ◌-◌, ◌*◌, ◌/◌, ◌%◌, ◌<◌, ◌≤◌, ◌^◌, ◌==◌, ◌||◌, ◌⊎◌, zero, suc, Bool, true, false, List, [], ◌∷◌, ◌++◌, length, map, slice_index_or, Option, None, Some, ⊤}
 use Rattle.std.specs.List.{AllByRecursion, flat_map, sum_by}
 use Rattle.std.proofs.Common.{inl, inr, sym, ◌∙◌, ap, subst, refl, arith, length-append, append_assoc}
 use Rattle.std.proofs.lemmas.Bool.{eq-eqb, cases_lt}
 use Rattle.std.proofs.lemmas.List.Sums.{sum_by-cons, sum_by-append}
-use Rattle.hg_base.specs.Content.{Object, row_object, directory, Objects, placed, object_size, page_end, offsets_from, addresses_in, address_of}
+use Rattle.hg_base.specs.Content.{Object, row_object, directory, Objects, object_size, page_end, offsets_from, addresses_in, address_of}
 use Rattle.hg_base.specs.HeapFacts.{LeadsBelow, IsObject, AreObjects, AreWellPlaced}
-use Rattle.hg_base.specs.HeapPage.{IsHeapPage, AreHeapPages, Stands}
+use Rattle.hg_base.specs.HeapPage.{AreHeapPages, Stands}
 use Rattle.hg_base.specs.Lines.{AreApart, has_page}
 use Rattle.hg_reloc.specs.Checks.{Fits}
 use Rattle.hg_reloc.specs.Standing.{LinkFits, LinksFit, AllLinksFit, FitsPage}

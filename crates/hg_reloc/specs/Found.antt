@@ -1,5 +1,5 @@
 -- What a reader of a heap's page finds at a place of it.
-use Rattle.std.specs.Prelude.{◌≡◌, ℕ, ◌+◌, ◌-◌, ◌%◌, ◌<◌, ◌≤◌, List, [], ◌∷◌, ◌++◌, length, take, drop, Option, None, Some, IfSome, MatchOption}
+use Rattle.std.specs.Prelude.{◌≡◌, ℕ, ◌+◌, ◌%◌, ◌<◌, ◌≤◌, List, [], ◌∷◌, ◌++◌, length, take, drop, Option, MatchOption}
 use Rattle.std.specs.List.{concat}
 use Rattle.hg_reloc.specs.Blocks.{number, word, kind, end, IsBlock, HasObjects}
 use Rattle.hg_reloc.specs.declared.object.Object.{Object}

@@ -1,15 +1,15 @@
 -- What the writes of a heap do to the pages in which its objects stand.
-use Rattle.std.specs.Prelude.{◌≡◌, ◌≢◌, ℕ, ◌+◌, ◌-◌, ◌*◌, ◌<◌, ◌≤◌, ◌==◌, ◌⊎◌, zero, suc, Bool, true, false, List, [], ◌∷◌, ◌++◌, length, map, replicate, take, drop, slice_set, slice_index_or, nat_lt, Option, None, Some, if◌then◌else◌, ⊤}
-use Rattle.std.specs.List.{AllByRecursion, flat_map, sum_by}
+use Rattle.std.specs.Prelude.{◌≡◌, ℕ, ◌+◌, ◌-◌, ◌*◌, ◌<◌, ◌≤◌, zero, suc, true, false, List, [], ◌∷◌, ◌++◌, length, map, replicate, slice_set, slice_index_or, nat_lt, Option, None, Some, if◌then◌else◌, ⊤}
+use Rattle.std.specs.List.{AllByRecursion, flat_map}
 use Rattle.std.specs.Int.{w16, w64, to_le_bytes}
-use Rattle.std.proofs.Common.{inl, inr, sym, ◌∙◌, ap, subst, refl, arith, length-append, append_assoc}
+use Rattle.std.proofs.Common.{sym, ◌∙◌, ap, subst, refl, arith, length-append}
 use Rattle.std.proofs.lemmas.Bool.{lt-ltb, le-ltb}
 use borrow.Rule.Slice.PartMut.{put_mid}
 use Rattle.hg_base.specs.Content.{Object, row_object, directory, Objects, placed, object_size, page_end, offsets_from, addresses_in, address_of}
 use Rattle.hg_base.specs.HeapContent.{with_last, with_object, next_address, changed_on, changed_in}
 use Rattle.hg_base.specs.HeapFacts.{LeadsBelow, IsObject, AreObjects, AreWellPlaced}
 use Rattle.hg_base.specs.HeapLaws.{addresses_in-last}
-use Rattle.hg_base.specs.HeapPage.{link_bytes, object_bytes, roots_bytes, IsHeapPage, AreHeapPages, Stands}
+use Rattle.hg_base.specs.HeapPage.{link_bytes, object_bytes, IsHeapPage, AreHeapPages, Stands}
 use Rattle.hg_reloc.specs.StandingLaws.{same_many, length-addresses, all_pages}
 use Rattle.hg_reloc.specs.WritingLaws.{IsPartOf, root_written, object_written, object_placed, payload_part, word_part}
 

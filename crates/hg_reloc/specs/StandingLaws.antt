@@ -1,6 +1,6 @@
 -- The pages of a heap stand in other frames once each of them is rewritten and names its new frame, also
 -- where they land in one another's old frames.
-use Rattle.std.specs.Prelude.{◌≡◌, ◌≢◌, ℕ, ◌+◌, ◌-◌, ◌*◌, ◌/◌, ◌%◌, ◌<◌, ◌≤◌, ◌^◌, ◌==◌, ◌⊎◌, zero, suc, List, [], ◌∷◌, ◌++◌, length, map, take, drop, slice_index_or, Option, None, Some, if◌then◌else◌, ⊤}
+use Rattle.std.specs.Prelude.{◌≡◌, ◌≢◌, ℕ, ◌+◌, ◌*◌, ◌/◌, ◌%◌, ◌<◌, ◌≤◌, ◌^◌, ◌⊎◌, zero, suc, List, [], ◌∷◌, ◌++◌, length, map, slice_index_or, Option, None, Some, if◌then◌else◌, ⊤}
 use Rattle.std.specs.List.{AllByRecursion, flat_map, sum_by}
 use Rattle.std.specs.Int.{w32, to_le_bytes}
 use Rattle.std.proofs.Common.{inl, inr, sym, ◌∙◌, ap, subst, refl, arith, length-append}
@@ -15,7 +15,7 @@ use Rattle.hg_base.specs.HeapPage.{IsHeapPage, AreHeapPages, Stands}
 use Rattle.hg_base.specs.Lines.{AreApart}
 use Rattle.hg_base.specs.Parts.{below, above, within, length-written}
 use Rattle.hg_reloc.specs.Moves.{Moves, frame_after, moved_word}
-use Rattle.hg_reloc.specs.Standing.{MovesLink, MovesLinks, MovesPage, MovesPages}
+use Rattle.hg_reloc.specs.Standing.{MovesLink, MovesLinks, MovesPages}
 
 -- the map leads each of these frames to the one beside it
 abbrev pub LeadsTo : Moves → List ℕ → List ℕ → Type 0

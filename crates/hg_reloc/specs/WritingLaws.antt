@@ -1,15 +1,15 @@
 -- What the writes of a heap do to one of its pages: another root, another word of a directory, another
 -- payload, one object more. `page` is a page of these objects, and the writes go where they stand.
-use Rattle.std.specs.Prelude.{◌≡◌, ℕ, ◌+◌, ◌-◌, ◌*◌, ◌/◌, ◌<◌, ◌≤◌, zero, suc, List, [], ◌∷◌, ◌++◌, length, take, drop, replicate, slice_set, Option, None, Some}
+use Rattle.std.specs.Prelude.{◌≡◌, ℕ, ◌+◌, ◌-◌, ◌*◌, ◌/◌, ◌<◌, ◌≤◌, zero, suc, List, [], ◌∷◌, ◌++◌, length, take, drop, replicate, slice_set, Option, None}
 use Rattle.std.specs.List.{flat_map, sum_by}
 use Rattle.std.specs.Int.{w16, w32, to_le_bytes}
-use Rattle.std.proofs.Common.{sym, ◌∙◌, ap, subst, refl, arith, length-append, append_assoc, append-nil}
-use Rattle.std.proofs.lemmas.List.{take_at, drop_at, take-append-drop, drop-drop, length-replicate, set_split, replicate-append-replicate}
+use Rattle.std.proofs.Common.{sym, ◌∙◌, ap, refl, arith, length-append, append_assoc, append-nil}
+use Rattle.std.proofs.lemmas.List.{take_at, drop_at, take-append-drop, drop-drop, length-replicate, replicate-append-replicate}
 use Rattle.std.proofs.lemmas.List.Concat.{flat_map-append}
 use Rattle.std.proofs.lemmas.List.Sums.{sum_by-cons, sum_by-append}
 use Rattle.std.proofs.Math.Seq.{take-add}
 use borrow.Rule.Slice.PartMut.{put_mid}
-use Rattle.hg_base.specs.Content.{Object, row_object, directory, payload_length, object_size, page_end}
+use Rattle.hg_base.specs.Content.{Object, row_object, directory, object_size, page_end}
 use Rattle.hg_base.specs.HeapPage.{link_bytes, object_bytes, roots_bytes, IsHeapPage}
 
 -- the page of these objects, byte by byte
