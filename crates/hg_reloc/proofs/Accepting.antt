@@ -1,20 +1,20 @@
 -- A page of a heap whose links fit is right.
-use Rattle.std.specs.Prelude.{◌≡◌, ◌≢◌, ℕ, ◌+◌, ◌-◌, ◌*◌, ◌/◌, ◌%◌, ◌<◌, ◌≤◌, ◌^◌, ◌==◌, if◌then◌else◌, ◌⊎◌, zero, suc, List, [], ◌∷◌, ◌++◌, length, take, drop, replicate, map, Option, None, Some}
-use Rattle.std.specs.List.{AllByRecursion, flat_map, concat, sum_by}
-use Rattle.std.specs.Int.{w16, w32, w64, from_le_bytes, to_le_bytes}
-use Rattle.std.proofs.Common.{inl, inr, sym, ◌∙◌, ap, subst, refl, arith, length-append, append_assoc}
+use Rattle.std.specs.Prelude.{◌≡◌, ℕ, ◌+◌, ◌-◌, ◌*◌, ◌/◌, ◌%◌, ◌<◌, ◌≤◌, ◌^◌, if◌then◌else◌, ◌⊎◌, zero, suc, List, [], ◌∷◌, ◌++◌, length, take, drop, replicate, map, Option, None, Some}
+use Rattle.std.specs.List.{AllByRecursion, flat_map, sum_by}
+use Rattle.std.specs.Int.{w32, w64, from_le_bytes, to_le_bytes}
+use Rattle.std.proofs.Common.{inl, inr, sym, ◌∙◌, ap, subst, refl, arith, append_assoc}
 use Rattle.std.proofs.lemmas.Nat.{from_le_bytes-to_le_bytes_4}
 use Rattle.std.proofs.lemmas.Bool.Decides.{eqb_tells}
-use Rattle.std.proofs.lemmas.List.{take-take, drop-drop, drop-take, drop_at}
+use Rattle.std.proofs.lemmas.List.{take-take, drop-drop, drop-take}
 use Rattle.std.proofs.lemmas.List.Sums.{sum_by-cons}
-use Rattle.hg_base.specs.Content.{Object, row_object, directory, payload_length, object_size, page_end, offsets_from}
-use Rattle.hg_base.specs.HeapPage.{link_word, link_bytes, object_link, object_bytes, roots_bytes, IsHeapPage}
+use Rattle.hg_base.specs.Content.{Object, row_object, directory, payload_length, object_size, offsets_from}
+use Rattle.hg_base.specs.HeapPage.{link_word, link_bytes, object_link, object_bytes, IsHeapPage}
 use Rattle.hg_reloc.specs.Moves.{Moves, moved_word}
-use Rattle.hg_reloc.specs.Blocks.{number, frame_number, word, words, kind, frame, end, IsBlock, HasObjects}
-use Rattle.hg_reloc.specs.Checks.{starts, Fits, MayLead, IsLinked, AreLinkedFrom, AreLinked, IsRight}
-use Rattle.hg_reloc.specs.Standing.{MovesLink, MovesLinks, MovesPage, LinkFits, LinksFit, AllLinksFit, FitsPage}
+use Rattle.hg_reloc.specs.Blocks.{number, frame_number, word, words, frame, HasObjects}
+use Rattle.hg_reloc.specs.Checks.{starts, MayLead, IsLinked, AreLinkedFrom, IsRight}
+use Rattle.hg_reloc.specs.Standing.{MovesLink, MovesLinks, LinkFits, LinksFit, AllLinksFit, FitsPage}
 use Rattle.hg_reloc.proofs.Exact.{exact_right, exact_wrong}
-use Rattle.hg_reloc.proofs.Pages.{has_objects, head_of, body, object_parts, length-object, number-object, word-link}
+use Rattle.hg_reloc.proofs.Pages.{has_objects, body, object_parts, length-object, number-object, word-link}
 
 -- a map that moves nothing, under which the objects of a page are known
 abbrev still : Moves

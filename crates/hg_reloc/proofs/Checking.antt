@@ -1,15 +1,15 @@
 -- A walk over the objects of a page.
-use Rattle.std.specs.Prelude.{◌≡◌, ◌≢◌, ℕ, ◌+◌, ◌-◌, ◌*◌, ◌/◌, ◌%◌, ◌<◌, ◌≤◌, ◌==◌, ◌||◌, zero, suc, Bool, true, false, List, [], ◌∷◌, ◌++◌, length, take, drop, replicate, slice_index, slice_index_or, slice_set, Result, Ok, Err}
-use Rattle.std.specs.Int.{w16, w32, w64, from_le_bytes}
+use Rattle.std.specs.Prelude.{◌≡◌, ◌≢◌, ℕ, ◌+◌, ◌*◌, ◌/◌, ◌%◌, ◌<◌, ◌≤◌, ◌==◌, ◌||◌, Bool, true, false, List, [], ◌∷◌, ◌++◌, length, take, drop, replicate, slice_index, slice_index_or, slice_set, Ok}
+use Rattle.std.specs.Int.{w16, from_le_bytes}
 use Rattle.std.specs.List.{AllByRecursion, concat}
 use Rattle.std.proofs.Common.{inl, inr, sym, ◌∙◌, ap, subst, refl, arith, length-append, length-take, length-drop, append_assoc, append-nil}
 use Rattle.std.proofs.lemmas.Bool.{cases_eq, eq-eqb, ne_eqb}
-use Rattle.std.proofs.lemmas.List.{take-append-drop, drop-drop, get_or-drop, length-set, get_or-set_same, get_or-set_other, get_or-replicate, length-replicate}
+use Rattle.std.proofs.lemmas.List.{take-append-drop, drop-drop, length-set, get_or-set_same, get_or-set_other, get_or-replicate, length-replicate}
 use Rattle.hg_base.specs.Lines.{has_page}
 use Rattle.hg_base.specs.declared.Check.{Check}
 use Rattle.hg_base.specs.declared.Check.TheVariants.{Kind, Size, Frame, Link, Level, Order, RowBytes}
-use Rattle.hg_reloc.specs.Blocks.{number, word, words, frame, frame_number, kind, size_for, end, IsKind, HasLength, IsBlock, HasObjects}
-use Rattle.hg_reloc.specs.Checks.{Marks, starts, HasHead, LieTo, HasRoom, HasOddKind, HasOddSize, HasOdd, IsOddAt, AreMarked, LookedAt}
+use Rattle.hg_reloc.specs.Blocks.{number, kind, size_for, end, HasLength, IsBlock}
+use Rattle.hg_reloc.specs.Checks.{Marks, starts, HasHead, LieTo, HasRoom, HasOdd, IsOddAt, AreMarked, LookedAt}
 use Rattle.hg_reloc.proofs.Finding.{read_number, bytes_at, is_block, kind_here, grid_of, concat_one}
 
 -- what is read

@@ -1,12 +1,12 @@
 -- What is wrong with bytes is one thing, and nothing is wrong with right ones.
-use Rattle.std.specs.Prelude.{◌≡◌, ◌≢◌, ℕ, ◌+◌, ◌%◌, ◌<◌, ◌≤◌, ◌⊎◌, ◌↔◌, List, [], ◌∷◌, ◌++◌, length, take, drop, slice_index, Bool, true, false, Result, Ok, Err, IsOk}
-use Rattle.std.specs.List.{AllByRecursion, concat}
-use Rattle.std.proofs.Common.{inl, inr, sym, ◌∙◌, ap, subst, refl, arith, length-append}
+use Rattle.std.specs.Prelude.{◌≡◌, ◌≢◌, ℕ, ◌+◌, ◌<◌, ◌≤◌, ◌⊎◌, ◌↔◌, List, length, drop, slice_index, true, false, Result, Ok, Err, IsOk}
+use Rattle.std.specs.List.{concat}
+use Rattle.std.proofs.Common.{inl, inr, sym, ◌∙◌, ap, subst, refl, arith}
 use Rattle.std.proofs.lemmas.Bool.{cases_order, false≢true}
 use Rattle.hg_base.specs.declared.Check.{Check}
 use Rattle.hg_base.specs.declared.Check.TheVariants.{Kind, Size, Frame, Link, Level, Order, RowBytes}
-use Rattle.hg_reloc.specs.Blocks.{number, kind, size_for, end, frame, IsKind, HasLength, IsBlock, HasObjects}
-use Rattle.hg_reloc.specs.Checks.{HasHead, LieTo, HasRoom, HasOddKind, HasOddSize, HasOddFrame, HasOddLink, IsWrong, IsRight, AreLinked, Verified}
+use Rattle.hg_reloc.specs.Blocks.{number, kind, size_for, end, IsKind, HasLength, HasObjects}
+use Rattle.hg_reloc.specs.Checks.{HasHead, LieTo, HasOddKind, HasOddSize, IsWrong, IsRight, AreLinked, Verified}
 use Rattle.hg_reloc.proofs.Rewriting.{number-front, kind-front}
 use Rattle.hg_reloc.proofs.Finding.{grid_of}
 use Rattle.hg_reloc.proofs.Unique.{ComesAt, comes, same_objects}

@@ -1,9 +1,9 @@
 -- Whether an object stands at a place of a page.
-use Rattle.std.specs.Prelude.{◌≡◌, ◌≢◌, ℕ, ◌+◌, ◌-◌, ◌*◌, ◌/◌, ◌%◌, ◌<◌, ◌≤◌, List, [], ◌∷◌, ◌++◌, length, take, drop, slice_index, Option, None, Some, MatchOption}
+use Rattle.std.specs.Prelude.{◌≡◌, ℕ, ◌+◌, ◌-◌, ◌%◌, ◌≤◌, List, [], ◌∷◌, ◌++◌, length, take, drop, slice_index, None, Some}
 use Rattle.std.specs.List.{AllByRecursion, concat}
 use Rattle.std.specs.Int.{w16, w64, from_le_bytes}
-use Rattle.std.proofs.Common.{inl, inr, sym, ◌∙◌, ap, subst, refl, arith, length-append, length-take, length-drop, append_assoc}
-use Rattle.std.proofs.lemmas.List.{take-append-drop, take-append-le, take-take, drop-take, drop-drop, take_at, drop_at, get_or_append_left, get_or-drop}
+use Rattle.std.proofs.Common.{sym, ◌∙◌, ap, subst, refl, arith, length-append, length-take, length-drop, append_assoc}
+use Rattle.std.proofs.lemmas.List.{take-append-drop, take-take, drop-take, drop-drop, take_at, drop_at, get_or-drop}
 use Rattle.hg_reloc.specs.Blocks.{number, word, kind, size_for, end, IsBlock, HasLength, HasObjects}
 use Rattle.hg_reloc.specs.Found.{StandsAt, IsThere, Shows, Finds, IsNext, IsAmong, FindsAmong, GoesOn}
 use Rattle.hg_reloc.specs.declared.object.Object.{Object}

@@ -7,3 +7,4 @@ pub mod Unique
 pub mod Pages
 pub mod Exact
 pub mod Accepting
+pub mod Reading

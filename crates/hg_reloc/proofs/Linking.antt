@@ -1,13 +1,13 @@
 -- Whether the addresses of a page fit.
-use Rattle.std.specs.Prelude.{◌≡◌, ◌≢◌, ℕ, ◌+◌, ◌-◌, ◌*◌, ◌/◌, ◌%◌, ◌<◌, ◌≤◌, ◌⊎◌, ◌↔◌, zero, suc, Bool, true, false, IsTrue, List, [], ◌∷◌, ◌++◌, length, take, drop, slice_index, slice_index_or}
+use Rattle.std.specs.Prelude.{◌≡◌, ◌≢◌, ℕ, ◌+◌, ◌-◌, ◌*◌, ◌/◌, ◌%◌, ◌<◌, ◌≤◌, ◌↔◌, zero, suc, Bool, true, false, IsTrue, List, [], ◌∷◌, ◌++◌, length, take, drop, slice_index, slice_index_or}
 use Rattle.std.specs.Int.{w16, w32, w64, from_le_bytes}
 use Rattle.std.specs.List.{AllByRecursion, concat}
-use Rattle.std.proofs.Common.{inl, inr, sym, ◌∙◌, ap, subst, refl, arith, length-append, length-take, length-drop, append_assoc, append-nil}
+use Rattle.std.proofs.Common.{inl, inr, sym, ◌∙◌, ap, subst, refl, arith, length-append, length-drop, append_assoc}
 use Rattle.std.proofs.lemmas.List.{drop-drop, take-append-le, drop-append-le, drop_all}
 use Rattle.std.proofs.lemmas.Bool.{false≢true}
 use Rattle.hg_base.specs.Lines.{has_page}
-use Rattle.hg_reloc.specs.Blocks.{number, word, words, frame, frame_number, kind, size_for, end, IsKind, HasLength, IsBlock, HasObjects, BeginsObject}
-use Rattle.hg_reloc.specs.Checks.{Marks, Fits, MayLead, IsLinked, AreLinkedFrom, AreLinked, AreMarked, LinksChecked, HasOddLink, IsRight, starts}
+use Rattle.hg_reloc.specs.Blocks.{number, word, words, frame, frame_number, kind, size_for, end, IsBlock, HasObjects, BeginsObject}
+use Rattle.hg_reloc.specs.Checks.{Marks, MayLead, IsLinked, AreLinkedFrom, AreMarked, LinksChecked, HasOddLink, IsRight, starts}
 use Rattle.hg_reloc.proofs.Rewriting.{number_at, kind_at}
 
 -- the mark of a place

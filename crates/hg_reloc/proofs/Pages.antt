@@ -1,15 +1,16 @@
 -- A page of a heap, with its objects as bytes.
-use Rattle.std.specs.Prelude.{◌≡◌, ◌≢◌, ℕ, ◌+◌, ◌-◌, ◌*◌, ◌/◌, ◌%◌, ◌<◌, ◌≤◌, ◌^◌, ◌==◌, ◌⊎◌, if◌then◌else◌, zero, suc, List, [], ◌∷◌, ◌++◌, length, take, drop, replicate, map, slice_index, Option, None, Some}
+use Rattle.std.specs.Prelude.{◌≡◌, ℕ, ◌+◌, ◌-◌, ◌*◌, ◌/◌, ◌<◌, ◌≤◌, ◌^◌, ◌⊎◌, suc, List, [], ◌∷◌, ◌++◌, length, take, drop, replicate, map, slice_index, Option, None, Some}
 use Rattle.std.specs.List.{AllByRecursion, flat_map, concat, sum_by}
-use Rattle.std.specs.Int.{w16, w32, w64, from_le_bytes, to_le_bytes}
-use Rattle.std.proofs.Common.{inl, inr, sym, ◌∙◌, ap, subst, refl, arith, length-append, length-take, length-drop, append_assoc, append-nil}
+use Rattle.std.specs.Int.{w16, w64, from_le_bytes, to_le_bytes}
+use Rattle.std.proofs.Common.{inl, inr, sym, ◌∙◌, ap, subst, refl, arith, length-append, length-take, append_assoc}
 use Rattle.std.proofs.lemmas.Nat.{from_le_bytes-to_le_bytes_2, from_le_bytes-to_le_bytes_8}
-use Rattle.std.proofs.lemmas.List.{take_at, drop_at, take-append-drop, drop-drop, drop-take, length-replicate, take-take, get_or-take, drop-append-le}
+use Rattle.std.proofs.lemmas.List.{take_at, drop_at, drop-drop, drop-take, length-replicate, take-take, get_or-take, drop-append-le}
 use Rattle.std.proofs.lemmas.List.Sums.{sum_by-cons}
 use Rattle.hg_base.specs.Content.{Object, row_object, directory, payload_length, object_size, page_end}
-use Rattle.hg_base.specs.HeapPage.{link_word, link_bytes, object_kind, object_link, payload_bytes, object_bytes, roots_bytes, IsHeapPage}
+use Rattle.hg_base.specs.HeapPage.{link_word, link_bytes, object_kind, object_link, payload_bytes, object_bytes, IsHeapPage}
+use Rattle.hg_reloc.specs.Found.{InRange}
 use Rattle.hg_reloc.specs.Moves.{Moves, moved_word}
-use Rattle.hg_reloc.specs.Blocks.{number, word, words, kind, size_for, end, IsBlock, HasLength, HasObjects, word_count, moved_words, moved_block, moved_page, IsMoved}
+use Rattle.hg_reloc.specs.Blocks.{number, word, kind, size_for, end, IsBlock, HasObjects, word_count, moved_words, moved_block, moved_page, IsMoved}
 use Rattle.hg_reloc.specs.Standing.{MovesLink, MovesLinks, MovesPage, MovesPages}
 use Rattle.hg_reloc.proofs.Unique.{same_objects}
 
@@ -99,14 +100,19 @@ moved_object m a b (directory links) s h =
     ap (λ n. take 8 (object_bytes a (directory links)) ++ moved_words m n (drop 8 (object_bytes a (directory links)))) (count-directory a links s)
     ∙ behind_head m a b (directory links) (length links) tt (moved_links m a b links (replicate (object_size (directory links) - 16 - payload_length (directory links)) 0) h)
 
-is_block_of : (m : Moves) (a b : ℕ → ℕ) (o : Object) → payload_length o < 2 ^ 16 → MovesLinks m a b o → IsBlock (object_bytes a o)
-is_block_of m a b (row_object payload link) s h =
+in_range : (m : Moves) (a b : ℕ → ℕ) (os : List Object) → AllByRecursion (MovesLinks m a b) os → AllByRecursion InRange os
+in_range m a b [] h = tt
+in_range m a b (row_object payload link ∷ os) h = ((h.0.0, h.0.1), in_range m a b os h.1)
+in_range m a b (directory links ∷ os) h = (tt, in_range m a b os h.1)
+
+is_block_of : (a : ℕ → ℕ) (o : Object) → payload_length o < 2 ^ 16 → InRange o → IsBlock (object_bytes a o)
+is_block_of a (row_object payload link) s h =
     let n : number (object_bytes a (row_object payload link)) ≡ length payload = number-object a (row_object payload link) s in
     record {
       size = length-object a (row_object payload link) ∙ ap size_for (sym n);
       right = inl (refl, omega (arith, h.0), omega (arith, h.1));
     }
-is_block_of m a b (directory links) s h =
+is_block_of a (directory links) s h =
     let n : number (object_bytes a (directory links)) ≡ 8 * length links = number-object a (directory links) s in
     record {
       size = length-object a (directory links) ∙ ap size_for (sym n);
@@ -114,19 +120,19 @@ is_block_of m a b (directory links) s h =
     }
 
 -- All objects of a page.
-concat_map : (a : ℕ → ℕ) (os : List Object) → concat (map (object_bytes a) os) ≡ flat_map (object_bytes a) os
+pub concat_map : (a : ℕ → ℕ) (os : List Object) → concat (map (object_bytes a) os) ≡ flat_map (object_bytes a) os
 concat_map a [] = refl
 concat_map a (o ∷ os) = ap (λ q. object_bytes a o ++ q) (concat_map a os)
 
-length-objects : (a : ℕ → ℕ) (os : List Object) → length (flat_map (object_bytes a) os) ≡ sum_by object_size os
+pub length-objects : (a : ℕ → ℕ) (os : List Object) → length (flat_map (object_bytes a) os) ≡ sum_by object_size os
 length-objects a [] = refl
 length-objects a (o ∷ os) = length-append (object_bytes a o) (flat_map (object_bytes a) os) ∙ omega (arith, length-object a o, length-objects a os, sum_by-cons object_size o os)
 
-all_blocks : (m : Moves) (a b : ℕ → ℕ) (os : List Object) → sum_by object_size os ≤ 4096 → AllByRecursion (MovesLinks m a b) os → AllByRecursion IsBlock (map (object_bytes a) os)
-all_blocks m a b [] s h = tt
-all_blocks m a b (o ∷ os) s h =
+all_blocks : (a : ℕ → ℕ) (os : List Object) → sum_by object_size os ≤ 4096 → AllByRecursion InRange os → AllByRecursion IsBlock (map (object_bytes a) os)
+all_blocks a [] s h = tt
+all_blocks a (o ∷ os) s h =
     let e = sum_by-cons object_size o os in
-    (is_block_of m a b o (omega (arith, e)) h.0, all_blocks m a b os (omega (arith, e)) h.1)
+    (is_block_of a o (omega (arith, e)) h.0, all_blocks a os (omega (arith, e)) h.1)
 
 all_moved : (m : Moves) (a b : ℕ → ℕ) (os : List Object) → sum_by object_size os ≤ 4096 → AllByRecursion (MovesLinks m a b) os
     → flat_map (moved_block m) (map (object_bytes a) os) ≡ flat_map (object_bytes b) os
@@ -153,21 +159,24 @@ free_tail a roots os frame page h =
     ∙ drop_at (flat_map (object_bytes a) os) (replicate (4096 - page_end os) 0) (length (flat_map (object_bytes a) os)) refl
 
 -- a page of a heap has its objects
-pub has_objects : (m : Moves) (a b : ℕ → ℕ) (roots : List (Option ℕ)) (os : List Object) (frame : ℕ) (page : List ℕ) → MovesPage m a b roots os frame page
+pub objects_of : (a : ℕ → ℕ) (roots : List (Option ℕ)) (os : List Object) (frame : ℕ) (page : List ℕ) → IsHeapPage a roots os frame page → AllByRecursion InRange os
     → HasObjects page (map (object_bytes a) os)
-has_objects m a b roots os frame page p =
-    let h : IsHeapPage a roots os frame page = p.is in
+objects_of a roots os frame page h r =
     let e : end page ≡ page_end os = end_is page (page_end os) h.end (omega (arith, h.fits)) in
     let n : length (flat_map (object_bytes a) os) ≡ sum_by object_size os = length-objects a os in
     let tail : drop (end page) page ≡ replicate (4096 - page_end os) 0 = free_tail a roots os frame page h in
     record {
       whole = h.size;
       kind = kind_is page h.kind;
-      each = all_blocks m a b os (omega (arith, h.fits)) p.objects_move;
+      each = all_blocks a os (omega (arith, h.fits)) r;
       ends = e ∙ omega (arith, n, ap length (concat_map a os));
       fits = omega (arith, h.fits);
       objects = h.placed ∙ ap (λ q. q ++ replicate (4096 - page_end os) 0) (sym (concat_map a os)) ∙ ap (λ q. concat (map (object_bytes a) os) ++ q) (sym tail);
     }
+
+pub has_objects : (m : Moves) (a b : ℕ → ℕ) (roots : List (Option ℕ)) (os : List Object) (frame : ℕ) (page : List ℕ) → MovesPage m a b roots os frame page
+    → HasObjects page (map (object_bytes a) os)
+has_objects m a b roots os frame page p = objects_of a roots os frame page p.is (in_range m a b os p.objects_move)
 
 -- The roots.
 moved_roots : (m : Moves) (a b : ℕ → ℕ) (roots : List (Option ℕ)) → (length roots ≡ 4) ⊎ (roots ≡ []) → AllByRecursion (MovesLink m a b) roots

@@ -1,15 +1,14 @@
 -- Moving the words of a page, one after the other.
-use Rattle.std.specs.Prelude.{◌≡◌, ◌≢◌, ℕ, ◌+◌, ◌-◌, ◌*◌, ◌/◌, ◌%◌, ◌<◌, ◌≤◌, ◌==◌, if◌then◌else◌, slice_index, zero, suc, List, [], ◌∷◌, ◌++◌, length, take, drop}
+use Rattle.std.specs.Prelude.{◌≡◌, ℕ, ◌+◌, ◌-◌, ◌*◌, ◌/◌, ◌<◌, ◌≤◌, ◌==◌, if◌then◌else◌, slice_index, zero, suc, List, [], ◌∷◌, ◌++◌, length, take, drop}
 use Rattle.std.specs.List.{AllByRecursion, flat_map, concat}
 use Rattle.std.specs.Int.{w16, w64, from_le_bytes, to_le_bytes}
 use Rattle.std.proofs.Common.{inl, inr, sym, ◌∙◌, ap, refl, arith, length-append, length-take, length-drop, append_assoc, append-nil}
-use Rattle.std.proofs.lemmas.Slice.{take-put_mid_below, take-put_mid, drop-put_mid}
-use Rattle.std.proofs.lemmas.List.{drop-take, drop-drop, take-append-le, drop-append-le, get_or_append_left, get_or-drop, take_at, drop_at, take-append-drop, drop_all}
-use Rattle.std.proofs.Math.Seq.{take-add, drop-append_seam}
-use borrow.Rule.Slice.PartMut.{put_mid, same_len_mid}
-use Rattle.hg_base.specs.Parts.{length-written}
+use Rattle.std.proofs.lemmas.Slice.{take-put_mid, drop-put_mid}
+use Rattle.std.proofs.lemmas.List.{drop-drop, take-append-le, drop-append-le, get_or_append_left, get_or-drop, take_at, drop_at, take-append-drop}
+use Rattle.std.proofs.Math.Seq.{take-add}
+use borrow.Rule.Slice.PartMut.{put_mid}
 use Rattle.hg_reloc.specs.Moves.{Moves, moved_word}
-use Rattle.hg_reloc.specs.Blocks.{number, word, kind, size_for, word_count, moved_words, moved_block, moved_page, IsBlock, HasObjects, HasLength, BeginsObject, MovesObject, IsMade, IsMoved, end}
+use Rattle.hg_reloc.specs.Blocks.{number, word, kind, size_for, word_count, moved_words, moved_block, moved_page, IsBlock, HasObjects, BeginsObject, MovesObject, IsMade, IsMoved, end}
 
 -- one word more is moved, and the rest is still to come
 pub step : (m : Moves) (xs ys : List ℕ) (at n : ℕ) → at + 8 ≤ length xs → ys ≡ put_mid at 8 xs (to_le_bytes w64 (moved_word m (word (drop at xs))))

@@ -3,7 +3,7 @@
 -- A page says where its own objects are. Of a link to another page it says a frame and an offset: that the
 -- frame is one of the pool, and that an object can begin at the offset, is checked here; that the frame is
 -- one of the heap's, and that an object does begin there, only a reader of all its pages can tell.
-use Rattle.std.specs.Prelude.{◌≡◌, ◌≢◌, ℕ, ◌+◌, ◌*◌, ◌/◌, ◌%◌, ◌<◌, ◌≤◌, ◌⊎◌, Bool, true, false, List, [], ◌∷◌, ◌++◌, length, take, drop, slice_index, slice_index_or, IsTrue, ◌↔◌, Result, Ok, Err, ⊤}
+use Rattle.std.specs.Prelude.{◌≡◌, ◌≢◌, ℕ, ◌+◌, ◌*◌, ◌/◌, ◌%◌, ◌<◌, ◌≤◌, ◌⊎◌, Bool, true, false, List, [], ◌∷◌, ◌++◌, length, drop, slice_index, slice_index_or, IsTrue, ◌↔◌, Result, Ok, Err, ⊤}
 use Rattle.std.specs.List.{AllByRecursion, concat}
 use Rattle.hg_base.specs.Lines.{has_page}
 use Rattle.hg_base.specs.declared.Check.{Check}

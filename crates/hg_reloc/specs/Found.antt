@@ -1,6 +1,9 @@
 -- What a reader of a heap's page finds at a place of it.
-use Rattle.std.specs.Prelude.{◌≡◌, ℕ, ◌+◌, ◌-◌, ◌%◌, ◌<◌, ◌≤◌, List, [], ◌∷◌, ◌++◌, length, take, drop, Option, None, Some, IfSome, MatchOption}
+use Rattle.std.specs.Prelude.{◌≡◌, ℕ, ◌+◌, ◌%◌, ◌<◌, ◌≤◌, List, [], ◌∷◌, ◌++◌, length, take, drop, Option, MatchOption, ⊤}
 use Rattle.std.specs.List.{concat}
+use Rattle.std.specs.List.{AllByRecursion}
+use Rattle.hg_base.specs.Content.{row_object, directory, object_size, page_end, Object as HeapObject}
+use Rattle.hg_base.specs.HeapPage.{object_bytes, IsHeapPage}
 use Rattle.hg_reloc.specs.Blocks.{number, word, kind, end, IsBlock, HasObjects}
 use Rattle.hg_reloc.specs.declared.object.Object.{Object}
 
@@ -51,3 +54,21 @@ FindsAmong page at o = (before : List (List ℕ)) (b : List ℕ) (behind : List 
 abbrev pub GoesOn : List ℕ → ℕ → Option ℕ → Type 0
 GoesOn page at o = (before : List (List ℕ)) (b : List ℕ) (behind : List (List ℕ)) → IsAmong page before b behind at
     → MatchOption o (behind ≡ []) (λ next. (next ≡ at + length b) × (0 < length behind))
+
+-- The same of a page of a heap, whatever its objects are: each of them is found where it stands, and the
+-- way leads from one to the next.
+abbrev pub InRange : HeapObject → Type 0
+InRange (row_object payload link) = (0 < length payload) × (length payload ≤ 3920)
+InRange (directory links) = ⊤
+
+abbrev pub FindsObject : List ℕ → ℕ → Option Object → Type 0
+FindsObject page at result =
+    (a : ℕ → ℕ) (roots : List (Option ℕ)) (front : List HeapObject) (o : HeapObject) (behind : List HeapObject) (f : ℕ)
+    → IsHeapPage a roots (front ++ o ∷ behind) f page → AllByRecursion InRange (front ++ o ∷ behind) → at ≡ page_end front
+    → MatchOption result ⊥ (Shows at (object_bytes a o))
+
+abbrev pub LeadsOn : List ℕ → ℕ → Option ℕ → Type 0
+LeadsOn page at result =
+    (a : ℕ → ℕ) (roots : List (Option ℕ)) (front : List HeapObject) (o : HeapObject) (behind : List HeapObject) (f : ℕ)
+    → IsHeapPage a roots (front ++ o ∷ behind) f page → AllByRecursion InRange (front ++ o ∷ behind) → at ≡ page_end front
+    → MatchOption result (length behind ≡ 0) (λ next. (next ≡ at + object_size o) × (0 < length behind))

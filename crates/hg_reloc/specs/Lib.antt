@@ -5,3 +5,6 @@ pub mod Checks
 pub mod Standing
 pub mod StandingLaws
 pub mod WritingLaws
+pub mod HeapWritingLaws
+pub mod PlaceLaws
+pub mod FittingLaws

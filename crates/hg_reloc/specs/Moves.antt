@@ -1,6 +1,6 @@
 -- Where the frames of a heap's pages go when it is locked again, and what becomes of an address.
 -- Our own rule: an address is frame * 4096 + offset, and the word 0 is nil.
-use Rattle.std.specs.Prelude.{◌≡◌, ℕ, ◌+◌, ◌*◌, ◌/◌, ◌%◌, ◌<◌, ◌==◌, ◌||◌, Bool, true, false, List, [], ◌∷◌, ◌++◌, map, Option, None, Some, if◌then◌else◌}
+use Rattle.std.specs.Prelude.{ℕ, ◌+◌, ◌*◌, ◌/◌, ◌%◌, ◌<◌, ◌==◌, ◌||◌, Bool, false, List, [], ◌∷◌, map, Option, None, Some, if◌then◌else◌}
 use Rattle.std.specs.List.{AllByRecursion}
 use Rattle.hg_base.specs.Lines.{AreApart}
 use Rattle.hg_reloc.specs.declared.map.Move.{Move}

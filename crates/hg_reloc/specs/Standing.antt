@@ -1,6 +1,6 @@
 -- Pages whose objects lead to one another, and their addresses: what moving the addresses does to the
 -- pages of a heap. Our own rule.
-use Rattle.std.specs.Prelude.{◌≡◌, ℕ, ◌+◌, ◌*◌, ◌<◌, ◌≤◌, ◌^◌, List, [], ◌∷◌, length, Option, None, Some, Result, IsOk, ◌⊎◌, ⊤}
+use Rattle.std.specs.Prelude.{◌≡◌, ℕ, ◌+◌, ◌<◌, ◌≤◌, ◌^◌, List, [], ◌∷◌, length, Option, None, Some, Result, IsOk, ◌⊎◌, ⊤}
 use Rattle.std.specs.List.{AllByRecursion}
 use Rattle.hg_base.specs.Content.{Object, row_object, directory, object_size, offsets_from}
 use Rattle.hg_base.specs.HeapPage.{IsHeapPage}

@@ -1,6 +1,6 @@
 -- The pages of a heap stand in other frames once each of them is rewritten and names its new frame, also
 -- where they land in one another's old frames.
-use Rattle.std.specs.Prelude.{◌≡◌, ◌≢◌, ℕ, ◌+◌, ◌-◌, ◌*◌, ◌/◌, ◌%◌, ◌<◌, ◌≤◌, ◌^◌, ◌==◌, ◌⊎◌, zero, suc, List, [], ◌∷◌, ◌++◌, length, map, take, drop, slice_index_or, Option, None, Some, if◌then◌else◌, ⊤}
+use Rattle.std.specs.Prelude.{◌≡◌, ◌≢◌, ℕ, ◌+◌, ◌*◌, ◌/◌, ◌%◌, ◌<◌, ◌≤◌, ◌^◌, ◌⊎◌, zero, suc, List, [], ◌∷◌, ◌++◌, length, map, slice_index_or, Option, None, Some, if◌then◌else◌, ⊤}
 use Rattle.std.specs.List.{AllByRecursion, flat_map, sum_by}
 use Rattle.std.specs.Int.{w32, to_le_bytes}
 use Rattle.std.proofs.Common.{inl, inr, sym, ◌∙◌, ap, subst, refl, arith, length-append}
@@ -15,7 +15,7 @@ use Rattle.hg_base.specs.HeapPage.{IsHeapPage, AreHeapPages, Stands}
 use Rattle.hg_base.specs.Lines.{AreApart}
 use Rattle.hg_base.specs.Parts.{below, above, within, length-written}
 use Rattle.hg_reloc.specs.Moves.{Moves, frame_after, moved_word}
-use Rattle.hg_reloc.specs.Standing.{MovesLink, MovesLinks, MovesPage, MovesPages}
+use Rattle.hg_reloc.specs.Standing.{MovesLink, MovesLinks, MovesPages}
 
 -- the map leads each of these frames to the one beside it
 abbrev pub LeadsTo : Moves → List ℕ → List ℕ → Type 0
@@ -100,15 +100,15 @@ nth_small (x ∷ xs) zero h = h.0
 nth_small (x ∷ xs) (suc n) h = nth_small xs n h.1
 
 -- each object has an address, and it is small
-length-offsets : (at : ℕ) (os : List Object) → length (offsets_from at os) ≡ length os
+pub length-offsets : (at : ℕ) (os : List Object) → length (offsets_from at os) ≡ length os
 length-offsets at [] = refl
 length-offsets at (o ∷ os) = omega (arith, length-offsets (at + object_size o) os)
 
-length-mapped : (f : ℕ) (xs : List ℕ) → length (map (λ at. f * 4096 + at) xs) ≡ length xs
+pub length-mapped : (f : ℕ) (xs : List ℕ) → length (map (λ at. f * 4096 + at) xs) ≡ length xs
 length-mapped f [] = refl
 length-mapped f (x ∷ xs) = omega (arith, length-mapped f xs)
 
-length-addresses : (layout : List (List Object)) (fs : List ℕ) → length fs ≡ length layout → length (addresses_in layout fs) ≡ length (flat_map (λ page. page) layout)
+pub length-addresses : (layout : List (List Object)) (fs : List ℕ) → length fs ≡ length layout → length (addresses_in layout fs) ≡ length (flat_map (λ page. page) layout)
 length-addresses [] fs h = refl
 length-addresses (page ∷ layout) [] h = absurd (omega arith)
 length-addresses (page ∷ layout) (f ∷ fs) h =
@@ -150,7 +150,7 @@ all_first : (P : Object → Type 0) (xs ys : List Object) → AllByRecursion P (
 all_first P [] ys h = (tt, h)
 all_first P (x ∷ xs) ys h = let r = all_first P xs ys h.1 in ((h.0, r.0), r.1)
 
-all_pages : (P : Object → Type 0) (layout : List (List Object)) → AllByRecursion P (flat_map (λ page. page) layout) → AllByRecursion (AllByRecursion P) layout
+pub all_pages : (P : Object → Type 0) (layout : List (List Object)) → AllByRecursion P (flat_map (λ page. page) layout) → AllByRecursion (AllByRecursion P) layout
 all_pages P [] h = tt
 all_pages P (page ∷ layout) h = let r = all_first P page (flat_map (λ p. p) layout) h in (r.0, all_pages P layout r.1)
 
@@ -176,7 +176,7 @@ pages_move m a b roots (os ∷ layout) (f ∷ fs) (g ∷ gs) (old ∷ olds) [] h
 pages_move m a b roots (os ∷ layout) (f ∷ fs) (g ∷ gs) (old ∷ olds) (new ∷ news) h four r o w =
     (one_moves m a b roots os f g old new h.0 four r o.0 w.0, pages_move m a b [] layout fs gs olds news h.1 (inr refl) tt o.1 w.1)
 
-same_many : (a : ℕ → ℕ) (roots : List (Option ℕ)) (layout : List (List Object)) (fs : List ℕ) (pages : List (List ℕ)) → AreHeapPages a roots layout fs pages → length fs ≡ length layout
+pub same_many : (a : ℕ → ℕ) (roots : List (Option ℕ)) (layout : List (List Object)) (fs : List ℕ) (pages : List (List ℕ)) → AreHeapPages a roots layout fs pages → length fs ≡ length layout
 same_many a roots [] [] [] h = refl
 same_many a roots [] [] (p ∷ pages) h = absurd h
 same_many a roots [] (f ∷ fs) pages h = absurd h

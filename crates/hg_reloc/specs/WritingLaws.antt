@@ -1,15 +1,15 @@
 -- What the writes of a heap do to one of its pages: another root, another word of a directory, another
 -- payload, one object more. `page` is a page of these objects, and the writes go where they stand.
-use Rattle.std.specs.Prelude.{◌≡◌, ℕ, ◌+◌, ◌-◌, ◌*◌, ◌/◌, ◌<◌, ◌≤◌, zero, suc, List, [], ◌∷◌, ◌++◌, length, take, drop, replicate, slice_set, Option, None, Some}
+use Rattle.std.specs.Prelude.{◌≡◌, ℕ, ◌+◌, ◌-◌, ◌*◌, ◌/◌, ◌<◌, ◌≤◌, zero, suc, List, [], ◌∷◌, ◌++◌, length, take, drop, replicate, slice_set, Option, None}
 use Rattle.std.specs.List.{flat_map, sum_by}
 use Rattle.std.specs.Int.{w16, w32, to_le_bytes}
-use Rattle.std.proofs.Common.{sym, ◌∙◌, ap, subst, refl, arith, length-append, append_assoc, append-nil}
-use Rattle.std.proofs.lemmas.List.{take_at, drop_at, take-append-drop, drop-drop, length-replicate, set_split, replicate-append-replicate}
+use Rattle.std.proofs.Common.{sym, ◌∙◌, ap, refl, arith, length-append, append_assoc, append-nil}
+use Rattle.std.proofs.lemmas.List.{take_at, drop_at, take-append-drop, drop-drop, length-replicate, replicate-append-replicate}
 use Rattle.std.proofs.lemmas.List.Concat.{flat_map-append}
 use Rattle.std.proofs.lemmas.List.Sums.{sum_by-cons, sum_by-append}
 use Rattle.std.proofs.Math.Seq.{take-add}
 use borrow.Rule.Slice.PartMut.{put_mid}
-use Rattle.hg_base.specs.Content.{Object, row_object, directory, payload_length, object_size, page_end}
+use Rattle.hg_base.specs.Content.{Object, row_object, directory, object_size, page_end}
 use Rattle.hg_base.specs.HeapPage.{link_bytes, object_bytes, roots_bytes, IsHeapPage}
 
 -- the page of these objects, byte by byte
@@ -189,7 +189,7 @@ object_written a roots front behind o new f page at n x four p i =
     ∙ ap (λ n. ((72 ∷ 0 ∷ []) ++ (to_le_bytes w16 n ++ to_le_bytes w32 f)) ++ (r ++ (flat_map (object_bytes a) (front ++ new ∷ behind) ++ replicate (4096 - n) 0))) (sym e))
 
 -- another payload of a row, as long as the one before
-payload_part : (a : ℕ → ℕ) (payload x : List ℕ) (link : Option ℕ) → length x ≡ length payload → IsPartOf a (row_object payload link) (row_object x link) 16 (length payload) x
+pub payload_part : (a : ℕ → ℕ) (payload x : List ℕ) (link : Option ℕ) → length x ≡ length payload → IsPartOf a (row_object payload link) (row_object x link) 16 (length payload) x
 payload_part a payload x link e =
     let h : List ℕ = to_le_bytes w16 (length payload) ++ 1 ∷ replicate 5 0 ++ link_bytes a link in
     let size : object_size (row_object x link) ≡ object_size (row_object payload link) = omega arith in
@@ -215,7 +215,7 @@ payload_written a roots front behind payload x link f page four e i =
 regroup_word : (h f o d p : List ℕ) → h ++ (f ++ (o ++ d)) ++ p ≡ (h ++ f) ++ (o ++ (d ++ p))
 regroup_word h f o d p = simp append_assoc
 
-word_part : (a : ℕ → ℕ) (links : List (Option ℕ)) (k : ℕ) (to : Option ℕ) → k < length links
+pub word_part : (a : ℕ → ℕ) (links : List (Option ℕ)) (k : ℕ) (to : Option ℕ) → k < length links
     → IsPartOf a (directory links) (directory (slice_set links k to)) (16 + 8 * k) 8 (link_bytes a to)
 word_part a links k to h =
     let l : IsLinkAt a links k to = link_at a links k to h in

@@ -6,14 +6,11 @@ ghost use Rattle.hg_reloc.specs.Standing.{TakesPages};
 ghost use Rattle.hg_reloc.specs.Checks.{Marks, HasHead, AreMarked, Walked, LookedAt, MayLead, LinksChecked, LinkedOrOdd, Verified, IsRight, TellsWrong};
 
 use crate::object::{DIRECTORY, END, HEAD, KIND, LINK, ROW, has_length, size_for};
-use crate::{FIRST, PAGE, ROOT_COUNT, ROOTS};
+use crate::{FIRST, FRAME, PAGE, ROOT_COUNT, ROOTS};
 use hg_base::{Check, get_u16, get_u32, get_u64};
 
 /// The first byte of a heap's page.
 const PAGE_KIND: u8 = 0x48;
-
-/// Where the frame stands in which the page last stood.
-const FRAME: usize = 4;
 
 /// The grid on which objects stand, and how many places it has on a page.
 const GRID: usize = 16;

@@ -24,11 +24,14 @@ mod tests;
 
 pub use checks::verify;
 pub use map::{Move, MoveMap};
-pub use moving::rewrite;
+pub use moving::{move_page, rewrite};
 pub use object::{Object, next_object, object_at};
 
 /// The bytes of a page.
 const PAGE: usize = 4096;
+
+/// Where the frame stands in which the page last stood.
+const FRAME: usize = 4;
 
 /// Where the roots of a page stand, and how many they are; where its objects begin.
 const ROOTS: usize = 16;

@@ -2,10 +2,11 @@
 ghost use Rattle.std.specs.Prelude.{◌≡◌, ◌+◌, ◌*◌, ◌≤◌, ◌<◌, ◌++◌, ◌^◌, length, take, drop};
 ghost use Rattle.hg_reloc.specs.Blocks.{IsMade, IsMoved, BeginsObject, MovesObject, moved_words};
 ghost use Rattle.hg_reloc.specs.Standing.{MovesPages};
+ghost use Rattle.hg_reloc.specs.StandingLaws.{IsRewritten};
 
 use crate::object::{END, KIND, size_for, word_count};
-use crate::{FIRST, MoveMap, ROOT_COUNT, ROOTS};
-use hg_base::{Addr, get_u16, get_u64, put_u64};
+use crate::{FIRST, FRAME, MoveMap, ROOT_COUNT, ROOTS};
+use hg_base::{Addr, FrameNo, get_u16, get_u64, put_u32, put_u64};
 
 /// Moves the words that stand from `at` on.
 fn move_words(page: &mut [u8], at: usize, count: usize, map: &MoveMap)
@@ -53,4 +54,15 @@ pub fn rewrite(page: &mut [u8], map: &MoveMap)
     while at < end {
         at += move_object(page, at, map);
     }
+}
+
+/// Rewrites a page that stands in another frame now, and writes the number of this frame into it. Once
+/// each page of a heap is so moved, under a map that leads the frame of each page to its new one, the
+/// heap stands in the new frames, also where its pages land in one another's old ones.
+pub fn move_page(page: &mut [u8], map: &MoveMap, frame: FrameNo)
+    requires { IsMade page.old }
+    ensures { IsRewritten map.now frame.0 page.old page.new }
+{
+    rewrite(page, map);
+    put_u32(page, FRAME, frame.0);
 }

@@ -1,7 +1,7 @@
 //! Objects of a page, read where they stand.
 ghost use Rattle.std.specs.Prelude.{◌≡◌, ℕ, ◌+◌, ◌*◌, ◌/◌, ◌<◌, ◌≤◌, ◌^◌, ◌==◌, ◌↔◌, IsTrue, if◌then◌else◌, MatchOption, length, drop, slice_index};
 ghost use Rattle.hg_reloc.specs.Blocks as block;
-ghost use Rattle.hg_reloc.specs.Found.{IsThere, Finds, IsNext, FindsAmong, GoesOn};
+ghost use Rattle.hg_reloc.specs.Found.{IsThere, Finds, IsNext, FindsAmong, GoesOn, FindsObject, LeadsOn};
 
 use crate::{FIRST, PAGE};
 use hg_base::{Addr, get_u16, get_u64};
@@ -86,11 +86,9 @@ fn end_of(page: &[u8], offset: u16) -> Option<usize>
     Some(behind)
 }
 
-/// The object that begins at `offset` of a page whose bytes may be any, in constant time: bytes on the
-/// grid, behind the roots and before the page's end, that have the form of an object. None exactly where
-/// none is there. The first object of a page begins at 64.
+/// The object that begins at `offset`, if one does.
 #[tactic(auto, using(crate::proofs::Finding::telling))]
-pub fn object_at(page: &[u8], offset: u16) -> Option<Object>
+fn find_object(page: &[u8], offset: u16) -> Option<Object>
     ensures found { MatchOption result (¬ (IsThere page.now offset)) (Finds page.now offset) }
     ensures among { FindsAmong page.now offset result }
 {
@@ -110,10 +108,9 @@ pub fn object_at(page: &[u8], offset: u16) -> Option<Object>
     }
 }
 
-/// The place of the object behind the one that begins at `offset`, in constant time. None exactly where
-/// none is there, or none at `offset`.
+/// Where the object behind the one at `offset` begins, if there are both.
 #[tactic(auto, using(crate::proofs::Finding::telling))]
-pub fn next_object(page: &[u8], offset: u16) -> Option<u16>
+fn find_next(page: &[u8], offset: u16) -> Option<u16>
     ensures found { MatchOption result ((next : ℕ) → ¬ (IsNext page.now offset next)) (IsNext page.now offset) }
     ensures among { GoesOn page.now offset result }
 {
@@ -127,4 +124,25 @@ pub fn next_object(page: &[u8], offset: u16) -> Option<u16>
         }
         None => None,
     }
+}
+
+/// The object that begins at `offset` of a page whose bytes may be any, in constant time: bytes on the
+/// grid, behind the roots and before the page's end, that have the form of an object. None exactly where
+/// none is there. The first object of a page begins at 64.
+pub fn object_at(page: &[u8], offset: u16) -> Option<Object>
+    ensures found { MatchOption result (¬ (IsThere page.now offset)) (Finds page.now offset) }
+    ensures among { FindsAmong page.now offset result }
+    ensures heap { FindsObject page.now offset result }
+{
+    find_object(page, offset)
+}
+
+/// The place of the object behind the one that begins at `offset`, in constant time. None exactly where
+/// none is there, or none at `offset`.
+pub fn next_object(page: &[u8], offset: u16) -> Option<u16>
+    ensures found { MatchOption result ((next : ℕ) → ¬ (IsNext page.now offset next)) (IsNext page.now offset) }
+    ensures among { GoesOn page.now offset result }
+    ensures heap { LeadsOn page.now offset result }
+{
+    find_next(page, offset)
 }

@@ -1,8 +1,8 @@
 //! Pages worked out by hand: one that moves, pages that change their frames, and damaged ones.
 ghost use Rattle.std.specs.Prelude.{◌≡◌, ◌≤◌, length};
 
-use crate::{MoveMap, next_object, object_at, rewrite, verify};
-use hg_base::{Addr, Check, FrameNo, get_u64, put_u16, put_u32, put_u64};
+use crate::{MoveMap, move_page, next_object, object_at, rewrite, verify};
+use hg_base::{Addr, Check, FrameNo, get_u32, get_u64, put_u16, put_u32, put_u64};
 use std::test::Fail;
 
 /// Writes the head of an object.
@@ -61,6 +61,32 @@ fn a_page_moves(rt: HostRuntime) -> Result<(), Fail> {
     put_u64(&mut page, 24, 12416);
     put_u64(&mut page, 184, 12416);
     assert!(rt; page == old);
+    Ok(())
+}
+
+/// Moves a page of a pool of 16 frames into a frame, if it is one.
+#[tactic(auto, using(crate::specs::Checks::right_made))]
+fn settled(page: &mut [u8], map: &MoveMap, frame: FrameNo) -> bool
+    ensures { length page.new ≡ length page.old }
+{
+    match verify(page, 16) {
+        Ok(()) => {
+            move_page(page, map, frame);
+            true
+        }
+        Err(_) => false,
+    }
+}
+
+#[test]
+fn a_page_names_its_frame(rt: HostRuntime) -> Result<(), Fail> {
+    let mut map = MoveMap::new(rt.alloc(), 16).ok().ok_or("memory")?;
+    map.set(FrameNo(3), FrameNo(7));
+    let mut page = page_in_3();
+    assert!(rt; settled(&mut page, &map, FrameNo(7)));
+    assert_eq!(rt; get_u32(&page, 4), 7);
+    assert_eq!(rt; get_u64(&page, 184), 28800);
+    assert_eq!(rt; verify(&page, 16), Ok(()));
     Ok(())
 }
 

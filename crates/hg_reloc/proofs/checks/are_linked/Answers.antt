@@ -1,4 +1,4 @@
-use Rattle.std.proofs.Common.{◌≡◌, ◌∙◌, sym, ap, subst, refl, arith, ◌+◌, ◌≤◌}
+use Rattle.std.proofs.Common.{◌∙◌, sym, subst, refl, arith, ◌+◌}
 use Rattle.std.proofs.lemmas.Bool.{false≢true}
 use Rattle.hg_reloc.specs.Checks.{starts}
 use Rattle.hg_reloc.proofs.Checking.{end_at}

@@ -1,4 +1,4 @@
-use Rattle.std.proofs.Common.{arith, subst}
+use Rattle.std.proofs.Common.{arith}
 use Rattle.hg_reloc.proofs.Linking.{frame_at}
 use Rattle.hg_reloc.proofs.checks.check_page.Goals as goal
 

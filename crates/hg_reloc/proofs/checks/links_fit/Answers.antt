@@ -1,4 +1,4 @@
-use Rattle.std.proofs.Common.{◌∙◌, sym, arith, ◌+◌, ◌*◌, ◌/◌, ◌≤◌}
+use Rattle.std.proofs.Common.{arith}
 use Rattle.hg_reloc.proofs.Linking.{row_links, directory_links, words_inside}
 use Rattle.hg_reloc.proofs.checks.links_fit.Goals as goal
 

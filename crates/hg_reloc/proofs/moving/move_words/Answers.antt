@@ -1,7 +1,7 @@
-use Rattle.std.proofs.Common.{◌≡◌, ◌∙◌, ap, arith, ◌+◌, ◌*◌, length, length-append}
+use Rattle.std.proofs.Common.{◌∙◌, ap, arith, ◌+◌, ◌*◌, length}
 use Rattle.std.specs.Int.{w64, to_le_bytes}
 use Rattle.hg_base.specs.Parts.{length-written}
-use Rattle.hg_reloc.proofs.Rewriting.{step_k, length-moved_words}
+use Rattle.hg_reloc.proofs.Rewriting.{step_k}
 use Rattle.hg_reloc.proofs.moving.move_words.Goals as goal
 
 pub loop-k-preserved : goal.loop-k-preserved

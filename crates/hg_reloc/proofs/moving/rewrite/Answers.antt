@@ -1,4 +1,4 @@
-use Rattle.std.proofs.Common.{◌≡◌, ◌+◌, ◌<◌, ◌∙◌, sym, subst, arith}
+use Rattle.std.proofs.Common.{sym, subst, arith}
 use Rattle.hg_reloc.proofs.Rewriting.{IsMoving, start, next, on, grows, finish}
 use Rattle.hg_reloc.proofs.Pages.{moves_pages}
 use Rattle.hg_reloc.proofs.moving.rewrite.Goals as goal

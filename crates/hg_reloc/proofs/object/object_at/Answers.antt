@@ -1,7 +1,5 @@
-use Rattle.std.proofs.Common.{refl}
-use Rattle.hg_reloc.proofs.Finding.{finds_among}
+use Rattle.hg_reloc.proofs.Reading.{finds_object}
 use Rattle.hg_reloc.proofs.object.object_at.Goals as goal
 
-pub returns-in-Some-clause-among : goal.returns-in-Some-clause-among
-returns-in-Some-clause-among c =
-    finds_among c.args.page.now c.args.offset _ refl refl c.get_u16.ensures.value c.get_u64.ensures.value
+pub returns-clause-heap : goal.returns-clause-heap
+returns-clause-heap c = finds_object c.args.page.now c.args.offset c.find_object.result c.find_object.ensures.among

@@ -1,5 +1,4 @@
-use Rattle.std.proofs.Common.{rules, ◌≡◌, ◌<◌, arith, sym}
-use Rattle.hg_reloc.specs.Moves.{entry, leads_to, AreMoves}
+use Rattle.std.proofs.Common.{arith}
 use Rattle.hg_reloc.proofs.Entries.{room, sound_more}
 use Rattle.hg_reloc.proofs.map.MoveMap.set.Goals as goal
 
