@@ -1,6 +1,6 @@
 //! Why a statement is refused.
 ghost use Rattle.std.specs.Prelude.{◌≡◌};
-ghost use Rattle.hg_model.specs.Refusal.{UnknownTable, UnknownColumn, NameTaken, TypeMismatch, TooWide, TooMany, NotGrouped};
+ghost use Rattle.hg_model.specs.Refusal.{UnknownTable, UnknownColumn, NameTaken, TypeMismatch, TooWide, TooMany, NotGrouped, KeyTooLong};
 ghost use Rattle.hg_bind.specs.Bound.{error_of};
 
 use hg_model::{ColRef, Count, Name};
@@ -87,6 +87,12 @@ pub fn too_wide() -> BindError
     ensures { result ≡ error_of TooWide }
 {
     without_words(7)
+}
+
+pub fn key_too_long() -> BindError
+    ensures { result ≡ error_of KeyTooLong }
+{
+    without_words(25)
 }
 
 pub fn not_grouped() -> BindError

@@ -15,6 +15,7 @@
 
 mod columns;
 mod create;
+mod create_index;
 mod delete;
 mod errors;
 mod insert;
@@ -24,6 +25,7 @@ mod update;
 mod width;
 
 pub use create::refuse_table;
+pub use create_index::place_index;
 pub use delete::{BoundDelete, bind_delete, place_delete};
 pub use errors::BindError;
 pub use insert::{BoundInsert, bind_insert, place_insert};
