@@ -21,6 +21,8 @@ mod errors;
 mod insert;
 mod kinds;
 mod nodes;
+#[cfg(test)]
+mod tests;
 mod update;
 mod width;
 
