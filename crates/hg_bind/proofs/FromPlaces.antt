@@ -1,12 +1,12 @@
 -- The column that a name means among those of FROM.
-use Rattle.std.proofs.Common.{◌≡◌, ◌≤◌, ◌<◌, ℕ, zero, suc, ◌+◌, Bool, true, false, List, [], ◌∷◌, ◌++◌, Option, Some, None, refl, sym, ap, subst, ◌∙◌, ◌-◌, length, cond, not, ◌&&◌, get_or, take, drop, arith}
+use Rattle.std.proofs.Common.{◌≡◌, ◌≤◌, ◌<◌, ℕ, zero, suc, ◌+◌, Bool, true, false, List, [], ◌∷◌, ◌++◌, Some, None, refl, sym, ap, subst, ◌∙◌, ◌-◌, length, cond, not, ◌&&◌, get_or, take, drop, arith}
 use Rattle.std.specs.Prelude.{slice_get, nat_lt}
 use Rattle.std.specs.List.{count_by, position_or_len}
 use Rattle.std.proofs.lemmas.Bool.Decides.{nat_tests}
 use Rattle.std.proofs.lemmas.List.{take_all}
 use Rattle.std.proofs.lemmas.List.Sums.{sum_by-append, sum_by-cons}
 use Rattle.hg_model.specs.Binding.{cause_of_count}
-use Rattle.hg_model.specs.Refusal.{Refusal, UnknownColumn, AmbiguousColumn}
+use Rattle.hg_model.specs.Refusal.{UnknownColumn, AmbiguousColumn}
 use Rattle.hg_model.specs.Scope.{columns_from, columns_of, is_named, is_meant, scope_from}
 use Rattle.hg_model.specs.Tables.{Table, table_named}
 use Rattle.hg_model.specs.declared.tables.FromColumn.{FromColumn}

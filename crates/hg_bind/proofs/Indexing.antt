@@ -1,11 +1,11 @@
 -- The first cause against CREATE INDEX.
-use Rattle.std.proofs.Common.{◌≡◌, ◌<◌, ◌≤◌, ℕ, zero, suc, ◌+◌, Bool, true, false, List, [], ◌∷◌, ◌++◌, Option, Some, None, map, refl, sym, ap, ◌∙◌, length, get_or, drop, take, not, ◌&&◌, ◌||◌, arith, if◌then◌else◌}
+use Rattle.std.proofs.Common.{◌≡◌, ◌<◌, ◌≤◌, ℕ, zero, suc, ◌+◌, Bool, true, false, List, [], ◌∷◌, Option, Some, None, map, refl, sym, ap, ◌∙◌, length, get_or, drop, not, ◌&&◌, ◌||◌, arith, if◌then◌else◌}
 use Rattle.std.specs.Prelude.{is_some, option_map, slice_get, nat_lt, nat_le}
 use Rattle.std.specs.List.{list_any}
 use Rattle.std.proofs.lemmas.List.{drop_all, drop_more}
-use Rattle.hg_catalog.specs.Contents.{Contents, CatalogTable, CatalogIndex}
+use Rattle.hg_catalog.specs.Contents.{CatalogTable, CatalogIndex}
 use Rattle.hg_model.specs.Binding.{cause_if, repeated_name}
-use Rattle.hg_model.specs.ChangeBinding.{table_cause, column_number}
+use Rattle.hg_model.specs.ChangeBinding.{column_number}
 use Rattle.hg_model.specs.Changes.{has_double}
 use Rattle.hg_model.specs.Creation.{Index, create_index_refusal, is_named_so, unknown_column, index_places, key_length}
 use Rattle.hg_model.specs.Refusal.{Refusal, UnknownTable, UnknownColumn, NameTaken, TooMany, DuplicateKey, KeyTooLong, first_cause}
@@ -14,7 +14,7 @@ use Rattle.hg_model.specs.Statements.{IndexTree}
 use Rattle.hg_model.specs.Tables.{Table, table_named, same_name}
 use Rattle.hg_model.specs.declared.trees.Count.TheVariants as count
 use Rattle.hg_model.specs.declared.trees.Column.{Column}
-use Rattle.hg_bind.specs.Bound.{IsTable, IsPlacedIndex, error_of, index_of, indexes_of, plain_name}
+use Rattle.hg_bind.specs.Bound.{IsTable, IsPlacedIndex, error_of, index_of, plain_name}
 use Rattle.hg_bind.specs.declared.errors.BindError.{BindError}
 use Rattle.hg_bind.proofs.NameCauses.{cause_first, cause_later, cause_none, handed}
 

@@ -1,5 +1,5 @@
 -- Columns by their names and numbers.
-use Rattle.std.proofs.Common.{◌≡◌, ◌<◌, ◌≤◌, ℕ, zero, suc, ◌+◌, List, [], ◌∷◌, ◌++◌, Option, Some, None, map, refl, sym, ap, ◌∙◌, length, get_or, arith}
+use Rattle.std.proofs.Common.{◌≡◌, ◌<◌, ◌≤◌, ℕ, zero, suc, ◌+◌, List, [], ◌∷◌, ◌++◌, refl, sym, ap, ◌∙◌, length, get_or, arith}
 use Rattle.std.specs.List.{range_with_len}
 use Rattle.hg_model.specs.ChangeBinding.{kind_of_column}
 use Rattle.hg_model.specs.Creation.{column_length}

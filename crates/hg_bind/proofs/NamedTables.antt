@@ -1,7 +1,7 @@
 -- The table of a name, by its number in the catalog.
 use Rattle.std.proofs.Common.{◌≡◌, ◌<◌, ◌≤◌, ℕ, zero, suc, ◌+◌, Bool, true, false, List, [], ◌∷◌, Option, Some, None, map, refl, sym, ap, ◌∙◌, length, cond, not, ltb, arith}
 use Rattle.std.specs.Prelude.{slice_get, option_map, is_some}
-use Rattle.std.specs.List.{position, position_or_len, find}
+use Rattle.std.specs.List.{position_or_len, find}
 use Rattle.std.proofs.lemmas.Bool.Decides.{nat_tests}
 use Rattle.std.proofs.lemmas.Option.{slice_get-map}
 use Rattle.hg_catalog.specs.Contents.{Contents, CatalogTable, table_number}

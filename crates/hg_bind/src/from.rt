@@ -2,14 +2,15 @@
 ghost use Rattle.std.specs.Prelude.{◌≡◌, ◌≤◌, ◌<◌, ◌+◌, None, Some, IfOk, IfErr, IfSome, IfNone, length, option_map};
 ghost use Rattle.std.specs.List.{count_by, position_or_len};
 ghost use Rattle.hg_model.specs.Binding.{column_cause};
-ghost use Rattle.hg_model.specs.Scope.{column_meant, is_meant, is_named, scope_from};
+ghost use Rattle.hg_model.specs.Query.{query_of};
+ghost use Rattle.hg_model.specs.Scope.{is_in_outputs, is_meant, is_named, is_within, scope_from, scope_of, seen_from, tables_seen};
 ghost use Rattle.hg_bind.specs.Bound.{error_of, tables_of};
 ghost use Rattle.hg_bind.specs.From.{columns_of_from, IsPlaceOf};
 
 use crate::errors::{BindError, ambiguous_reference, unknown_reference};
 use crate::nodes::place_of_column;
 use hg_catalog::Catalog;
-use hg_model::{ColRef, FromTable};
+use hg_model::{ColRef, FromTable, Output, Select};
 
 /// How many columns of FROM a name means, and the place of the first: its table's number in FROM, and its
 /// own number there.
@@ -91,5 +92,72 @@ pub fn place_in_from(
         0 => Err(unknown_reference(column)),
         1 => Ok((found.table, found.column)),
         _ => Err(ambiguous_reference(column)),
+    }
+}
+
+/// Whether a node stands in a condition of ON, or before it.
+fn is_within(on: &Option<u8>, node: u8) -> bool
+    ensures { result ≡ is_within on.now node }
+{
+    match on {
+        None => false,
+        Some(root) => node <= *root,
+    }
+}
+
+fn is_in_outputs(outputs: &[Output], node: u8) -> bool
+    ensures { result ≡ is_in_outputs outputs.now node }
+{
+    for output in outputs {
+        if node <= output.node {
+            return true;
+        }
+    }
+    false
+}
+
+fn seen_by_condition(froms: &[FromTable], node: u8) -> u8
+    requires { length froms.now ≤ 4 }
+    ensures { result ≡ seen_from 0 froms.now node }
+{
+    for place in 0..froms.len() {
+        if is_within(&froms[place].on, node) {
+            return place as u8 + 1;
+        }
+    }
+    froms.len() as u8
+}
+
+/// How many tables of FROM, from the left, a node sees: a condition of ON those to its left and its own,
+/// every other place all.
+fn tables_seen(select: &Select, node: u8) -> u8
+    ensures { result ≡ tables_seen (query_of select.now) node }
+{
+    let froms = select.tables.as_slice();
+    if is_in_outputs(select.outputs.as_slice(), node) {
+        froms.len() as u8
+    } else {
+        seen_by_condition(froms, node)
+    }
+}
+
+/// The column of FROM that the name at a node of a SELECT means, where it is no key of ORDER BY.
+pub fn place_of_name(
+    select: &Select,
+    node: u8,
+    catalog: &Catalog,
+    column: &ColRef,
+) -> Result<(u8, u8), BindError>
+    ensures ok { IfOk result (λ p. column_cause (scope_of (tables_of catalog.now) (query_of select.now))
+        (tables_seen (query_of select.now) node) column.now ≡ None) }
+    ensures place { IfOk result (λ p. IsPlaceOf (scope_of (tables_of catalog.now) (query_of select.now))
+        (tables_seen (query_of select.now) node) column.now p.0 p.1) }
+    ensures err { IfErr result (λ e. option_map error_of (column_cause (scope_of (tables_of catalog.now) (query_of select.now))
+        (tables_seen (query_of select.now) node) column.now) ≡ Some e) }
+{
+    let seen = tables_seen(select, node);
+    match place_in_from(select.tables.as_slice(), seen, catalog, column) {
+        Ok(place) => Ok(place),
+        Err(error) => Err(error),
     }
 }

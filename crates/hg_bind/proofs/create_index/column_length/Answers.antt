@@ -1,4 +1,4 @@
-use Rattle.std.proofs.Common.{◌≡◌, sym, ◌∙◌}
+use Rattle.std.proofs.Common.{sym, ◌∙◌}
 use Rattle.hg_bind.proofs.Lookups.{length_there, length_outside}
 use Rattle.hg_bind.proofs.create_index.column_length.Goals as goal
 

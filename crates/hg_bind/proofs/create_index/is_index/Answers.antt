@@ -1,8 +1,8 @@
-use Rattle.std.proofs.Common.{◌≡◌, ◌+◌, ◌||◌, sym, ◌∙◌, ap, drop, length, arith}
+use Rattle.std.proofs.Common.{◌+◌, ◌||◌, sym, ◌∙◌, ap, drop}
 use Rattle.std.specs.List.{list_any}
 use Rattle.std.specs.Option.{option_copied}
-use Rattle.hg_bind.specs.Bound.{indexes_of, index_of}
-use Rattle.hg_bind.proofs.Indexing.{index_step, index_end, has}
+use Rattle.hg_bind.specs.Bound.{indexes_of}
+use Rattle.hg_bind.proofs.Indexing.{index_step, has}
 use Rattle.hg_bind.proofs.create_index.is_index.Goals as goal
 
 pub returns-then-is_same : goal.returns-then-is_same

@@ -1,7 +1,5 @@
-use Rattle.std.proofs.Common.{◌≡◌, sym, ◌∙◌, ap, arith, Some, length}
+use Rattle.std.proofs.Common.{sym, ◌∙◌, ap, Some}
 use Rattle.std.specs.Prelude.{option_map}
-use Rattle.std.proofs.lemmas.List.{drop_all}
-use Rattle.hg_model.specs.Creation.{unknown_column}
 use Rattle.hg_bind.specs.Bound.{error_of}
 use Rattle.hg_bind.proofs.Indexing.{unknown_at, known_at}
 use Rattle.hg_bind.proofs.NameCauses.{number_here}

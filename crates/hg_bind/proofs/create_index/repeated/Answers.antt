@@ -1,4 +1,4 @@
-use Rattle.std.proofs.Common.{◌≡◌, sym, ◌∙◌, ap, Some}
+use Rattle.std.proofs.Common.{sym, ◌∙◌, ap, Some}
 use Rattle.std.specs.Prelude.{option_map}
 use Rattle.hg_bind.specs.Bound.{error_of}
 use Rattle.hg_bind.proofs.Creating.{repeated_here, fresh_here}

@@ -1,4 +1,4 @@
-use Rattle.std.proofs.Common.{◌≡◌, ◌+◌, sym, ◌∙◌, ap, arith}
+use Rattle.std.proofs.Common.{◌+◌, arith}
 use Rattle.hg_bind.specs.Bound.{tables_of}
 use Rattle.hg_bind.proofs.FromPlaces.{unseen_counted, unseen_placed, none_counted, none_placed, one_counted, one_placed}
 use Rattle.hg_bind.proofs.from.+find_column.Goals as goal

@@ -1,4 +1,4 @@
-use Rattle.std.proofs.Common.{◌≡◌, sym, ◌∙◌, ap, Some}
+use Rattle.std.proofs.Common.{sym, ◌∙◌, ap, Some}
 use Rattle.std.specs.List.{count_by, position_or_len}
 use Rattle.hg_model.specs.Scope.{columns_from, columns_of, is_named}
 use Rattle.hg_bind.proofs.NamedTables.{unnamed, columns_are}
