@@ -1,8 +1,8 @@
 -- The first cause against a DELETE.
-use Rattle.std.proofs.Common.{◌≡◌, ℕ, Bool, true, false, List, [], ◌∷◌, Option, Some, None, map, refl, sym, ap, ◌∙◌, not, ◌&&◌}
+use Rattle.std.proofs.Common.{◌≡◌, ℕ, Bool, true, false, List, ◌∷◌, Option, Some, None, map, sym, ap, ◌∙◌, not, ◌&&◌}
 use Rattle.std.specs.Prelude.{is_some, option_map}
 use Rattle.hg_model.specs.Binding.{cause_if}
-use Rattle.hg_model.specs.ChangeBinding.{delete_refusal, node_name_cause, change_kinds, change_positions, filter_fits, table_scope}
+use Rattle.hg_model.specs.ChangeBinding.{delete_refusal, node_name_cause, change_kinds, change_positions, filter_fits}
 use Rattle.hg_model.specs.Refusal.{Refusal, UnknownTable, TypeMismatch, first_cause}
 use Rattle.hg_model.specs.Scope.{columns_from, columns_of}
 use Rattle.hg_model.specs.Statements.{DeleteTree}
@@ -14,7 +14,7 @@ use Rattle.hg_model.specs.declared.trees.Node.{Node}
 use Rattle.hg_bind.specs.Bound.{IsTable, IsPlacedDelete, error_of, row_places, numbers_of, causes_behind_types}
 use Rattle.hg_bind.specs.Kinds.{kinds_of_nodes}
 use Rattle.hg_bind.specs.declared.errors.BindError.{BindError}
-use Rattle.hg_bind.proofs.NameCauses.{cause_first, cause_later, cause_none, handed}
+use Rattle.hg_bind.proofs.NameCauses.{cause_first, cause_later, handed}
 use Rattle.hg_bind.proofs.NodeKinds.{kinds_are}
 
 abbrev fit : List Node → Option ℕ → List Kind → Bool

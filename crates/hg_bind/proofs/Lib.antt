@@ -1,6 +1,8 @@
 pub mod Creating
 pub mod Deletion
 pub mod Digits
+pub mod FromPlaces
+pub mod Indexing
 pub mod Insertion
 pub mod Lookups
 pub mod NameCauses

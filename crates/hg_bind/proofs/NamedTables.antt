@@ -1,11 +1,11 @@
 -- The table of a name, by its number in the catalog.
 use Rattle.std.proofs.Common.{◌≡◌, ◌<◌, ◌≤◌, ℕ, zero, suc, ◌+◌, Bool, true, false, List, [], ◌∷◌, Option, Some, None, map, refl, sym, ap, ◌∙◌, length, cond, not, ltb, arith}
 use Rattle.std.specs.Prelude.{slice_get, option_map, is_some}
-use Rattle.std.specs.List.{position, position_or_len, find}
+use Rattle.std.specs.List.{position_or_len, find}
 use Rattle.std.proofs.lemmas.Bool.Decides.{nat_tests}
 use Rattle.std.proofs.lemmas.Option.{slice_get-map}
 use Rattle.hg_catalog.specs.Contents.{Contents, CatalogTable, table_number}
-use Rattle.hg_model.specs.Scope.{columns_of}
+use Rattle.hg_model.specs.Scope.{columns_of, rows_of}
 use Rattle.hg_model.specs.Tables.{Table, table_named, same_name}
 use Rattle.hg_model.specs.declared.trees.Column.{Column}
 use Rattle.hg_bind.specs.Bound.{table_of, tables_of, IsTable}
@@ -80,3 +80,11 @@ module _ (name : List ℕ) where
   is_there c n is =
       let f = found _ _ n is in
       ap is_some (named c.tables ∙ ap (λ k. option_map table_of (slice_get c.tables k)) f.0) ∙ inside c.tables n f.1
+
+  rows_gone : (o : Option CatalogTable) → rows_of (option_map table_of o) ≡ []
+  rows_gone None = refl
+  rows_gone (Some x) = refl
+
+  -- binding looks at no row
+  pub no_rows : (c : Contents) → rows_of (table_named (tables_of c) name) ≡ []
+  no_rows c = ap rows_of (named c.tables) ∙ rows_gone (slice_get c.tables (position_or_len has c.tables))

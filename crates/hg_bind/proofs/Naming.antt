@@ -1,14 +1,11 @@
 -- The column that a name means among those of one table.
-use Rattle.std.proofs.Common.{◌≡◌, ℕ, zero, suc, ◌+◌, Bool, true, false, List, [], ◌∷◌, Option, Some, None, map, refl, sym, ap, ◌∙◌, ◌++◌, ◌<◌, length, cond, not, ◌||◌, ◌&&◌, arith, get_or, drop, take}
-use Rattle.std.specs.Prelude.{option_map}
+use Rattle.std.proofs.Common.{◌≡◌, ℕ, suc, ◌+◌, Bool, true, false, List, [], ◌∷◌, None, map, refl, sym, ap, ◌∙◌, ◌++◌, ◌<◌, length, cond, not, ◌||◌, ◌&&◌, get_or, take}
 use Rattle.std.specs.List.{count_by, list_any, position_or_len}
 use Rattle.std.specs.Cmp.Lexicographic.{nat_list_eq_equiv}
 use Rattle.std.proofs.lemmas.List.Sums.{sum_by-cons}
-use Rattle.std.proofs.lemmas.List.{drop_more, take_more, map-append, length-map}
+use Rattle.std.proofs.lemmas.List.{take_more, map-append}
 use Rattle.hg_catalog.specs.Contents.{are_different_names}
-use Rattle.hg_model.specs.Binding.{cause_of_count}
 use Rattle.hg_model.specs.ChangeBinding.{column_number, place_of_node, change_positions, node_name_cause}
-use Rattle.hg_model.specs.Refusal.{Refusal, first_cause}
 use Rattle.hg_model.specs.Scope.{columns_from, is_named, is_of_table}
 use Rattle.hg_model.specs.Tables.{same_name}
 use Rattle.hg_model.specs.declared.tables.FromColumn.{FromColumn}

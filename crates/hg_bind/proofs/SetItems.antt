@@ -1,5 +1,5 @@
 -- SET items, one item after the other.
-use Rattle.std.proofs.Common.{◌≡◌, ◌<◌, ℕ, ◌+◌, Bool, true, false, List, [], ◌∷◌, map, refl, sym, ap, ◌∙◌, length, get_or, drop, ◌&&◌, arith}
+use Rattle.std.proofs.Common.{◌≡◌, ◌<◌, ℕ, ◌+◌, Bool, List, map, sym, ap, ◌∙◌, length, get_or, drop, ◌&&◌, arith}
 use Rattle.std.proofs.lemmas.List.{drop_more, length-map, get_or-map}
 use Rattle.hg_model.specs.ChangeBinding.{column_number, kind_of_column, sets_fit}
 use Rattle.hg_model.specs.Types.{Kind, agree, kind_at}

@@ -1,5 +1,5 @@
 -- The first cause against an UPDATE.
-use Rattle.std.proofs.Common.{◌≡◌, ℕ, Bool, true, false, List, [], ◌∷◌, Option, Some, None, map, refl, sym, ap, ◌∙◌, not, ◌&&◌}
+use Rattle.std.proofs.Common.{◌≡◌, ℕ, Bool, true, false, List, [], ◌∷◌, Option, Some, None, map, sym, ap, ◌∙◌, not, ◌&&◌}
 use Rattle.std.specs.Prelude.{is_some, option_map}
 use Rattle.std.proofs.lemmas.Simd.{map-map}
 use Rattle.hg_model.specs.Binding.{cause_if}
@@ -15,7 +15,7 @@ use Rattle.hg_model.specs.declared.trees.Node.{Node}
 use Rattle.hg_bind.specs.Bound.{IsTable, IsPlacedUpdate, error_of, names_set, row_places, numbers_of, causes_behind_types}
 use Rattle.hg_bind.specs.Kinds.{kinds_of_nodes}
 use Rattle.hg_bind.specs.declared.errors.BindError.{BindError}
-use Rattle.hg_bind.proofs.NameCauses.{cause_first, cause_later, cause_none, handed}
+use Rattle.hg_bind.proofs.NameCauses.{cause_first, cause_later, handed}
 use Rattle.hg_bind.proofs.NodeKinds.{kinds_are}
 
 abbrev fit : List Column → List (List ℕ × ℕ) → List Node → Option ℕ → List Kind → Bool

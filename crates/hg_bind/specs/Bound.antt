@@ -4,11 +4,11 @@ use Rattle.std.specs.List.{list_any}
 use Rattle.hg_catalog.specs.Contents.{Contents, CatalogTable, CatalogIndex}
 use Rattle.hg_model.specs.Binding.{cause_if}
 use Rattle.hg_model.specs.ChangeBinding.{insert_refusal, insert_targets, delete_refusal, update_refusal, update_targets, change_positions, table_scope}
-use Rattle.hg_model.specs.Creation.{Index}
+use Rattle.hg_model.specs.Creation.{Index, create_index_refusal, index_places}
 use Rattle.hg_model.specs.Refusal.{Refusal, UnknownTable, UnknownColumn, AmbiguousColumn, TypeMismatch, TooWide, NameTaken, TooMany, NotGrouped, DoesNotFit, NullNotAllowed, DuplicateKey, BadNumber, RowTooLong, StampsUsedUp, KeyTooLong, code_of}
 use Rattle.hg_model.specs.Scope.{columns_of}
 use Rattle.hg_model.specs.SelectMeaning.{is_aggregate}
-use Rattle.hg_model.specs.Statements.{InsertTree, UpdateTree, DeleteTree}
+use Rattle.hg_model.specs.Statements.{IndexTree, InsertTree, UpdateTree, DeleteTree}
 use Rattle.hg_model.specs.Tables.{Table, table_named}
 use Rattle.hg_model.specs.Types.{all_narrow}
 use Rattle.hg_model.specs.declared.trees.ColRef.{ColRef}
@@ -123,3 +123,10 @@ pub record IsPlacedUpdate (tables : List Table) (u : UpdateTree) (table : ℕ) (
   pub table_is : IsTable tables u.table table
   pub targets_are : targets ≡ update_targets (columns_of (table_named tables u.table)) u
   pub places_are : places ≡ row_places (change_positions (table_scope tables u.table) u.nodes)
+
+-- A CREATE INDEX that nothing stands against, as far as no row is looked at, with the numbers of its table
+-- and of its columns.
+pub record IsPlacedIndex (tables : List Table) (indexes : List Index) (i : IndexTree) (table : ℕ) (numbers : List ℕ) : Type 0 where
+  pub unrefused : create_index_refusal tables indexes i ≡ None
+  pub table_is : IsTable tables i.table table
+  pub numbers_are : numbers ≡ index_places (columns_of (table_named tables i.table)) i

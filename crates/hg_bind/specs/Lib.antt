@@ -1,2 +1,3 @@
 pub mod Bound
+pub mod From
 pub mod Kinds

@@ -1,6 +1,6 @@
 //! Why a statement is refused.
 ghost use Rattle.std.specs.Prelude.{◌≡◌};
-ghost use Rattle.hg_model.specs.Refusal.{UnknownTable, UnknownColumn, NameTaken, TypeMismatch, TooWide, TooMany, NotGrouped};
+ghost use Rattle.hg_model.specs.Refusal.{UnknownTable, UnknownColumn, AmbiguousColumn, NameTaken, TypeMismatch, TooWide, TooMany, NotGrouped, KeyTooLong};
 ghost use Rattle.hg_bind.specs.Bound.{error_of};
 
 use hg_model::{ColRef, Count, Name};
@@ -38,6 +38,17 @@ pub fn unknown_reference(column: &ColRef) -> BindError
 {
     BindError {
         code: 4,
+        name: Some(column.copy()),
+        kind: None,
+    }
+}
+
+/// A column's name, with its table's where it is written, that several columns have.
+pub fn ambiguous_reference(column: &ColRef) -> BindError
+    ensures { result ≡ error_of (AmbiguousColumn column.now) }
+{
+    BindError {
+        code: 5,
         name: Some(column.copy()),
         kind: None,
     }
@@ -87,6 +98,12 @@ pub fn too_wide() -> BindError
     ensures { result ≡ error_of TooWide }
 {
     without_words(7)
+}
+
+pub fn key_too_long() -> BindError
+    ensures { result ≡ error_of KeyTooLong }
+{
+    without_words(25)
 }
 
 pub fn not_grouped() -> BindError

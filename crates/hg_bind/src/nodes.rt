@@ -31,7 +31,7 @@ fn is_of_table(written: &Option<Name>, table: &Name) -> bool
 }
 
 /// The number of the column that a name means.
-fn place_of_column(columns: &[Column], table: &Name, column: &ColRef) -> Option<u8>
+pub fn place_of_column(columns: &[Column], table: &Name, column: &ColRef) -> Option<u8>
     requires { IsNewTable columns.now }
     ensures place { IfSome result (λ k. k ≡ position_or_len (is_named column.now) (columns_from 0 table.now 0 columns.now)) }
     ensures one { IfSome result (λ k. count_by (is_named column.now) (columns_from 0 table.now 0 columns.now) ≡ 1) }

@@ -1,4 +1,4 @@
-use Rattle.std.proofs.Common.{◌≡◌, sym, ◌∙◌, ap, arith, Some, None, [], take, drop, length}
+use Rattle.std.proofs.Common.{sym, ◌∙◌, ap, arith, Some, take}
 use Rattle.std.specs.Prelude.{option_map}
 use Rattle.std.proofs.lemmas.List.{drop_all}
 use Rattle.hg_model.specs.ChangeBinding.{columns_cause}

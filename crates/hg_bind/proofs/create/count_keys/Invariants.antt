@@ -1,7 +1,6 @@
 use Rattle.std.proofs.Common.{◌≡◌, ◌≤◌, take}
 use Rattle.std.specs.List.{count_by}
 use Rattle.hg_model.specs.Creation.{is_key}
-use Rattle.hg_model.specs.declared.trees.NewColumn.{NewColumn}
 use Rattle.hg_bind.proofs.create.count_keys.Given as goal
 
 abbrev pub invariant-loop-column : goal.invariant-loop-column

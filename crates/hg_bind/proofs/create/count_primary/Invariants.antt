@@ -1,6 +1,5 @@
 use Rattle.std.proofs.Common.{◌≡◌, ◌≤◌, take}
 use Rattle.std.specs.List.{count_by}
-use Rattle.hg_model.specs.Creation.{is_key}
 use Rattle.hg_model.specs.declared.trees.NewColumn.{NewColumn}
 use Rattle.hg_bind.proofs.create.count_primary.Given as goal
 

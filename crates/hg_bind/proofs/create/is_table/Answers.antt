@@ -1,4 +1,4 @@
-use Rattle.std.proofs.Common.{◌≡◌, sym, ◌∙◌, ap}
+use Rattle.std.proofs.Common.{sym, ◌∙◌, ap}
 use Rattle.std.specs.Prelude.{is_some}
 use Rattle.hg_bind.proofs.NamedTables.{unnamed, is_there}
 use Rattle.hg_bind.proofs.create.is_table.Goals as goal

@@ -1,8 +1,7 @@
-use Rattle.std.proofs.Common.{◌≡◌, sym, ◌∙◌, ap, arith, Some, get_or, take, length}
+use Rattle.std.proofs.Common.{sym, ◌∙◌, ap, Some, get_or}
 use Rattle.std.specs.Prelude.{option_map}
 use Rattle.std.specs.List.{list_any}
-use Rattle.std.proofs.lemmas.List.{drop_all, length-map, take-map}
-use Rattle.hg_model.specs.Binding.{repeated_from}
+use Rattle.std.proofs.lemmas.List.{take-map}
 use Rattle.hg_model.specs.Tables.{same_name}
 use Rattle.hg_bind.specs.Bound.{error_of, names_made}
 use Rattle.hg_bind.proofs.Creating.{repeated_here, fresh_here, name_made, made_within, made_here}

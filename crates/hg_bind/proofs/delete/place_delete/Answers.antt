@@ -1,4 +1,4 @@
-use Rattle.std.proofs.Common.{◌≡◌, sym, ◌∙◌, ap, subst, Some, None}
+use Rattle.std.proofs.Common.{sym, ◌∙◌, ap, subst, Some}
 use Rattle.std.specs.Prelude.{option_map}
 use Rattle.hg_model.specs.Statements.{delete_tree}
 use Rattle.hg_bind.specs.Bound.{error_of, tables_of, IsPlacedDelete}

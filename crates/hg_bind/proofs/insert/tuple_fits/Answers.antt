@@ -1,4 +1,4 @@
-use Rattle.std.proofs.Common.{◌≡◌, sym, arith}
+use Rattle.std.proofs.Common.{sym}
 use Rattle.hg_bind.proofs.Tuples.{uneven}
 use Rattle.hg_bind.proofs.insert.tuple_fits.Goals as goal
 

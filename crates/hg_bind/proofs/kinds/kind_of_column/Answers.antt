@@ -1,4 +1,4 @@
-use Rattle.std.proofs.Common.{◌≡◌, sym, ◌∙◌}
+use Rattle.std.proofs.Common.{sym, ◌∙◌}
 use Rattle.hg_bind.proofs.Lookups.{kind_there, kind_outside}
 use Rattle.hg_bind.proofs.kinds.kind_of_column.Goals as goal
 

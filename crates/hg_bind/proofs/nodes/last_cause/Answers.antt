@@ -1,9 +1,7 @@
-use Rattle.std.proofs.Common.{◌≡◌, ◌∷◌, [], Some, sym, ◌∙◌, ap, not}
+use Rattle.std.proofs.Common.{◌∷◌, [], Some, sym, ◌∙◌, ap, not}
 use Rattle.std.specs.Prelude.{option_map}
-use Rattle.std.specs.List.{list_any}
 use Rattle.hg_model.specs.Binding.{cause_if}
 use Rattle.hg_model.specs.Refusal.{TooWide, NotGrouped, first_cause}
-use Rattle.hg_model.specs.SelectMeaning.{is_aggregate}
 use Rattle.hg_model.specs.Types.{all_narrow}
 use Rattle.hg_bind.specs.Bound.{error_of}
 use Rattle.hg_bind.proofs.NameCauses.{cause_first, cause_later, cause_none}

@@ -1,4 +1,4 @@
-use Rattle.std.proofs.Common.{◌≡◌, ◌+◌, sym, ◌∙◌, ap, arith, length, length-append, [], ◌∷◌, map, drop, get_or}
+use Rattle.std.proofs.Common.{◌+◌, ◌∙◌, ap, map, drop, get_or}
 use Rattle.hg_model.specs.ChangeBinding.{kind_of_column}
 use Rattle.hg_model.specs.Types as model
 use Rattle.hg_bind.specs.Bound.{numbers_of}

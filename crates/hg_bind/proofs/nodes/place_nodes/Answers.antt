@@ -1,4 +1,4 @@
-use Rattle.std.proofs.Common.{◌≡◌, ◌+◌, ◌++◌, ◌∷◌, [], sym, ◌∙◌, ap, arith, map, drop, take}
+use Rattle.std.proofs.Common.{sym, ◌∙◌, ap, arith, map}
 use Rattle.std.specs.Prelude.{option_map}
 use Rattle.std.proofs.lemmas.List.{drop_all}
 use Rattle.hg_model.specs.ChangeBinding.{node_name_cause}

@@ -1,4 +1,4 @@
-use Rattle.std.proofs.Common.{◌≡◌, sym, ◌∙◌}
+use Rattle.std.proofs.Common.{sym, ◌∙◌}
 use Rattle.hg_bind.proofs.Naming.{other_table, same_place, same_count, one_counted, none_counted}
 use Rattle.hg_bind.proofs.nodes.place_of_column.Goals as goal
 

@@ -1,4 +1,4 @@
-use Rattle.std.proofs.Common.{◌≡◌, sym, ◌∙◌}
+use Rattle.std.proofs.Common.{sym, ◌∙◌}
 use Rattle.hg_model.specs.Scope.{columns_from}
 use Rattle.hg_bind.proofs.Naming.{no_column, scope_length}
 use Rattle.hg_bind.proofs.nodes.place_of_node.Goals as goal

@@ -1,4 +1,4 @@
-use Rattle.std.proofs.Common.{◌≡◌, sym, ◌∙◌, ap, arith, Some, None, [], take, drop, length, get_or}
+use Rattle.std.proofs.Common.{sym, ◌∙◌, ap, arith, Some, take, get_or}
 use Rattle.std.specs.Prelude.{option_map}
 use Rattle.std.specs.List.{list_any}
 use Rattle.std.proofs.lemmas.List.{drop_all, length-map, take-map}

@@ -1,4 +1,4 @@
-use Rattle.std.proofs.Common.{◌≡◌, ◌+◌, ◌&&◌, sym, ◌∙◌, ap, map, drop}
+use Rattle.std.proofs.Common.{◌+◌, ◌&&◌, sym, ◌∙◌, ap, map, drop}
 use Rattle.hg_model.specs.ChangeBinding.{sets_fit}
 use Rattle.hg_bind.specs.Kinds.{shown}
 use Rattle.hg_bind.proofs.SetItems.{set_step}
