@@ -35,6 +35,7 @@ mod keep;
 mod laws;
 mod line;
 mod lists;
+mod parsed;
 mod places;
 mod room;
 mod select;
@@ -45,6 +46,7 @@ pub use laws::{
     what_is_kept_judges_alike,
 };
 pub use line::parse_into;
+pub use parsed::parse;
 pub use places::HeadingAt;
 pub use room::Room;
 pub use statement::{ParseError, Statement};
