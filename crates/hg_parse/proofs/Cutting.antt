@@ -4,10 +4,10 @@ use Rattle.std.specs.List.{list_any}
 use Rattle.std.specs.Option.{is_some, option_map}
 use Rattle.hg_model.specs.Reading.{is_long_name, is_long_text}
 use Rattle.hg_model.specs.Tokens.{Token, Word, Digits, Letters, Sign}
-use Rattle.hg_parse.specs.AtHand.{stream_by, stream_within, stream, is_whole, from_token, tokens, whole_from, Carried, carried, text_size, left, GoesOn}
+use Rattle.hg_parse.specs.AtHand.{stream_by, stream_within, stream, is_whole, from_token, behind_token, tokens, whole_from, Carried, carried, text_size, left, GoesOn}
 use Rattle.hg_parse.specs.Steps.{behind}
 use Rattle.hg_parse.specs.declared.input.Input.{Input}
-use Rattle.hg_scan.specs.Cutting.{Front, AtEnd, Wrong, Next, front_of, tokens_of}
+use Rattle.hg_scan.specs.Cutting.{Front, AtEnd, Wrong, Next, front_of, tokens_of, tokens_by, tokens_within}
 use Rattle.hg_scan.specs.PieceLaws.{text_fits}
 use Rattle.hg_scan.specs.Pieces.{token_by}
 use Rattle.hg_scan.specs.Shown.{token_of, Cuts}
@@ -75,19 +75,14 @@ or_false : (b c : Bool) → ((b || false) || c) ≡ (b || c)
 or_false true c = refl
 or_false false c = refl
 
-any_by : (test : Token → Bool) (f : Front) (p : Piece) (old new : List ℕ) → front_of old ≡ f → Cuts f p old new
-    → (list_any test (from_token (token_of p) []) || list_any test (stream new)) ≡ list_any test (stream old)
-any_by test AtEnd p old new e h =
-    ap (λ k. list_any test (from_token (token_by k p.bytes.now) []) || list_any test (stream new)) h.0 ∙ ap (λ l. list_any test (stream l)) h.1
-any_by test Wrong p old new e h =
-    ap (λ k. list_any test (from_token (token_by k p.bytes.now) []) || list_any test (stream new)) h.0 ∙ ap (λ l. list_any test (stream l)) h.1
-any_by test (Next t rest) p old new e h =
-    ap (λ o. list_any test (from_token o []) || list_any test (stream new)) h.0
-    ∙ (or_false (test t) (list_any test (stream new)) ∙ (ap (λ l. test t || list_any test (stream l)) h.1 ∙ ap (list_any test) (sym (at_front old (Next t rest) e))))
+any_from : (test : Token → Bool) (o : Option Token) (ts : List Token)
+    → (list_any test (from_token o []) || list_any test (behind_token o ts)) ≡ list_any test (from_token o ts)
+any_from test None ts = refl
+any_from test (Some t) ts = or_false (test t) (list_any test ts)
 
 pub cut_any : (test : Token → Bool) (p : Piece) (old new : List ℕ) → Cuts (front_of old) p old new
-    → (list_any test (from_token (token_of p) []) || list_any test (stream new)) ≡ list_any test (stream old)
-cut_any test p old new h = any_by test (front_of old) p old new refl h
+    → (list_any test (from_token (token_of p) []) || list_any test (behind_token (token_of p) (stream new))) ≡ list_any test (stream old)
+cut_any test p old new h = any_from test (token_of p) (stream new) ∙ ap (list_any test) (cut_tokens (front_of old) p old new refl h)
 
 or_assoc : (a b c : Bool) → ((a || b) || c) ≡ (a || (b || c))
 or_assoc true b c = refl
@@ -127,12 +122,16 @@ pub first_carried : (i : Input) (line : List ℕ) → Cuts (front_of line) i.pie
 unfolding carried
 first_carried i line h n t =
     same_carried _ _ _ _ _ _ (cut_whole (front_of line) i.piece line i.scanner.rest.now refl h)
-    (ap (λ b. b || list_any is_long_name (stream i.scanner.rest.now)) n ∙ cut_any is_long_name i.piece line i.scanner.rest.now h)
-    (ap (λ b. b || list_any is_long_text (stream i.scanner.rest.now)) t ∙ cut_any is_long_text i.piece line i.scanner.rest.now h)
+    (ap (λ b. b || list_any is_long_name (behind_token (token_of i.piece) (stream i.scanner.rest.now))) n ∙ cut_any is_long_name i.piece line i.scanner.rest.now h)
+    (ap (λ b. b || list_any is_long_text (behind_token (token_of i.piece) (stream i.scanner.rest.now))) t ∙ cut_any is_long_text i.piece line i.scanner.rest.now h)
 
 behind_first : (o : Option Token) (ts : List Token) → 0 < length (from_token o ts) → behind (from_token o ts) ≡ ts
 behind_first None ts h = absurd (omega arith)
 behind_first (Some t) ts h = refl
+
+first_behind : (o : Option Token) (ts : List Token) → 0 < length (from_token o ts) → behind_token o ts ≡ ts
+first_behind None ts h = absurd (omega arith)
+first_behind (Some t) ts h = refl
 
 first_whole : (k : Kind) (bs : List ℕ) (ts : List Token) (b : Bool) → 0 < length (from_token (token_by k bs) ts) → whole_from k b ≡ b
 first_whole kind.End bs ts b h = absurd (omega arith)
@@ -165,8 +164,10 @@ next_carried i j h c n t =
     let new = j.scanner.rest.now in
     same_carried _ _ _ _ _ _
     (cut_whole (front_of old) j.piece old new refl c ∙ sym (first_whole i.piece.kind i.piece.bytes.now (stream old) (is_whole old) h))
-    (ap (λ b. b || list_any is_long_name (stream new)) n ∙ (or_assoc i.long_name _ _ ∙ ap (λ b. i.long_name || b) (cut_any is_long_name j.piece old new c)))
-    (ap (λ b. b || list_any is_long_text (stream new)) t ∙ (or_assoc i.long_text _ _ ∙ ap (λ b. i.long_text || b) (cut_any is_long_text j.piece old new c)))
+    (ap (λ b. b || list_any is_long_name (behind_token (token_of j.piece) (stream new))) n ∙ (or_assoc i.long_name _ _
+    ∙ (ap (λ b. i.long_name || b) (cut_any is_long_name j.piece old new c) ∙ ap (λ l. i.long_name || list_any is_long_name l) (sym (first_behind (token_of i.piece) (stream old) h)))))
+    (ap (λ b. b || list_any is_long_text (behind_token (token_of j.piece) (stream new))) t ∙ (or_assoc i.long_text _ _
+    ∙ (ap (λ b. i.long_text || b) (cut_any is_long_text j.piece old new c) ∙ ap (λ l. i.long_text || list_any is_long_text l) (sym (first_behind (token_of i.piece) (stream old) h)))))
 
 pub next_goes_on : (i j : Input) → 0 < length (tokens i) → Cuts (front_of i.scanner.rest.now) j.piece i.scanner.rest.now j.scanner.rest.now
     → j.long_name ≡ (i.long_name || list_any is_long_name (from_token (token_of j.piece) []))
@@ -176,3 +177,52 @@ next_goes_on i j h c n t = record {
   tokens = rw (next_tokens i j h c) (behind_shorter (tokens i));
   left = next_left_all i j c;
 }
+
+pub or_none : (b : Bool) → (b || false) ≡ b
+or_none true = refl
+or_none false = refl
+
+no_list : (us : List Token) → None ≡ Some us → ⊥
+no_list us h = cc
+
+one_list : (ts us : List Token) → Some ts ≡ Some us → ts ≡ us
+one_list ts us h = cc
+
+map_same : (t : Token) (o : Option (List Token)) (us vs : List Token) → ((ws : List Token) → o ≡ Some ws → vs ≡ ws) → option_map (λ ws. t ∷ ws) o ≡ Some us → t ∷ vs ≡ us
+map_same t None us vs same h = absurd (no_list us h)
+map_same t (Some ws) us vs same h = ap (λ l. t ∷ l) (same ws refl) ∙ one_list (t ∷ ws) us h
+
+front_same : (n : ℕ) (f : Front) (us : List Token) → ((rest : List ℕ) (ws : List Token) → tokens_within n rest ≡ Some ws → stream_within n rest ≡ ws)
+    → tokens_by f (tokens_within n) ≡ Some us → stream_by f (stream_within n) ≡ us
+front_same n AtEnd us same h = one_list [] us h
+front_same n Wrong us same h = absurd (no_list us h)
+front_same n (Next t rest) us same h = map_same t (tokens_within n rest) us (stream_within n rest) (same rest) h
+
+within_same : (n : ℕ) (line : List ℕ) (us : List Token) → tokens_within n line ≡ Some us → stream_within n line ≡ us
+unfolding tokens_within stream_within
+within_same zero line us h = absurd (no_list us h)
+within_same (suc n) line us h = front_same n (front_of line) us (λ rest ws e. within_same n rest ws e) h
+
+stream_same : (line : List ℕ) (us : List Token) → tokens_of line ≡ Some us → stream line ≡ us
+unfolding tokens_of stream
+stream_same line us h = within_same (suc (length line)) line us h
+
+none_whole : false ≡ true → ⊥
+none_whole h = cc
+
+whole_by : (line : List ℕ) (o : Option (List Token)) → tokens_of line ≡ o → is_some o ≡ true → tokens_of line ≡ Some (stream line)
+whole_by line None e h = absurd (none_whole h)
+whole_by line (Some us) e h = e ∙ ap Some (sym (stream_same line us e))
+
+-- a line that has tokens up to its end has those
+pub whole_tokens : (line : List ℕ) → is_whole line ≡ true → tokens_of line ≡ Some (stream line)
+unfolding is_whole
+whole_tokens line h = whole_by line (tokens_of line) refl h
+
+broken_by : (line : List ℕ) (o : Option (List Token)) → tokens_of line ≡ o → is_some o ≡ false → tokens_of line ≡ None
+broken_by line None e h = e
+broken_by line (Some us) e h = absurd (none_whole (sym h))
+
+pub broken_tokens : (line : List ℕ) → is_whole line ≡ false → tokens_of line ≡ None
+unfolding is_whole
+broken_tokens line h = broken_by line (tokens_of line) refl h

@@ -20,3 +20,8 @@ pub mod Moving
 pub mod Values
 pub mod Turns
 pub mod Expressions
+pub mod Answered
+pub mod Lines
+pub mod Fitting
+pub mod FittingParts
+pub mod KeptWhole

@@ -22,11 +22,11 @@ unfolding line_of command
 no_line l e = absurd (cc)
 
 -- tokens that are a line
-line_tokens : (max : ℕ) (ts : List Token) (l : Line) → line_of ts ≡ Some l → by_tokens max (Some ts) ≡ judged max ts l
+pub line_tokens : (max : ℕ) (ts : List Token) (l : Line) → line_of ts ≡ Some l → by_tokens max (Some ts) ≡ judged max ts l
 line_tokens max [] l e = absurd (no_line l e)
 line_tokens max (t ∷ ts) l e = ap (by_line max (t ∷ ts)) e
 
-has_line : (ts : List Token) (l : Line) → line_of ts ≡ Some l → IsLine ts l.command l.texts
+pub has_line : (ts : List Token) (l : Line) → line_of ts ≡ Some l → IsLine ts l.command l.texts
 has_line ts l e = subst (λ o. OnOption o (λ l. IsLine ts l.command l.texts)) e (line_read ts)
 
 some_line : (ts : List Token) (c : CommandTree) (x : List ℕ) → line_of ts ≡ Some (record { command = c; texts = x }) → IsLine ts c x

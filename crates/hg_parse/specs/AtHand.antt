@@ -43,6 +43,10 @@ abbrev pub from_token : Option Token → List Token → List Token
 from_token None ts = []
 from_token (Some t) ts = t ∷ ts
 
+abbrev pub behind_token : Option Token → List Token → List Token
+behind_token None ts = []
+behind_token (Some t) ts = ts
+
 -- the tokens at hand
 unfoldable pub tokens : Input → List Token
 tokens i = from_token (token_of i.piece) (stream i.scanner.rest.now)
@@ -62,8 +66,8 @@ pub record Carried : Type 0 where
 unfoldable pub carried : Input → Carried
 carried i = record {
   whole = whole_from i.piece.kind (is_whole i.scanner.rest.now);
-  long_name = i.long_name || list_any is_long_name (stream i.scanner.rest.now);
-  long_text = i.long_text || list_any is_long_text (stream i.scanner.rest.now);
+  long_name = i.long_name || list_any is_long_name (behind_token (token_of i.piece) (stream i.scanner.rest.now));
+  long_text = i.long_text || list_any is_long_text (behind_token (token_of i.piece) (stream i.scanner.rest.now));
 }
 
 abbrev pub text_size : Option Token → ℕ

@@ -11,3 +11,4 @@ pub mod AtHand
 pub mod Kept
 pub mod Commands
 pub mod Statements
+pub mod Parsing

@@ -1,5 +1,5 @@
 -- The statement that a room keeps.
-use Rattle.std.specs.Prelude.{ℕ, ◌^◌, Bool, List, [], ◌∷◌, Option, Some, None, Result, Ok, Err, nat_lt, take, if◌then◌else◌}
+use Rattle.std.specs.Prelude.{ℕ, ◌^◌, Bool, true, false, List, [], ◌∷◌, Option, Some, None, Result, Ok, Err, nat_lt, take, if◌then◌else◌}
 use Rattle.hg_model.specs.Query.{Query}
 use Rattle.hg_model.specs.Reading.{Reading, Blank, Syntax, BadNumber, TooMany, first_count}
 use Rattle.hg_model.specs.Reading.{Statement as StatementOf}
@@ -7,8 +7,11 @@ use Rattle.hg_model.specs.Statements.{CommandTree, CreateTable, CreateIndex, Ins
 use Rattle.hg_model.specs.declared.trees.Count.{Count}
 use Rattle.hg_model.specs.declared.trees.Count.TheVariants as count
 use Rattle.hg_parse.specs.Keeping.{Kept, short_name}
-use Rattle.hg_parse.specs.Kept.{kept}
-use Rattle.hg_parse.specs.Rules.{Heading, Form, TableForm, IndexForm, InsertForm, UpdateForm, DeleteForm, VacuumForm, SelectForm, OpenForm, StartForm, WorkForm, FetchForm, CloseForm, PoolForm, MplForm, MemoryForm}
+use Rattle.hg_parse.specs.Kept.{kept, form_at}
+use Rattle.hg_parse.specs.Rules.{Heading, Form, TableForm, IndexForm, InsertForm, UpdateForm, DeleteForm, VacuumForm, SelectForm, OpenForm, StartForm, WorkForm, FetchForm, CloseForm, PoolForm, MplForm, MemoryForm, ends_line}
+use Rattle.hg_parse.specs.Steps.{Answer}
+use Rattle.hg_parse.specs.declared.input.Syntax.{Syntax as Stops}
+use Rattle.hg_parse.specs.declared.places.FormAt.{FormAt}
 use Rattle.hg_parse.specs.declared.places.HeadingAt.{HeadingAt}
 use Rattle.hg_parse.specs.declared.room.Room.{Room}
 use Rattle.hg_parse.specs.declared.statement.ParseError.{ParseError}
@@ -80,3 +83,16 @@ reading_in (Ok (Some s)) k = StatementOf (tree_in s k) k.texts
 reading_in (Err error.Syntax) k = Syntax
 reading_in (Err error.BadNumber) k = BadNumber
 reading_in (Err (error.TooMany c)) k = TooMany c
+
+-- what is kept of a line of tokens: nothing where it is no command, or more stands behind it
+abbrev pub line_kept : Answer Kept Form → Option (Kept × Form)
+line_kept None = None
+line_kept (Some g) = if ends_line g.rest then Some (g.state, g.value) else None
+
+abbrev pub lined : Bool → Answer Kept Form → Option (Kept × Form)
+lined false a = None
+lined true a = line_kept a
+
+abbrev pub told_line : Result FormAt Stops → Room → Option (Kept × Form)
+told_line (Ok f) r = Some (kept r, form_at f)
+told_line (Err e) r = None

@@ -75,7 +75,11 @@ fn delete<'a>(input: &mut Input<'a>, room: &mut Room) -> Result<FormAt<'a>, Synt
 
 /// OPEN name FOR select, behind the name
 #[tactic(auto, unfolding(hg_model::specs::Tokens::is_reserved))]
-fn open_for<'a>(input: &mut Input<'a>, room: &mut Room, cursor: &NameAt<'a>) -> Result<FormAt<'a>, Syntax>
+fn open_for<'a>(
+    input: &mut Input<'a>,
+    room: &mut Room,
+    cursor: &NameAt<'a>,
+) -> Result<FormAt<'a>, Syntax>
     requires fits { Fits input.old room.old }
     ensures reads { open_for keeper (kept room.old) (word_at cursor.now) (tokens input.old) ≡ told form_at result room.new input.new }
     ensures moves { Moves input.old room.old input.new room.new }

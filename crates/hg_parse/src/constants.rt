@@ -1,12 +1,12 @@
 //! Constants and rows.
-use crate::input::{Input, Syntax};
-use crate::room::Room;
-use hg_scan::{Keyword, Sign};
-
 ghost use Rattle.std.specs.Prelude.{◌≡◌};
 ghost use Rattle.hg_parse.specs.AtHand.{tokens};
 ghost use Rattle.hg_parse.specs.Kept.{kept, keeper, told, unit, Fits, Moves};
 ghost use Rattle.hg_parse.specs.Rules.{constant};
+
+use crate::input::{Input, Syntax};
+use crate::room::Room;
+use hg_scan::{Keyword, Sign};
 
 /// const = ["+" | "-"] number | text | NULL
 #[tactic(auto, using(crate::proofs::Values::constant_by))]

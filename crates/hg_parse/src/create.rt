@@ -143,7 +143,11 @@ fn create_table<'a>(input: &mut Input<'a>, room: &mut Room) -> Result<FormAt<'a>
 }
 
 /// CREATE [UNIQUE] INDEX name ON name names, behind UNIQUE
-fn create_index<'a>(input: &mut Input<'a>, room: &mut Room, unique: bool) -> Result<FormAt<'a>, Syntax>
+fn create_index<'a>(
+    input: &mut Input<'a>,
+    room: &mut Room,
+    unique: bool,
+) -> Result<FormAt<'a>, Syntax>
     requires fits { Fits input.old room.old }
     ensures reads { create_index keeper unique (kept room.old) (tokens input.old) ≡ told form_at result room.new input.new }
     ensures moves { Moves input.old room.old input.new room.new }

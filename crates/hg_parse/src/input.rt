@@ -244,9 +244,10 @@ impl<'a> Input<'a> {
     }
 
     /// Whether nothing is left of the line.
-    #[tactic(auto, unfolding(crate::specs::AtHand::tokens, crate::specs::AtHand::carried))]
+    #[tactic(auto, using(crate::proofs::Cutting::or_none), unfolding(crate::specs::AtHand::tokens, crate::specs::AtHand::carried))]
     pub fn is_at_end(&self) -> bool
-        ensures { result ≡ (is_end (tokens self.now) && (carried self.now).whole) }
+        ensures found { result ≡ (is_end (tokens self.now) && (carried self.now).whole) }
+        ensures flags { OnTrue result (((carried self.now).long_name ≡ self.now.long_name) × ((carried self.now).long_text ≡ self.now.long_text)) }
     {
         match self.piece.kind {
             Kind::End => true,

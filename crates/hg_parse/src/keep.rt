@@ -1,8 +1,11 @@
 //! Puts parts of a statement into its room.
 use crate::places::{ColumnAt, Constraints, KeyAt, NameAt, NumberAt, TableAt, TextAt, TypeAt};
 use crate::room::Room;
-use hg_model::{Name, Cmp, ColRef, Column, Fold, FromTable, Literal, NewColumn, Node, Op, OrderBy, OrderKey, Output, Span, SqlType};
 use arrayvec::{ArrayString, ArrayVec};
+use hg_model::{
+    Cmp, ColRef, Column, Fold, FromTable, Literal, Name, NewColumn, Node, Op, OrderBy, OrderKey,
+    Output, Span, SqlType,
+};
 use hg_scan::Number;
 
 impl<'a> ColumnAt<'a> {
