@@ -329,12 +329,11 @@ stops_active q at r a s h few =
     let behind = s.behind in
     let round : take a q ≡ front ++ r ∷ take k behind =
     ap (take a) s.all ∙ take-into front (r ∷ behind) a (suc k) (omega arith) in
-    let waiting : drop a q ≡ drop k behind = ap (drop a) s.all ∙ drop-into front (r ∷ behind) a (suc k) (omega arith) in
-    (
+    let waiting : drop a q ≡ drop k behind = ap (drop a) s.all ∙ drop-into front (r ∷ behind) a (suc k) (omega arith) in (
       ap (take (a - 1)) s.rest ∙ take-into front behind (a - 1) k (omega arith)
-      ∙ sym (ap (without r) round ∙ without-here r front (take k behind) s.none_front (none-taken r k behind s.none_behind)),
+          ∙ sym (ap (without r) round ∙ without-here r front (take k behind) s.none_front (none-taken r k behind s.none_behind)),
       ap (drop (a - 1)) s.rest ∙ drop-into front behind (a - 1) k (omega arith)
-      ∙ sym (ap (without r) waiting ∙ without-none r (drop k behind) (none-dropped r k behind s.none_behind)),
+          ∙ sym (ap (without r) waiting ∙ without-none r (drop k behind) (none-dropped r k behind s.none_behind)),
     )
 
 -- of a waiting one: the round stays
@@ -345,12 +344,11 @@ stops_waiting q at r a s h =
     let front = s.front in
     let behind = s.behind in
     let round : take a q ≡ take a front = ap (take a) s.all ∙ take-within front (r ∷ behind) a (omega arith) in
-    let waiting : drop a q ≡ drop a front ++ r ∷ behind = ap (drop a) s.all ∙ drop-within front (r ∷ behind) a (omega arith) in
-    (
+    let waiting : drop a q ≡ drop a front ++ r ∷ behind = ap (drop a) s.all ∙ drop-within front (r ∷ behind) a (omega arith) in (
       ap (take a) s.rest ∙ take-within front behind a (omega arith)
-      ∙ sym (ap (without r) round ∙ without-none r (take a front) (none-taken r a front s.none_front)),
+          ∙ sym (ap (without r) round ∙ without-none r (take a front) (none-taken r a front s.none_front)),
       ap (drop a) s.rest ∙ drop-within front behind a (omega arith)
-      ∙ sym (ap (without r) waiting ∙ without-here r (drop a front) behind (none-dropped r a front s.none_front) s.none_behind),
+          ∙ sym (ap (without r) waiting ∙ without-here r (drop a front) behind (none-dropped r a front s.none_front) s.none_behind),
     )
 
 pub stops : (q p : List ℕ) (r a b d : ℕ) (held : List ℕ) (most current mpl : ℕ) → (take b p ≡ without r (take a q)) × (drop b p ≡ without r (drop a q)) → b ≤ length p

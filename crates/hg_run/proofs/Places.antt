@@ -41,9 +41,10 @@ or_left p q e = ap (λ t. t || q) e
 
 has_own : (xs : List ℕ) → AllByRecursion (λ x. has_page xs x ≡ true) xs
 has_own [] = tt
-has_own (x ∷ xs) =
-    (or_left (x == x) (has_page xs x) (eq-eqb x x refl),
-    all_map (λ y. has_page xs y ≡ true) (λ y. has_page (x ∷ xs) y ≡ true) xs (λ y h. or_true (x == y) (has_page xs y) h) (has_own xs))
+has_own (x ∷ xs) = (
+  or_left (x == x) (has_page xs x) (eq-eqb x x refl),
+  all_map (λ y. has_page xs y ≡ true) (λ y. has_page (x ∷ xs) y ≡ true) xs (λ y h. or_true (x == y) (has_page xs y) h) (has_own xs),
+)
 
 pub on_plain : (s : Space) (run : Run) (pages : List ℕ) (x : ℕ) → IsChain s run pages → has_page pages x ≡ true → IsPlain s (key_in Temp x)
 on_plain s run pages x chain on = all_has (λ y. IsPlain s (key_in Temp y)) pages x (line-plain Temp s run.first pages chain.line) on

@@ -20,7 +20,6 @@
 
 mod page;
 mod read;
-
 #[cfg(test)]
 mod tests;
 mod write;
