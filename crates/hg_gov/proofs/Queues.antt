@@ -1,12 +1,11 @@
 -- One queue for those who are active and those who wait.
-use Rattle.std.specs.Prelude.{◌≡◌, ◌≢◌, ℕ, Some, zero, suc, ◌+◌, ◌-◌, ◌<◌, ◌≤◌, ◌==◌, min, max, Bool, true, false, List, [], ◌∷◌, ◌++◌, length, take, drop, slice_index, slice_index_or, if◌then◌else◌, remove, insert}
+use Rattle.std.specs.Prelude.{◌≡◌, ◌≢◌, ℕ, Some, zero, suc, ◌+◌, ◌-◌, ◌<◌, ◌≤◌, ◌==◌, min, max, true, false, List, [], ◌∷◌, ◌++◌, length, take, drop, slice_index, slice_index_or, if◌then◌else◌, remove}
 use Rattle.std.specs.List.{AllByRecursion}
 use Rattle.std.proofs.Common.{sym, ◌∙◌, ap, subst, refl, arith, append_assoc, length-append, length-take, length-drop, inl, inr}
 use Rattle.std.proofs.lemmas.Bool.{cases_eq, cases_lt, eq-eqb, ne_eqb}
-use Rattle.std.proofs.lemmas.Bool.Decides.{nat_tests}
 use Rattle.std.proofs.lemmas.List.{take_at, drop_at, drop-drop, drop_more, drop_all, take_all, take-append-drop}
 use Rattle.std.proofs.Math.Seq.{take-add}
-use Rattle.hg_gov.specs.Rounds.{GovernorState, IsSound, IsIdle, IsBusy, count_of, without, front_of, turned, joined, stopped}
+use Rattle.hg_gov.specs.Rounds.{GovernorState, IsIdle, count_of, without, front_of, turned, joined, stopped}
 use Rattle.hg_gov.specs.Shown.{shown, IsKept}
 
 -- ---- how often a request is in a queue

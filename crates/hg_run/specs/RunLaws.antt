@@ -1,7 +1,7 @@
 -- Laws of runs, for the layers above.
-use Rattle.std.specs.Prelude.{◌≡◌, ℕ, ◌+◌, true, List, [], ◌∷◌, ◌++◌, length, Option, Some, None}
+use Rattle.std.specs.Prelude.{◌≡◌, ℕ, true, List, [], ◌∷◌, ◌++◌, Option, Some, None}
 use Rattle.std.specs.List.{AllByRecursion}
-use Rattle.std.proofs.Common.{sym, ◌∙◌, ap, subst, refl, append_assoc}
+use Rattle.std.proofs.Common.{sym, ◌∙◌, ap, refl, append_assoc}
 use Rattle.hg_base.specs.Space.{Space, key_in}
 use Rattle.hg_base.specs.LineLaws.{all_map, path-one, same_pages, line_steady}
 use Rattle.hg_base.specs.Lines.{NoneMine}
@@ -11,7 +11,7 @@ use Rattle.hg_run.specs.declared.Run.{Run}
 use Rattle.hg_run.specs.declared.RunPos.{RunPos}
 use Rattle.hg_run.specs.Layout.{layout}
 use Rattle.hg_run.specs.LayoutLaws.{layout-records}
-use Rattle.hg_run.specs.Runs.{IsChain, IsRun, IsPlace, IsAt, IsAtPage, Holds, AllHold, no_run, first_position, records_of}
+use Rattle.hg_run.specs.Runs.{IsChain, IsRun, IsAt, IsAtPage, AllHold, no_run, first_position, records_of}
 
 -- a run with no record, over every space
 pub empty_chain : (s : Space) → IsChain s no_run []

@@ -1,5 +1,5 @@
-use Rattle.std.proofs.Common.{sym, ◌∙◌, ap, refl, arith}
-use Rattle.hg_run.proofs.Pages.{IsThere, there}
+use Rattle.std.proofs.Common.{arith}
+use Rattle.hg_run.proofs.Pages.{there}
 use Rattle.hg_run.proofs.page.record_end.Goals as goal
 use Rattle.hg_run.proofs.page.record_end.Goals.{then-size-eq0-via-then-size-eq0, then-size-eq0-via-else-size-eq0+then-size-gt-MOST, then-size-eq0-via-else-size-eq0+else-size-gt-MOST+then-after-end}
 
