@@ -1,12 +1,11 @@
 -- One queue for those who are active and those who wait.
-use Rattle.std.specs.Prelude.{◌≡◌, ◌≢◌, ℕ, Some, zero, suc, ◌+◌, ◌-◌, ◌<◌, ◌≤◌, ◌==◌, min, max, Bool, true, false, List, [], ◌∷◌, ◌++◌, length, take, drop, slice_index, slice_index_or, if◌then◌else◌, remove, insert}
+use Rattle.std.specs.Prelude.{◌≡◌, ◌≢◌, ℕ, Some, zero, suc, ◌+◌, ◌-◌, ◌<◌, ◌≤◌, ◌==◌, min, max, true, false, List, [], ◌∷◌, ◌++◌, length, take, drop, slice_index, slice_index_or, if◌then◌else◌, remove}
 use Rattle.std.specs.List.{AllByRecursion}
 use Rattle.std.proofs.Common.{sym, ◌∙◌, ap, subst, refl, arith, append_assoc, length-append, length-take, length-drop, inl, inr}
 use Rattle.std.proofs.lemmas.Bool.{cases_eq, cases_lt, eq-eqb, ne_eqb}
-use Rattle.std.proofs.lemmas.Bool.Decides.{nat_tests}
 use Rattle.std.proofs.lemmas.List.{take_at, drop_at, drop-drop, drop_more, drop_all, take_all, take-append-drop}
 use Rattle.std.proofs.Math.Seq.{take-add}
-use Rattle.hg_gov.specs.Rounds.{GovernorState, IsSound, IsIdle, IsBusy, count_of, without, front_of, turned, joined, stopped}
+use Rattle.hg_gov.specs.Rounds.{GovernorState, IsIdle, count_of, without, front_of, turned, joined, stopped}
 use Rattle.hg_gov.specs.Shown.{shown, IsKept}
 
 -- ---- how often a request is in a queue
@@ -329,12 +328,11 @@ stops_active q at r a s h few =
     let behind = s.behind in
     let round : take a q ≡ front ++ r ∷ take k behind =
     ap (take a) s.all ∙ take-into front (r ∷ behind) a (suc k) (omega arith) in
-    let waiting : drop a q ≡ drop k behind = ap (drop a) s.all ∙ drop-into front (r ∷ behind) a (suc k) (omega arith) in
-    (
+    let waiting : drop a q ≡ drop k behind = ap (drop a) s.all ∙ drop-into front (r ∷ behind) a (suc k) (omega arith) in (
       ap (take (a - 1)) s.rest ∙ take-into front behind (a - 1) k (omega arith)
-      ∙ sym (ap (without r) round ∙ without-here r front (take k behind) s.none_front (none-taken r k behind s.none_behind)),
+          ∙ sym (ap (without r) round ∙ without-here r front (take k behind) s.none_front (none-taken r k behind s.none_behind)),
       ap (drop (a - 1)) s.rest ∙ drop-into front behind (a - 1) k (omega arith)
-      ∙ sym (ap (without r) waiting ∙ without-none r (drop k behind) (none-dropped r k behind s.none_behind)),
+          ∙ sym (ap (without r) waiting ∙ without-none r (drop k behind) (none-dropped r k behind s.none_behind)),
     )
 
 -- of a waiting one: the round stays
@@ -345,12 +343,11 @@ stops_waiting q at r a s h =
     let front = s.front in
     let behind = s.behind in
     let round : take a q ≡ take a front = ap (take a) s.all ∙ take-within front (r ∷ behind) a (omega arith) in
-    let waiting : drop a q ≡ drop a front ++ r ∷ behind = ap (drop a) s.all ∙ drop-within front (r ∷ behind) a (omega arith) in
-    (
+    let waiting : drop a q ≡ drop a front ++ r ∷ behind = ap (drop a) s.all ∙ drop-within front (r ∷ behind) a (omega arith) in (
       ap (take a) s.rest ∙ take-within front behind a (omega arith)
-      ∙ sym (ap (without r) round ∙ without-none r (take a front) (none-taken r a front s.none_front)),
+          ∙ sym (ap (without r) round ∙ without-none r (take a front) (none-taken r a front s.none_front)),
       ap (drop a) s.rest ∙ drop-within front behind a (omega arith)
-      ∙ sym (ap (without r) waiting ∙ without-here r (drop a front) behind (none-dropped r a front s.none_front) s.none_behind),
+          ∙ sym (ap (without r) waiting ∙ without-here r (drop a front) behind (none-dropped r a front s.none_front) s.none_behind),
     )
 
 pub stops : (q p : List ℕ) (r a b d : ℕ) (held : List ℕ) (most current mpl : ℕ) → (take b p ≡ without r (take a q)) × (drop b p ≡ without r (drop a q)) → b ≤ length p

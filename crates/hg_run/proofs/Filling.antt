@@ -1,24 +1,24 @@
 -- A record more on the pages of a run.
-use Rattle.std.specs.Prelude.{◌≡◌, ◌≢◌, ℕ, ◌+◌, ◌*◌, ◌-◌, ◌^◌, ◌<◌, ◌≤◌, min, Bool, true, false, List, [], ◌∷◌, ◌++◌, length, map, Option, Some, None, ⊤, if◌then◌else◌, ◌⊎◌}
+use Rattle.std.specs.Prelude.{◌≡◌, ◌≢◌, ℕ, ◌+◌, ◌*◌, ◌-◌, ◌^◌, ◌≤◌, min, Bool, true, false, List, [], ◌∷◌, ◌++◌, length, Option, Some, None, ⊤, if◌then◌else◌}
 use Rattle.std.specs.List.{AllByRecursion}
 use Rattle.std.proofs.Common.{sym, ◌∙◌, ap, subst, refl, arith, length-append, inl, inr}
-use Rattle.hg_base.specs.Space.{Space, NoPins, at, key_in, taken_in}
-use Rattle.hg_base.specs.LineLaws.{all_both, all_has, all_map, distinct-apart, last_known, line-plain, line_few, line_stays, IsSameLink}
+use Rattle.hg_base.specs.Space.{Space, at, key_in}
+use Rattle.hg_base.specs.LineLaws.{all_map, distinct-apart, last_known, line-plain, line_few, line_stays, IsSameLink}
 use Rattle.hg_base.specs.Lines.{IsLine, AreApart, last_of}
 use Rattle.hg_base.specs.TakenLaws.{key_in-one, taken_below-le}
-use Rattle.hg_base.specs.Steadiness.{IsPlain, IsSamePage, Steady}
-use Rattle.hg_base.specs.SteadyLaws.{Steady_same, Steady_then, Steady_wider}
+use Rattle.hg_base.specs.Steadiness.{IsPlain, Steady}
+use Rattle.hg_base.specs.SteadyLaws.{Steady_then, Steady_wider}
 use Rattle.hg_base.specs.declared.File.TheVariants.{Temp}
 use Rattle.hg_run.specs.declared.Run.{Run}
-use Rattle.hg_run.specs.Format.{IsProper, IsRunPage, spelling}
-use Rattle.hg_run.specs.Layout.{used, fits, with_record, layout, pages_for}
+use Rattle.hg_run.specs.Format.{IsProper, IsRunPage}
+use Rattle.hg_run.specs.Layout.{used, fits, with_record, layout}
 use Rattle.hg_run.specs.LayoutLaws.{layout-one, layout-count, layout-records}
 use Rattle.hg_run.specs.Runs.{IsChain, IsRun, Holds, AllHold, records_of}
 use Rattle.hg_run.specs.RunLaws.{chain_stays, run_stays, none_of, hold_same}
-use Rattle.hg_run.specs.Calls.{none_mine, append_mine, HasRun, Appends, NeedsPage, KeepsPages, IsNamed}
-use Rattle.hg_run.specs.Steps.{page_mine, Looks, LooksAt, IsHeld, ChangesPage, PutsBehind, HasNoRoom, PutsOn, PutsLast, AddsRecord}
+use Rattle.hg_run.specs.Calls.{none_mine, append_mine, HasRun, Appends, NeedsPage, IsNamed}
+use Rattle.hg_run.specs.Steps.{page_mine, Looks, IsHeld, ChangesPage, PutsBehind, HasNoRoom, PutsLast, AddsRecord}
 use Rattle.hg_run.proofs.Pages.{length-spelling}
-use Rattle.hg_run.proofs.Growing.{IsKept, kept_pages, chain_with, chain_last, adds_page, last_has}
+use Rattle.hg_run.proofs.Growing.{IsKept, kept_pages, chain_with}
 
 -- ---- the records of the last page
 

@@ -1,12 +1,12 @@
 -- A page that was put behind the last one of a run.
-use Rattle.std.specs.Prelude.{◌≡◌, ◌≢◌, ℕ, ◌+◌, ◌<◌, ◌≤◌, ◌==◌, ◌||◌, Bool, true, false, List, [], ◌∷◌, ◌++◌, length, Option, Some, None, is_some, if◌then◌else◌}
+use Rattle.std.specs.Prelude.{◌≡◌, ◌≢◌, ℕ, ◌==◌, ◌||◌, Bool, true, false, List, [], ◌∷◌, ◌++◌, Option, Some, None, is_some, if◌then◌else◌}
 use Rattle.std.specs.List.{AllByRecursion}
 use Rattle.std.proofs.Common.{sym, ◌∙◌, ap, subst, refl, arith, inl, inr}
 use Rattle.std.proofs.lemmas.Bool.{false≢true, eq-eqb, cases_eq}
 use Rattle.std.proofs.lemmas.Bool.Decides.{nat_tests}
 use Rattle.hg_base.specs.Space.{Space, NoPins, at, key_in, with_next}
 use Rattle.hg_base.specs.LineLaws.{all_both, all_has, all_map, all_more, distinct-apart, distinct-same, distinct_more, last_more, last_none, line-plain, path_more}
-use Rattle.hg_base.specs.Lines.{IsLine, IsPath, has_page, last_of}
+use Rattle.hg_base.specs.Lines.{IsPath, has_page, last_of}
 use Rattle.hg_base.specs.TakenLaws.{key_in-one}
 use Rattle.hg_base.specs.Steadiness.{IsPlain, IsSamePage, Steady}
 use Rattle.hg_base.specs.SteadyLaws.{Steady_then, Steady_wider, Later_same}

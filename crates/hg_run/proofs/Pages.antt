@@ -1,8 +1,8 @@
 -- What is read of a page of a run, and what a write leaves there.
-use Rattle.std.specs.Prelude.{◌≡◌, ℕ, ◌+◌, ◌^◌, ◌<◌, ◌≤◌, Bool, true, false, nat_le, List, [], ◌∷◌, ◌++◌, length, take, drop, slice_index, slice_set}
+use Rattle.std.specs.Prelude.{◌≡◌, ℕ, ◌+◌, ◌^◌, ◌<◌, ◌≤◌, true, false, nat_le, List, [], ◌∷◌, ◌++◌, length, take, drop, slice_index, slice_set}
 use Rattle.std.specs.Int.{w16, from_le_bytes, to_le_bytes}
 use Rattle.std.specs.List.{AllByRecursion}
-use Rattle.std.proofs.Common.{sym, ◌∙◌, ap, subst, refl, arith, append_assoc, length-append, get_or-set_same}
+use Rattle.std.proofs.Common.{sym, ◌∙◌, ap, refl, arith, append_assoc, length-append, get_or-set_same}
 use Rattle.std.proofs.lemmas.List.{take-take, take_at, drop_at, drop-take, drop-drop, drop_more, length-set}
 use Rattle.std.proofs.lemmas.Nat.{from_le_bytes-to_le_bytes_2}
 use Rattle.std.proofs.lemmas.Bool.Decides.{nat_tests}

@@ -1,9 +1,9 @@
 -- Positions of a run, and what is read there.
-use Rattle.std.specs.Prelude.{◌≡◌, ◌≢◌, ℕ, ◌+◌, ◌≤◌, ◌==◌, ◌||◌, Bool, true, false, List, [], ◌∷◌, ◌++◌, length, Option, Some, None, is_some, if◌then◌else◌}
+use Rattle.std.specs.Prelude.{◌≡◌, ℕ, ◌+◌, ◌≤◌, ◌==◌, ◌||◌, Bool, true, false, List, [], ◌∷◌, ◌++◌, length, Option, Some, None}
 use Rattle.std.specs.List.{AllByRecursion}
 use Rattle.std.proofs.Common.{sym, ◌∙◌, ap, subst, refl, arith, append_assoc, inl, inr}
-use Rattle.std.proofs.lemmas.Bool.{false≢true, eq-eqb, cases_Bool}
-use Rattle.hg_base.specs.Space.{Space, NoPins, key_in}
+use Rattle.std.proofs.lemmas.Bool.{eq-eqb, cases_Bool}
+use Rattle.hg_base.specs.Space.{Space, key_in}
 use Rattle.hg_base.specs.Causes.{HasCause}
 use Rattle.hg_base.specs.LineLaws.{all_has, all_map, behind_all, line-plain, line_behind}
 use Rattle.hg_base.specs.Lines.{IsLine, IsPath, has_page, pages_behind}
@@ -15,7 +15,7 @@ use Rattle.hg_base.specs.declared.pages.PageFault.TheVariants as fault
 use Rattle.hg_run.specs.declared.Run.{Run}
 use Rattle.hg_run.specs.declared.RunPos.{RunPos}
 use Rattle.hg_run.specs.declared.page.Found.{Found}
-use Rattle.hg_run.specs.Format.{spelling, IsRunPage, IsPageAt}
+use Rattle.hg_run.specs.Format.{IsPageAt}
 use Rattle.hg_run.specs.Layout.{layout}
 use Rattle.hg_run.specs.LayoutLaws.{AllSome, layout-records, layout-some}
 use Rattle.hg_run.specs.Runs.{IsChain, IsRun, IsPlace, IsAt, IsAtPage, Holds, AllHold, StandsOn, records_of}
@@ -41,9 +41,10 @@ or_left p q e = ap (λ t. t || q) e
 
 has_own : (xs : List ℕ) → AllByRecursion (λ x. has_page xs x ≡ true) xs
 has_own [] = tt
-has_own (x ∷ xs) =
-    (or_left (x == x) (has_page xs x) (eq-eqb x x refl),
-    all_map (λ y. has_page xs y ≡ true) (λ y. has_page (x ∷ xs) y ≡ true) xs (λ y h. or_true (x == y) (has_page xs y) h) (has_own xs))
+has_own (x ∷ xs) = (
+  or_left (x == x) (has_page xs x) (eq-eqb x x refl),
+  all_map (λ y. has_page xs y ≡ true) (λ y. has_page (x ∷ xs) y ≡ true) xs (λ y h. or_true (x == y) (has_page xs y) h) (has_own xs),
+)
 
 pub on_plain : (s : Space) (run : Run) (pages : List ℕ) (x : ℕ) → IsChain s run pages → has_page pages x ≡ true → IsPlain s (key_in Temp x)
 on_plain s run pages x chain on = all_has (λ y. IsPlain s (key_in Temp y)) pages x (line-plain Temp s run.first pages chain.line) on

@@ -3,7 +3,7 @@
 --   bytes 2..4   the offset of the first free byte
 --   from 16 on   the records one behind the other: two bytes length, then the bytes
 -- All numbers have their least byte first. A record has 1 to 4,000 bytes.
-use Rattle.std.specs.Prelude.{◌≡◌, ◌≢◌, ℕ, ◌+◌, ◌≤◌, List, [], ◌∷◌, ◌++◌, length, take, drop, slice_index, ⊤}
+use Rattle.std.specs.Prelude.{◌≡◌, ◌≢◌, ℕ, ◌+◌, ◌≤◌, List, [], ◌∷◌, ◌++◌, length, take, drop, slice_index}
 use Rattle.std.specs.List.{AllByRecursion}
 use Rattle.std.specs.Int.{w16, from_le_bytes, to_le_bytes}
 use Rattle.hg_base.specs.declared.Check.{Check}

@@ -1,6 +1,6 @@
 -- A run that a caller holds between its calls. Our own rule.
-use Rattle.std.specs.Prelude.{◌≡◌, ℕ, ◌^◌, ◌≤◌, Bool, true, false, List, [], ◌∷◌, ◌++◌, length, Option, Some, None, Result, Ok, Err, IfOk, OnOk, OnErr}
-use Rattle.std.proofs.Common.{sym, ◌∙◌, ap, subst, refl, arith}
+use Rattle.std.specs.Prelude.{◌≡◌, ℕ, ◌^◌, ◌≤◌, Bool, true, false, List, [], ◌∷◌, ◌++◌, Result, Ok, Err, IfOk, OnOk, OnErr, ◌⊎◌}
+use Rattle.std.proofs.Common.{sym, ◌∙◌, ap, subst, refl, arith, inl, inr}
 use Rattle.hg_base.specs.Space.{Space, NoPins}
 use Rattle.hg_base.specs.Steadiness.{Mine, Steady}
 use Rattle.hg_base.specs.declared.File.TheVariants.{Temp}
@@ -8,8 +8,8 @@ use Rattle.hg_base.specs.declared.pages.PageFault.{PageFault}
 use Rattle.hg_run.specs.declared.Run.{Run}
 use Rattle.hg_run.specs.declared.RunPos.{RunPos}
 use Rattle.hg_run.specs.Runs.{IsChain, IsRun, IsAt, StandsOn, no_run, first_position}
-use Rattle.hg_run.specs.RunLaws.{empty_chain, empty_run, chain_stays, run_stays, none_of, at_first}
-use Rattle.hg_run.specs.Calls.{none_mine, HasRun, HasPosition, HasWay, Appends, Reads}
+use Rattle.hg_run.specs.RunLaws.{empty_chain, empty_run, chain_stays, run_stays, none_of, at_first, at_stays, stands_more}
+use Rattle.hg_run.specs.Calls.{none_mine, HasRun, HasPosition, HasWay, Appends, KeepsPages, AddsPage, Reads}
 
 pub record HoldsRecords (s : Space) (run : Run) (pages : List ℕ) : Type 0 where
   pub rs : List (List ℕ)
@@ -130,3 +130,35 @@ pub way_after : (a b : Space) (run : Run) (old new : RunPos) (out : List ℕ) (r
 way_after a b run old new out (Ok true) steady on known same err w = way_read a b run old new out steady on known w
 way_after a b run old new out (Ok false) steady on known same err w = subst (HasWay b run) (sym (same refl)) (way_looked a b run old steady w)
 way_after a b run old new out (Err f) steady on known same err w = subst (HasWay b run) (sym err) (way_looked a b run old steady w)
+
+-- what came behind the pages of a run when a record was put behind its records
+pages_more_of : (a b : Space) (pages now : List ℕ) → KeepsPages a b pages now ⊎ AddsPage a b pages now → (more : List ℕ) × (now ≡ pages ++ more)
+pages_more_of a b pages now h = elim h [
+  | inl k ↦ ([], k.same ∙ sym (none pages))
+  | inr k ↦ (k.x ∷ [], k.more)
+]
+  where
+    none : (x : List ℕ) → x ++ [] ≡ x
+    none [] = refl
+    none (y ∷ x) = ap (λ r. y ∷ r) (none x)
+
+-- a position stays one when the run grows
+pub way_appended : (m : Mine) (a b : Space) (old new : Run) (r : List ℕ) (at : RunPos) → Steady m a b
+    → ((pages : List ℕ) → IsChain a old pages → Appends a b old new pages r) → HasWay a old at → HasWay b new at
+way_appended m a b old new r at steady known w =
+    let n : Appends a b old new w.pages r = known w.pages w.chain in
+    let k : (more : List ℕ) × (n.now ≡ w.pages ++ more) = pages_more_of a b w.pages n.now n.grown in
+    record {
+      pages = n.now;
+      chain = n.chain;
+      on = stands_more w.pages k.0 n.now at k.1 w.on;
+      position = λ told.
+          let h : HasPosition a old w.pages at = w.position (sym steady.told ∙ told) in
+          record {
+            rs = h.rs ++ r ∷ [];
+            done = h.done;
+            rest = h.rest ++ r ∷ [];
+            run_is = n.run_is h.rs h.run_is;
+            place = at_stays w.pages k.0 n.now h.rs at h.done h.rest r k.1 h.place;
+          };
+    }

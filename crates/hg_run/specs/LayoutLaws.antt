@@ -103,7 +103,7 @@ counts_behind held (r ∷ rs) =
 pub layout-count : (rs : List (List ℕ)) → length (layout rs) ≡ pages_for (map length rs)
 layout-count rs = let c = counts_behind [] rs in omega arith
 
-records-one : (held : List (List (List ℕ))) (r : List ℕ) → records_of (with_record held r) ≡ records_of held ++ r ∷ []
+pub records-one : (held : List (List (List ℕ))) (r : List ℕ) → records_of (with_record held r) ≡ records_of held ++ r ∷ []
 records-one [] r = refl
 records-one (page ∷ []) r =
     elim (fits page r) as (λ b. records_of (if b then (page ++ r ∷ []) ∷ [] else page ∷ (r ∷ []) ∷ []) ≡ (page ++ []) ++ r ∷ []) [

@@ -8,7 +8,7 @@ use Rattle.hg_base.specs.declared.File.TheVariants as file
 use Rattle.hg_run.specs.declared.Run.{Run}
 use Rattle.hg_run.specs.declared.RunPos.{RunPos}
 use Rattle.hg_run.specs.declared.page.Found.{Found}
-use Rattle.hg_run.specs.Format.{spelling, IsRunPage, IsPageAt}
+use Rattle.hg_run.specs.Format.{spelling, IsRunPage}
 use Rattle.hg_run.specs.Layout.{fits}
 use Rattle.hg_run.specs.Calls.{none_mine, append_mine, pages_mine}
 

@@ -14,13 +14,13 @@
 //! A record goes to the last page where it fits there, and else to a new page behind it. So the records
 //! of each page, and the number of pages, are a function of the lengths of the records (`layout` and
 //! `pages_for` of `specs/Layout.antt`). The pages are linked by their successors, which are kept beside
-//! the pages: they are known over every space. A read pins one page, and copies its record once; a
-//! position that comes to the end of a page moves to the next one at once, without a pin.
+//! the pages: they are known over every space. A read pins one page, and copies its record once: a
+//! position that comes to the end of a page moves to the next one at once, without a pin. Only where the
+//! run grew by a page behind a position at its end does the next read pin two.
 #![tactic(auto)]
 
 mod page;
 mod read;
-
 #[cfg(test)]
 mod tests;
 mod write;

@@ -113,11 +113,7 @@ fn record_end(page: &[u8], at: usize, end: usize) -> Result<usize, Check>
 
 /// Reads the record that begins at `at` of a page whose bytes may be any. None where the records end
 /// there; `out` then stays.
-pub fn take_at(
-    page: &[u8],
-    at: usize,
-    out: &mut ArrayVec<u8, 4000>,
-) -> Result<Option<Found>, Check>
+pub fn take_at(page: &[u8], at: usize, out: &mut ArrayVec<u8, 4000>) -> Result<Option<Found>, Check>
     requires { length page.now ≡ 4096 }
     ensures next { IfOk result (λ found. (done todo : List (List ℕ)) → IsPageAt page.now at done todo
         → TakesNext done todo found out.new.items) }

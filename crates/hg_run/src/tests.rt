@@ -163,7 +163,10 @@ fn pages_by_hand(rt: HostRuntime) -> Result<(), Fail> {
         (of(5, 4_000), of(27, 1), 6),
     ] {
         let mut space = PlainSpace::new(rt.alloc());
-        assert_eq!(rt; round(&mut space, first, second)?, whole(pages, first, second));
+        assert_eq!(rt;
+            round(&mut space, first, second)?,
+            whole(pages, first, second)
+        );
     }
     Ok(())
 }

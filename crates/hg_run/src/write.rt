@@ -1,5 +1,5 @@
 //! How a run begins, grows and ends.
-ghost use Rattle.std.specs.Prelude.{◌≡◌, ℕ, ◌+◌, ◌^◌, ◌<◌, ◌≤◌, true, List, [], ◌∷◌, length, None, Err, Some, IfOk, IfErr, OnOk, OnErr};
+ghost use Rattle.std.specs.Prelude.{◌≡◌, ℕ, ◌+◌, ◌-◌, ◌^◌, min, ◌<◌, ◌≤◌, true, List, [], ◌∷◌, length, None, Err, Some, IfOk, IfErr, OnOk, OnErr};
 ghost use Rattle.hg_base.specs.Space.{NoPins, key_in};
 ghost use Rattle.hg_base.specs.Causes.{HasCause, FreshFault, fault_of};
 ghost use Rattle.hg_base.specs.Steadiness.{Steady, IsPlain};
@@ -161,6 +161,7 @@ impl Run {
             → Appends (S.state space.old) (S.state space.new) self.old self.new pages bytes.now) }
         ensures steady { OnOk result (Steady (append_mine self.old self.new) (S.state space.old)
             (S.state space.new)) }
+        ensures counted { OnOk result (self.new.records ≡ min (self.old.records + 1) (2 ^ 64 - 1)) }
         ensures err { OnErr result (self.new ≡ self.old) }
         ensures err_steady { OnErr result (Steady none_mine (S.state space.old)
             (S.state space.new)) }

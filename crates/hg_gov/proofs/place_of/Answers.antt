@@ -1,4 +1,4 @@
-use Rattle.hg_gov.proofs.Queues.{not_gone, passed}
+use Rattle.hg_gov.proofs.Queues.{not_gone}
 use Rattle.hg_gov.proofs.place_of.Goals as goal
 
 pub unreachable-requires : goal.unreachable-requires

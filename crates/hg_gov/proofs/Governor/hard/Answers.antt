@@ -1,5 +1,4 @@
 use Rattle.std.proofs.Common.{arith}
-use Rattle.hg_gov.specs.Shown.{IsKept}
 use Rattle.hg_gov.proofs.Queues.{few_active}
 use Rattle.hg_gov.proofs.Governor.hard.Goals as goal
 

@@ -1,8 +1,8 @@
-use Rattle.std.specs.Prelude.{◌≡◌, ℕ, suc, ◌+◌, ◌-◌, ◌<◌, ◌∷◌, List, length, take, drop}
-use Rattle.std.proofs.Common.{sym, ◌∙◌, ap, subst, refl, arith}
-use Rattle.hg_gov.specs.Rounds.{GovernorState, turned, front_of}
+use Rattle.std.specs.Prelude.{◌≡◌, ◌-◌, ◌∷◌}
+use Rattle.std.proofs.Common.{sym, ◌∙◌, ap, subst, arith}
+use Rattle.hg_gov.specs.Rounds.{GovernorState, turned}
 use Rattle.hg_gov.specs.Shown.{shown, IsKept}
-use Rattle.hg_gov.proofs.Queues.{at_front, few_active, turn_kept, turn_state, turn_front, front_small, room_all}
+use Rattle.hg_gov.proofs.Queues.{at_front, turn_kept, turn_state, room_all}
 use Rattle.hg_gov.proofs.Governor.next_turn.Goals as goal
 
 pub insert-requires : goal.insert-requires

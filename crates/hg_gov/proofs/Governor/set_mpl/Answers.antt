@@ -1,7 +1,6 @@
-use Rattle.std.specs.Prelude.{◌≡◌, ℕ, ◌+◌, List, length, min, max}
-use Rattle.std.proofs.Common.{sym, ◌∙◌, ap, subst, refl, arith}
+use Rattle.std.specs.Prelude.{◌≡◌, ℕ, List, length, min, max}
+use Rattle.std.proofs.Common.{◌∙◌, ap, arith}
 use Rattle.hg_gov.specs.Rounds.{GovernorState, joined}
-use Rattle.hg_gov.specs.Shown.{shown, IsKept}
 use Rattle.hg_gov.proofs.Queues.{facts_of, kept_of, join_facts, joins}
 use Rattle.hg_gov.proofs.Governor.set_mpl.Goals as goal
 

@@ -1,8 +1,8 @@
-use Rattle.std.specs.Prelude.{◌≡◌, ℕ, ◌+◌, ◌∷◌, ◌++◌, [], List, length, take, drop}
-use Rattle.std.proofs.Common.{sym, ◌∙◌, ap, subst, refl, arith}
-use Rattle.hg_gov.specs.Rounds.{GovernorState, IsSound, IsIdle, count_of}
+use Rattle.std.specs.Prelude.{◌+◌}
+use Rattle.std.proofs.Common.{sym, subst, arith}
+use Rattle.hg_gov.specs.Rounds.{IsIdle}
 use Rattle.hg_gov.specs.Shown.{shown, IsKept}
-use Rattle.hg_gov.proofs.Queues.{Facts, facts_of, kept_start, room_start}
+use Rattle.hg_gov.proofs.Queues.{facts_of, kept_start, room_start}
 use Rattle.hg_gov.proofs.Governor.start.Goals as goal
 
 pub push-requires : goal.push-requires

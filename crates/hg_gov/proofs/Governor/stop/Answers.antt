@@ -1,8 +1,8 @@
-use Rattle.std.specs.Prelude.{◌≡◌, ℕ, ◌+◌, ◌<◌, ◌≤◌, List, length, min, max, remove, slice_index}
-use Rattle.std.proofs.Common.{sym, ◌∙◌, ap, subst, refl, arith}
-use Rattle.hg_gov.specs.Rounds.{GovernorState, IsBusy, count_of, stopped}
-use Rattle.hg_gov.specs.Shown.{shown, IsKept}
-use Rattle.hg_gov.proofs.Queues.{IsSplit, IsLeft, left_active, left_waiting, busy_whole, split_kept, stop_kept, stops, stops_active, stops_waiting, length_removed}
+use Rattle.std.specs.Prelude.{◌≡◌, ℕ, ◌<◌, ◌≤◌, List, length, min, max, slice_index}
+use Rattle.std.proofs.Common.{sym, ◌∙◌, ap, subst, arith}
+use Rattle.hg_gov.specs.Rounds.{IsBusy, count_of, stopped}
+use Rattle.hg_gov.specs.Shown.{shown}
+use Rattle.hg_gov.proofs.Queues.{IsSplit, IsLeft, left_active, left_waiting, busy_whole, split_kept, stop_kept, stops}
 use Rattle.hg_gov.proofs.Governor.stop.Goals as goal
 use Rattle.hg_gov.proofs.Governor.stop.Goals.{then-at-active, else-at-active}
 

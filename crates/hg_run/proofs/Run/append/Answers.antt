@@ -47,3 +47,10 @@ returns-clause-ok g c = λ pages chain.
           (ap (λ (u : Run). u.first) w.self-is) (ap (λ (u : Run). u.last) w.self-is) c.requires.numbers
           (c.saturating_add-self.ensures ∙ ap (λ (u : Run). min (u.records + 1) (2 ^ 64 - 1)) w.self-is) chain)
     ]
+
+pub returns-clause-counted : goal.returns-clause-counted
+returns-clause-counted g c = elim c.if-not-branch.branch [
+  | then-not-branch+in_ok-add_page w ↦
+      c.saturating_add-self.ensures ∙ ap (λ n. min (n + 1) (2 ^ 64 - 1)) (ap (λ (u : Run). u.records) w.self-is ∙ w.add_page.ensures.records)
+  | else-not-branch w ↦ c.saturating_add-self.ensures ∙ ap (λ (u : Run). min (u.records + 1) (2 ^ 64 - 1)) w.self-is
+]

@@ -1,4 +1,4 @@
-use Rattle.std.specs.Prelude.{ℕ, List, Some}
+use Rattle.std.specs.Prelude.{ℕ, List}
 use Rattle.hg_run.specs.Runs.{IsChain}
 use Rattle.hg_run.specs.Steps.{Releases}
 use Rattle.hg_run.proofs.Run.destroy.Given as goal

@@ -1,11 +1,9 @@
-use Rattle.std.specs.Prelude.{◌≡◌, ℕ, true, List, Some, None, Err, IfErr}
+use Rattle.std.specs.Prelude.{Some, None, IfErr}
 use Rattle.std.proofs.Common.{sym, ◌∙◌, ap, subst, refl}
 use Rattle.std.proofs.lemmas.Result.{err_from_is_err_and}
 use Rattle.hg_base.specs.Space.{Space, key, key_in}
 use Rattle.hg_base.specs.declared.File.TheVariants.{Temp}
 use Rattle.hg_base.specs.SteadyLaws.{HasCause_behind}
-use Rattle.hg_run.specs.declared.Run.{Run}
-use Rattle.hg_run.specs.declared.RunPos.{RunPos}
 use Rattle.hg_run.specs.Calls.{temp_page, NamesOneOf}
 use Rattle.hg_base.specs.Causes.{HasCause}
 use Rattle.hg_base.specs.declared.Check.TheVariants as check

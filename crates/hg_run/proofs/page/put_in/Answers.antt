@@ -1,13 +1,16 @@
 use Rattle.std.specs.Prelude.{ℕ, ◌≡◌, ◌+◌, ◌-◌, length}
 use borrow.Rule.Slice.PartMut.{put_mid}
-use Rattle.std.proofs.Common.{sym, ◌∙◌, ap, refl, arith}
+use Rattle.std.proofs.Common.{ap, refl, arith}
 use Rattle.hg_run.proofs.Pages.{put_behind, fits_yes, fits_no}
 use Rattle.hg_run.proofs.page.put_in.Goals as goal
 
 pub returns-then-after-gt-PAGE-clause-put : goal.returns-then-after-gt-PAGE-clause-put
-returns-then-after-gt-PAGE-clause-put c = (record {
-  full = λ rs h. fits_no c.args.page.now rs c.args.bytes.now c.in_ok-end.end h (c.in_ok-end.ensures.end.0) (let l = c.if-after-gt-PAGE.true in omega arith);
-}, refl)
+returns-then-after-gt-PAGE-clause-put c = (
+  record {
+    full = λ rs h. fits_no c.args.page.now rs c.args.bytes.now c.in_ok-end.end h (c.in_ok-end.ensures.end.0) (let l = c.if-after-gt-PAGE.true in omega arith);
+  },
+  refl,
+)
 
 pub returns-clause-put : goal.returns-clause-put
 returns-clause-put c =

@@ -1,7 +1,7 @@
 use Rattle.std.specs.Prelude.{◌≡◌, ℕ, ◌+◌, ◌-◌, ◌++◌, ◌∷◌, [], true, nat_eq, length, take, drop}
 use Rattle.std.proofs.lemmas.Bool.Decides.{nat_tests}
 use Rattle.hg_run.specs.Format.{spelling}
-use Rattle.std.proofs.Common.{sym, ◌∙◌, ap, refl, arith}
+use Rattle.std.proofs.Common.{sym, ◌∙◌, ap, arith}
 use Rattle.hg_run.proofs.Pages.{at_end, before_end, there, length-spelling-one, no_rest}
 use Rattle.hg_run.proofs.page.take_at.Goals as goal
 
@@ -10,8 +10,11 @@ returns-then-at-end-clause-next c = λ done todo h.
     at_end c.args.page.now c.args.at done todo h (let a = c.if-at-end.true in let e = c.in_ok-end.ensures.end in omega arith)
 
 pub returns-then-at-end-2-clause-wrong : goal.returns-then-at-end-2-clause-wrong
-returns-then-at-end-2-clause-wrong c = (c.in_ok-end.ensures.kind, λ done todo h.
-    before_end c.args.page.now c.args.at done todo h (let a = c.if-at-end-2.true in let e = c.in_ok-end.ensures.end in omega arith))
+returns-then-at-end-2-clause-wrong c = (
+  c.in_ok-end.ensures.kind,
+  λ done todo h.
+      before_end c.args.page.now c.args.at done todo h (let a = c.if-at-end-2.true in let e = c.in_ok-end.ensures.end in omega arith),
+)
 
 pub returns-clause-next : goal.returns-clause-next
 returns-clause-next c = λ done todo h.

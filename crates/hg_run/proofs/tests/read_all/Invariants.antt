@@ -1,4 +1,3 @@
-use Rattle.hg_base.specs.Space.{NoPins}
 use Rattle.hg_run.specs.Calls.{HasWay}
 use Rattle.hg_run.specs.Kept.{IsReady}
 use Rattle.hg_run.proofs.tests.read_all.Given as goal

@@ -27,20 +27,22 @@ pub returns-clause-made : goal.returns-clause-made
 returns-clause-made g c =
     let x : ℕ = c.in_ok-no.no in
     let t : Run = c.args.run.now in
-    let now : Run = record { first = c.match-run.run.first; last = Some x; records = c.match-run.run.records } in
-    (x, elim c.match-run.branch [
-      | in-Some w ↦
-          let a : Space = g.S.Pages.state c.args.space.now in
-          let m : Space = g.S.Pages.state c.new_page.new.space in
-          adds_next a m (g.S.Pages.state c.match-run.space) t now c.args.bytes.now x w.in-Some.last
-          c.in_ok-no.ensures.made
-          (chain_last a t c.requires.chain.0 w.in-Some.last c.requires.chain.1 w.in-Some.is) w.in-Some.is
-          (ap (λ s. g.S.Pages.state s) w.space-is ∙ w.set_next.ensures ∙ ap (λ p. with_next m (key p) (Some x)) w.temp_page.ensures)
-          (ap (λ (u : Run). u.first) w.run-is) refl
-      | in-None w ↦
-          let a : Space = g.S.Pages.state c.args.space.now in
-          subst (λ s. AddsRecord a s t now c.args.bytes.now x)
-          (sym (ap (λ s. g.S.Pages.state s) w.space-is))
-          (adds_first a (g.S.Pages.state c.new_page.new.space) t now c.args.bytes.now x
-          c.in_ok-no.ensures.made w.in-None.is (ap (λ (u : Run). u.first) w.run-is) refl)
-    ])
+    let now : Run = record { first = c.match-run.run.first; last = Some x; records = c.match-run.run.records } in (
+      x,
+      elim c.match-run.branch [
+        | in-Some w ↦
+            let a : Space = g.S.Pages.state c.args.space.now in
+            let m : Space = g.S.Pages.state c.new_page.new.space in
+            adds_next a m (g.S.Pages.state c.match-run.space) t now c.args.bytes.now x w.in-Some.last
+            c.in_ok-no.ensures.made
+            (chain_last a t c.requires.chain.0 w.in-Some.last c.requires.chain.1 w.in-Some.is) w.in-Some.is
+            (ap (λ s. g.S.Pages.state s) w.space-is ∙ w.set_next.ensures ∙ ap (λ p. with_next m (key p) (Some x)) w.temp_page.ensures)
+            (ap (λ (u : Run). u.first) w.run-is) refl
+        | in-None w ↦
+            let a : Space = g.S.Pages.state c.args.space.now in
+            subst (λ s. AddsRecord a s t now c.args.bytes.now x)
+            (sym (ap (λ s. g.S.Pages.state s) w.space-is))
+            (adds_first a (g.S.Pages.state c.new_page.new.space) t now c.args.bytes.now x
+            c.in_ok-no.ensures.made w.in-None.is (ap (λ (u : Run). u.first) w.run-is) refl)
+      ],
+    )

@@ -1,4 +1,3 @@
-use Rattle.hg_base.specs.Space.{Space}
 use Rattle.hg_run.proofs.Growing.{chain_last}
 use Rattle.hg_run.proofs.Filling.{last_page}
 use Rattle.hg_run.proofs.write.put_last.Goals as goal
