@@ -1,9 +1,9 @@
 -- What the writes of a heap do to one of its pages: another root, another word of a directory, another
 -- payload, one object more. `page` is a page of these objects, and the writes go where they stand.
-use Rattle.std.specs.Prelude.{◌≡◌, ℕ, ◌+◌, ◌-◌, ◌*◌, ◌/◌, ◌<◌, ◌≤◌, zero, suc, List, [], ◌∷◌, ◌++◌, length, take, drop, replicate, slice_set, Option, None}
+use Rattle.std.specs.Prelude.{◌≡◌, ℕ, ◌+◌, ◌-◌, ◌*◌, ◌/◌, ◌<◌, ◌≤◌, ◌⊎◌, zero, suc, List, [], ◌∷◌, ◌++◌, length, take, drop, replicate, slice_set, Option, None}
 use Rattle.std.specs.List.{flat_map, sum_by}
 use Rattle.std.specs.Int.{w16, w32, to_le_bytes}
-use Rattle.std.proofs.Common.{sym, ◌∙◌, ap, refl, arith, length-append, append_assoc, append-nil}
+use Rattle.std.proofs.Common.{inl, inr, sym, ◌∙◌, ap, refl, arith, length-append, append_assoc, append-nil}
 use Rattle.std.proofs.lemmas.List.{take_at, drop_at, take-append-drop, drop-drop, length-replicate, replicate-append-replicate}
 use Rattle.std.proofs.lemmas.List.Concat.{flat_map-append}
 use Rattle.std.proofs.lemmas.List.Sums.{sum_by-cons, sum_by-append}
@@ -270,3 +270,24 @@ object_placed a roots os o f page four room i =
     ∙ ap (λ q. ((72 ∷ 0 ∷ []) ++ (to_le_bytes w16 (page_end os + object_size o) ++ to_le_bytes w32 f)) ++ q)
     (append_assoc r b (object_bytes a o ++ z) ∙ ap (λ q. r ++ q) (sym (append_assoc b (object_bytes a o) z)) ∙ ap (λ q. r ++ (q ++ z)) (sym objects))
     ∙ ap (λ n. ((72 ∷ 0 ∷ []) ++ (to_le_bytes w16 n ++ to_le_bytes w32 f)) ++ (r ++ (flat_map (object_bytes a) (os ++ o ∷ []) ++ replicate (4096 - n) 0))) (sym new_end))
+
+-- A new page: zeros, but for its kind, its end and its frame. It has no object, and its roots, if it is
+-- the first of its heap, lead to nothing.
+zeros_cut : ◌≡◌ {A = List ℕ} (replicate {A = ℕ} 4096 0) (replicate {A = ℕ} 8 0 ++ replicate {A = ℕ} 4088 0)
+zeros_cut = sym (replicate-append-replicate 8 4088 0)
+
+empty_roots : (a : ℕ → ℕ) (roots : List (Option ℕ)) → (roots ≡ []) ⊎ (roots ≡ None ∷ None ∷ None ∷ None ∷ []) → roots_bytes a roots ≡ replicate 56 0
+empty_roots a roots h = elim h [
+  | inl e ↦ ap (λ q. roots_bytes a q) e
+  | inr e ↦ ap (λ q. roots_bytes a q) e
+]
+
+few_roots : (roots : List (Option ℕ)) → (roots ≡ []) ⊎ (roots ≡ None ∷ None ∷ None ∷ None ∷ []) → 8 * length roots ≤ 48
+few_roots roots h = elim h [ inl e ↦ omega (arith, ap length e) | inr e ↦ omega (arith, ap length e) ]
+
+pub page_made : (a : ℕ → ℕ) (roots : List (Option ℕ)) (f : ℕ) (page : List ℕ) → (roots ≡ []) ⊎ (roots ≡ None ∷ None ∷ None ∷ None ∷ []) → page ≡ replicate 4096 0
+    → IsHeapPage a roots [] f (put_mid 4 4 (put_mid 2 2 (slice_set page 0 72) (to_le_bytes w16 64)) (to_le_bytes w32 f))
+page_made a roots f page h e =
+    is_spelled a roots [] f (put_mid 4 4 (put_mid 2 2 (slice_set page 0 72) (to_le_bytes w16 64)) (to_le_bytes w32 f)) (few_roots roots h) (omega arith)
+    (ap (λ q. put_mid 4 4 (put_mid 2 2 (slice_set q 0 72) (to_le_bytes w16 64)) (to_le_bytes w32 f)) (e ∙ zeros_cut)
+    ∙ ap (λ q. head [] f ++ q) (sym (replicate-append-replicate 56 4032 0) ∙ ap (λ q. q ++ replicate 4032 0) (sym (empty_roots a roots h))))

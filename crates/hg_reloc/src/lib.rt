@@ -13,6 +13,11 @@
 //! `hg_base` alone. The contract that the layer above uses is that of [`rewrite`]: each address of the
 //! page, the four roots and the words of directories among them, becomes the moved word of the word that
 //! stood there, once, also where pages land in one another's old frames; every other byte stays.
+//!
+//! What this means for a whole heap are laws over definitions, for the store that keeps its pages:
+//! `StandingLaws` (a heap stands in its new frames), `FittingLaws` ([`verify`] takes each of its pages),
+//! `WritingLaws` and `HeapWritingLaws` (what a new page, a placed object, a root, a word and a payload do),
+//! `PlaceLaws` (where the object stands that an address names).
 #![tactic(auto)]
 
 mod checks;
