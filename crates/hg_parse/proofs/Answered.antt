@@ -1,6 +1,6 @@
 -- What a line is read as, by what was kept of it.
-use Rattle.std.proofs.Common.{◌≡◌, ◌<◌, ◌^◌, ℕ, Bool, true, false, ◌&&◌, List, [], ◌∷◌, Option, Some, None, length, refl, sym, ap, ◌∙◌, arith, inl, inr}
-use Rattle.std.specs.Prelude.{◌↔◌, if◌then◌else◌, Result}
+use Rattle.std.proofs.Common.{◌≡◌, ◌<◌, ◌^◌, ℕ, Bool, true, false, ◌&&◌, List, [], ◌∷◌, Option, Some, None, refl, sym, ap, ◌∙◌, inl, inr}
+use Rattle.std.specs.Prelude.{◌↔◌, if◌then◌else◌}
 use Rattle.std.specs.List.{list_any}
 use Rattle.std.proofs.lemmas.Bool.{cases_Bool}
 use Rattle.hg_model.specs.Reading.{Reading, Blank, Syntax, BadNumber, TooMany, Statement, Reads, has_bad_number, too_many_of, is_long_name, is_long_text}
@@ -15,11 +15,11 @@ use Rattle.hg_parse.proofs.RuleImages.{keeps_fronts}
 use Rattle.hg_parse.specs.AtHand.{stream, is_whole}
 use Rattle.hg_parse.specs.Building.{Draft, plain, empty_draft}
 use Rattle.hg_parse.specs.Judging.{bad_kept, too_many_kept}
-use Rattle.hg_parse.specs.Keeping.{Kept, keeping, kept_of, image, cap_form, cap_heading}
+use Rattle.hg_parse.specs.Keeping.{Kept, kept_of, image, cap_form}
 use Rattle.hg_parse.specs.Kept.{keeper}
 use Rattle.hg_parse.specs.Readings.{reading_of, by_tokens, by_line, judged, counted}
 use Rattle.hg_parse.specs.Rules.{Form, TableForm, IndexForm, InsertForm, UpdateForm, DeleteForm, VacuumForm, SelectForm, OpenForm, StartForm, WorkForm, FetchForm, CloseForm, PoolForm, MplForm, MemoryForm, Line, line_of, line_end, ends_line, is_end, tree_of, command}
-use Rattle.hg_parse.specs.Statements.{lined, line_kept, reading_in, tree_in, short_form}
+use Rattle.hg_parse.specs.Statements.{lined, line_kept, tree_in, short_form}
 use Rattle.hg_parse.specs.Steps.{Answer, Got}
 
 -- an answer that is what the line is read as is the answer

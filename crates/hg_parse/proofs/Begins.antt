@@ -1,11 +1,11 @@
 -- How an expression begins: at no rule with `*`, at a comparison or tighter with no NOT, at a primary with no sign.
-use Rattle.std.proofs.Common.{◌≡◌, ℕ, zero, suc, Bool, true, false, List, [], ◌∷◌, ◌++◌, refl, sym, ap, ◌∙◌, append_assoc, cond}
-use Rattle.std.specs.Prelude.{codes, nat_eq}
+use Rattle.std.proofs.Common.{◌≡◌, ℕ, true, false, List, ◌∷◌, ◌++◌, refl, sym, ap, ◌∙◌, append_assoc}
+use Rattle.std.specs.Prelude.{codes}
 use Rattle.std.proofs.lemmas.Bool.{false_from_ne_true, both_ways}
 use Rattle.std.specs.Cmp.Lexicographic.{same_text}
 use Rattle.hg_model.specs.Grammar.{Read, IsName, dot, star, plus, minus, IsColumn, bare, dotted, IsFold, count, sum, min, max, Rule, Or, And, Not, Pred, Sum, Term, Factor, Prim, Items, Expression, or_one, or_more, and_one, and_more, not_none, not_one, pred_sum, pred_cmp, pred_null, pred_not_null, pred_between, pred_not_between, pred_in, pred_not_in, sum_one, sum_plus, sum_minus, term_one, term_times, factor_prim, factor_plus, factor_minus, prim_number, prim_text, prim_null, prim_column, prim_nested, agg_rows, agg_one, items_one, items_more}
 use Rattle.hg_model.specs.Tables.{same_name}
-use Rattle.hg_model.specs.Tokens.{Token, Word, Digits, Letters, Sign, is_reserved}
+use Rattle.hg_model.specs.Tokens.{Token, Word, is_reserved}
 use Rattle.hg_parse.specs.Descent.{key}
 use Rattle.hg_parse.specs.Steps.{eats}
 

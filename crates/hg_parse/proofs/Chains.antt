@@ -1,9 +1,9 @@
 -- Chains: one turn at a time.
-use Rattle.std.proofs.Common.{◌≡◌, ℕ, zero, suc, ◌<◌, ◌≤◌, ◌+◌, true, false, Bool, List, [], ◌∷◌, ◌++◌, Option, Some, None, length, refl, sym, ap, ◌∙◌, arith, append_assoc, length-append, cond}
+use Rattle.std.proofs.Common.{◌≡◌, ℕ, zero, suc, ◌<◌, true, false, Bool, List, ◌∷◌, ◌++◌, Some, None, length, refl, ap, ◌∙◌, arith, append_assoc, length-append, cond}
 use Rattle.std.specs.Prelude.{nat_lt}
 use Rattle.std.proofs.lemmas.Bool.{ltb-true, lt-ltb}
 use Rattle.hg_model.specs.Tokens.{Token}
-use Rattle.hg_parse.specs.Steps.{Answer, got, Got, Turn, Stop, Go, follow, turns, chain}
+use Rattle.hg_parse.specs.Steps.{Answer, got, Turn, Stop, Go, follow, turns, chain}
 
 module _ {S X : Type 0} (turn : S → X → List Token → Turn S X) where
   next_same : (f h : S → X → List Token → Answer S X) (s : S) (x : X) (us : List Token) (b : Bool) → (b ≡ true → f s x us ≡ h s x us)

@@ -1,10 +1,9 @@
 -- Which word or sign comes next.
-use Rattle.std.proofs.Common.{◌≡◌, ◌<◌, ◌≤◌, ◌+◌, zero, suc, length, Some, arith, inl, inr, ℕ, None, Bool, true, false, List, [], ◌∷◌, refl, sym, ap, ◌∙◌}
-use Rattle.std.specs.Prelude.{IsTrue}
+use Rattle.std.proofs.Common.{◌≡◌, ◌<◌, ◌≤◌, ◌+◌, length, Some, arith, inl, inr, ℕ, None, Bool, true, false, List, [], ◌∷◌, refl, sym, ap, ◌∙◌}
 use Rattle.std.proofs.lemmas.Bool.{cases_Bool, false_from_ne_true, both_ways}
 use Rattle.std.specs.Cmp.Lexicographic.{same_text}
 use Rattle.hg_model.specs.Tables.{same_name}
-use Rattle.hg_model.specs.Tokens.{Token, Word, Digits, Letters, Sign, is_reserved, lower, number_of}
+use Rattle.hg_model.specs.Tokens.{Token, Word, Sign, is_reserved, lower, number_of}
 use Rattle.hg_parse.proofs.Begins.{apart}
 use Rattle.hg_parse.proofs.FoundParts.{same_self}
 use Rattle.hg_parse.specs.AtHand.{stream, from_token, tokens, name_in, digits_in, text_in, left}

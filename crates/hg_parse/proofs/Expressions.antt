@@ -18,7 +18,7 @@ use Rattle.hg_parse.proofs.Chains.{chain_go, chain_stop, chain_fail}
 use Rattle.hg_parse.proofs.Eaten.{same_back}
 use Rattle.hg_parse.specs.AtHand.{digits_in, text_in, name_in, fold_in, sum_sign}
 use Rattle.hg_parse.specs.Building.{Builder}
-use Rattle.hg_parse.specs.Descent.{key, compares, cmp_of, fold_of, deeper, column_of, with_next, prim, reserved, fold_at, aggregate, joins, item_joined, term, sum_turn, inside, disjunction, whole}
+use Rattle.hg_parse.specs.Descent.{key, compares, fold_of, deeper, column_of, with_next, prim, reserved, fold_at, aggregate, joins, item_joined, term, sum_turn, inside, disjunction, whole}
 use Rattle.hg_parse.specs.Steps.{Answer, got, and_then, eats, behind, closed, Turn, Stop, Go, chain}
 
 abbrev compare_steps : (List ℕ → Bool) → Option Cmp

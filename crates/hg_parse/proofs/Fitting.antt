@@ -1,11 +1,10 @@
 -- What fits: names of at most 30 letters, and operands that stand before their nodes. A tree has no other where its
 -- tokens have no longer names.
-use Rattle.std.proofs.Common.{◌≡◌, ◌<◌, ◌≤◌, ◌+◌, ℕ, suc, Bool, true, false, List, [], ◌∷◌, ◌++◌, Option, Some, None, length, refl, sym, ap, ◌∙◌, arith, length-append, take, map, subst}
-use Rattle.std.specs.Prelude.{codes, nat_lt, not, ◌&&◌, ⊤}
-use Rattle.std.specs.List.{list_any}
-use Rattle.hg_model.specs.Grammar.{Read, with_node, next, IsName, open_sign, close_sign, comma, dot, star, plus, minus, IsColumn, bare, dotted, IsCmp, IsFold, Rule, Or, And, Not, Pred, Sum, Term, Factor, Prim, Items, Expression, or_one, or_more, and_one, and_more, not_none, not_one, pred_sum, pred_cmp, pred_null, pred_not_null, pred_between, pred_not_between, pred_in, pred_not_in, sum_one, sum_plus, sum_minus, term_one, term_times, factor_prim, factor_plus, factor_minus, prim_number, prim_text, prim_null, prim_column, prim_nested, agg_rows, agg_one, items_one, items_more}
+use Rattle.std.proofs.Common.{◌≡◌, ◌<◌, ◌≤◌, ◌+◌, ℕ, false, List, [], ◌∷◌, ◌++◌, Option, Some, None, length, refl, arith, length-append}
+use Rattle.std.specs.Prelude.{codes, nat_lt, ⊤}
+use Rattle.hg_model.specs.Grammar.{Read, with_node, next, IsName, open_sign, close_sign, comma, star, plus, minus, IsColumn, bare, dotted, Rule, Or, And, Not, Pred, Sum, Term, Factor, Prim, Items, Expression, or_one, or_more, and_one, and_more, not_none, not_one, pred_sum, pred_cmp, pred_null, pred_not_null, pred_between, pred_not_between, pred_in, pred_not_in, sum_one, sum_plus, sum_minus, term_one, term_times, factor_prim, factor_plus, factor_minus, prim_number, prim_text, prim_null, prim_column, prim_nested, agg_rows, agg_one, items_one, items_more}
 use Rattle.hg_model.specs.Reading.{is_long_name}
-use Rattle.hg_model.specs.Tokens.{Token, Word, Digits, Letters, Sign, is_reserved, number_of}
+use Rattle.hg_model.specs.Tokens.{Token, Word}
 use Rattle.hg_model.specs.declared.trees.Cmp.TheVariants as cmp
 use Rattle.hg_model.specs.declared.trees.Op.TheVariants.{Add, Sub, Mul}
 use Rattle.hg_model.specs.declared.trees.ColRef.{ColRef}

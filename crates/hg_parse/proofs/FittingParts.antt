@@ -1,10 +1,10 @@
 -- What fits in the parts of a statement.
-use Rattle.std.proofs.Common.{◌≡◌, ◌<◌, ◌≤◌, ◌+◌, ℕ, suc, Bool, true, false, List, [], ◌∷◌, ◌++◌, Option, Some, None, length, refl, sym, ap, ◌∙◌, arith, length-append}
+use Rattle.std.proofs.Common.{◌<◌, ◌≤◌, ◌+◌, ℕ, Bool, List, [], ◌∷◌, ◌++◌, Option, Some, None, length, arith, length-append}
 use Rattle.std.specs.Prelude.{codes, ⊤}
-use Rattle.hg_model.specs.Grammar.{Read, with_node, next, nothing_read, IsName, open_sign, close_sign, comma, dot, star, plus, minus, equals, semicolon, IsColumn, bare, dotted, Whole, Clause, left_out, given, IsOutput, plain, named, Outputs, one, more, IsRef, own, alias, alias_as, Tables, by_comma, by_cross, by_join, by_inner, GroupColumns, Group, Direction, ascending, descending, IsKey, position, column, Keys, Order, Head, all, distinct, Columns, by_star, by_outputs, IsSelect, select, IsConstant, positive, negative, text, null, Constants, Tuples, Names, Listed, IsType, integer, int, varchar, Constraints, none, not_null, primary_key, unique, IsNewColumn, NewColumns, Sets, IsUnique, IsCommand, create_table, create_index, insert, update, delete, vacuum, open_cursor, start, work, fetch, close, pool, mpl, show_memory, IsLine, ended}
+use Rattle.hg_model.specs.Grammar.{Read, with_node, next, nothing_read, open_sign, close_sign, comma, equals, semicolon, bare, Whole, Clause, left_out, given, IsOutput, plain, named, Outputs, one, more, IsRef, own, alias, alias_as, Tables, by_comma, by_cross, by_join, by_inner, GroupColumns, Group, IsKey, position, column, Keys, Order, Columns, by_star, by_outputs, IsSelect, select, Tuples, Names, Listed, IsNewColumn, NewColumns, Sets, IsCommand, create_table, create_index, insert, update, delete, vacuum, open_cursor, start, work, fetch, close, pool, mpl, show_memory, IsLine, ended}
 use Rattle.hg_model.specs.Query.{Query}
 use Rattle.hg_model.specs.Statements.{CommandTree, CreateTable, CreateIndex, InsertRows, UpdateRows, DeleteRows, Vacuum, SelectRows, OpenCursor, Start, Work, Fetch, Close, Pool, Mpl, ShowMemory}
-use Rattle.hg_model.specs.Tokens.{Token, Word, Digits, Letters, Sign, is_reserved, number_of}
+use Rattle.hg_model.specs.Tokens.{Token, Word}
 use Rattle.hg_model.specs.declared.trees.FromTable.{FromTable}
 use Rattle.hg_model.specs.declared.trees.Literal.{Literal}
 use Rattle.hg_model.specs.declared.trees.NewColumn.{NewColumn}
@@ -14,7 +14,7 @@ use Rattle.hg_model.specs.declared.trees.OrderBy.{OrderBy}
 use Rattle.hg_model.specs.declared.trees.OrderBy.TheVariants.{Position, Column as ByColumn}
 use Rattle.hg_model.specs.declared.trees.OrderKey.{OrderKey}
 use Rattle.hg_model.specs.declared.trees.Output.{Output}
-use Rattle.hg_parse.proofs.Fitting.{Each, each_both, each_map, Some_is, some_map, Short, TokenFits, ColumnFits, NodeFits, less_more, NodesFit, Grows, Gives, put, gives, not_long, column_fits, left, right}
+use Rattle.hg_parse.proofs.Fitting.{Each, each_both, each_map, Some_is, some_map, Short, TokenFits, NodeFits, less_more, NodesFit, put, gives, not_long, column_fits, left, right}
 use Rattle.hg_parse.specs.Descent.{key}
 
 abbrev pub Below : ℕ → ℕ → Type 0

@@ -1,5 +1,5 @@
 -- What may stand behind the parts of a statement.
-use Rattle.std.proofs.Common.{◌≡◌, ℕ, zero, suc, Bool, false, true, List, [], ◌∷◌, refl}
+use Rattle.std.proofs.Common.{◌≡◌, ℕ, zero, suc, false, List, [], ◌∷◌, refl}
 use Rattle.std.specs.Prelude.{codes}
 use Rattle.hg_model.specs.Grammar.{comma, semicolon}
 use Rattle.hg_model.specs.Tokens.{Token, is_reserved}

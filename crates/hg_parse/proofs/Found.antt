@@ -1,8 +1,8 @@
 -- Each expression is found: the descent reads what the grammar says, and stops behind it.
-use Rattle.std.proofs.Common.{◌≡◌, ℕ, zero, suc, Bool, cond, ◌+◌, ◌<◌, ◌≤◌, true, false, List, [], ◌∷◌, ◌++◌, Option, Some, None, length, refl, sym, ap, ◌∙◌, arith, append_assoc, length-append, pos}
+use Rattle.std.proofs.Common.{◌≡◌, ℕ, suc, Bool, cond, ◌+◌, true, false, List, [], ◌∷◌, ◌++◌, Some, None, refl, ap, ◌∙◌, arith, append_assoc, length-append, pos}
 use Rattle.std.specs.Prelude.{codes}
-use Rattle.hg_model.specs.Grammar.{Read, with_node, next, IsName, open_sign, close_sign, comma, dot, star, plus, minus, IsColumn, bare, dotted, IsCmp, eq, ne, ne_bang, lt, le, gt, ge, IsFold, count, sum, min, max, Rule, Or, And, Not, Pred, Sum, Term, Factor, Prim, Items, Expression, or_one, or_more, and_one, and_more, not_none, not_one, pred_sum, pred_cmp, pred_null, pred_not_null, pred_between, pred_not_between, pred_in, pred_not_in, sum_one, sum_plus, sum_minus, term_one, term_times, factor_prim, factor_plus, factor_minus, prim_number, prim_text, prim_null, prim_column, prim_nested, agg_rows, agg_one, items_one, items_more}
-use Rattle.hg_model.specs.Tokens.{Token, Word, Digits, Letters, Sign, is_reserved, number_of}
+use Rattle.hg_model.specs.Grammar.{Read, with_node, next, open_sign, close_sign, comma, dot, star, plus, minus, IsColumn, bare, dotted, IsCmp, eq, ne, ne_bang, lt, le, gt, ge, IsFold, count, sum, min, max, Rule, Or, And, Not, Pred, Sum, Term, Factor, Prim, Items, Expression, or_one, or_more, and_one, and_more, not_none, not_one, pred_sum, pred_cmp, pred_null, pred_not_null, pred_between, pred_not_between, pred_in, pred_not_in, sum_one, sum_plus, sum_minus, term_one, term_times, factor_prim, factor_plus, factor_minus, prim_number, prim_text, prim_null, prim_column, prim_nested, agg_rows, agg_one, items_one, items_more}
+use Rattle.hg_model.specs.Tokens.{Token, Word, Digits, Letters, is_reserved, number_of}
 use Rattle.hg_model.specs.declared.trees.Cmp.{Cmp}
 use Rattle.hg_model.specs.declared.trees.Cmp.TheVariants as cmp
 use Rattle.hg_model.specs.declared.trees.ColRef.{ColRef}
@@ -12,10 +12,10 @@ use Rattle.hg_model.specs.declared.trees.Literal.TheVariants as literal
 use Rattle.hg_model.specs.declared.trees.Node.{Node}
 use Rattle.hg_model.specs.declared.trees.Node.TheVariants as node
 use Rattle.hg_model.specs.declared.trees.Op.TheVariants.{Add, Sub, Mul}
-use Rattle.hg_parse.specs.Building.{Builder, Draft, plain, with_text_node}
-use Rattle.hg_parse.proofs.Begins.{Begins, NoStar, NoNot, NoSign, begins}
+use Rattle.hg_parse.specs.Building.{Draft, plain, with_text_node}
+use Rattle.hg_parse.proofs.Begins.{Begins, begins}
 use Rattle.std.proofs.lemmas.Bool.{and_right}
-use Rattle.hg_parse.specs.Steps.{Answer, got, and_then, eats, behind, after, closed, Turn, Stop, Go, chain}
+use Rattle.hg_parse.specs.Steps.{Answer, got, and_then, eats, closed, Stop, Go, chain}
 use Rattle.hg_parse.specs.Descent as d
 use Rattle.hg_parse.specs.Descent.{compares}
 use Rattle.hg_parse.specs.Follow.{AfterTerm, AfterSum, AfterPred, AfterAnd, AfterOr}

@@ -1,10 +1,10 @@
 -- Each line of the grammar is found.
-use Rattle.std.proofs.Common.{◌≡◌, ℕ, zero, suc, Bool, cond, true, false, List, [], ◌∷◌, ◌++◌, Option, Some, None, refl, sym, ap, ◌∙◌, append_assoc, append-nil}
-use Rattle.std.specs.Prelude.{codes, ⊤}
-use Rattle.hg_model.specs.Grammar.{Read, nothing_read, IsName, open_sign, close_sign, comma, dot, star, semicolon, Whole, Clause, left_out, given, IsOutput, plain, named, Outputs, one, more, Tables, Group, Order, Head, all, distinct, Columns, by_star, by_outputs, IsSelect, select, Names, Sets, IsUnique, IsCommand, create_table, create_index, insert, update, delete, vacuum, open_cursor, start, work, fetch, close, pool, mpl, show_memory, IsLine, bare, ended}
+use Rattle.std.proofs.Common.{◌≡◌, ℕ, zero, suc, Bool, true, false, List, [], ◌∷◌, ◌++◌, Option, Some, refl, sym, ap, ◌∙◌, append_assoc, append-nil}
+use Rattle.std.specs.Prelude.{codes}
+use Rattle.hg_model.specs.Grammar.{Read, IsName, open_sign, close_sign, comma, star, semicolon, Clause, left_out, given, IsOutput, plain, named, Outputs, one, more, Tables, Group, Order, all, distinct, Columns, by_star, by_outputs, IsSelect, select, Names, IsUnique, IsCommand, create_table, create_index, insert, update, delete, vacuum, open_cursor, start, work, fetch, close, pool, mpl, show_memory, IsLine, bare, ended}
 use Rattle.hg_model.specs.Query.{Query}
-use Rattle.hg_model.specs.Statements.{CommandTree, CreateTable, CreateIndex, InsertRows, UpdateRows, DeleteRows, Vacuum, SelectRows, OpenCursor, Start, Work, Fetch, Close, Pool, Mpl, ShowMemory}
-use Rattle.hg_model.specs.Tokens.{Token, Word, Digits, is_reserved, number_of}
+use Rattle.hg_model.specs.Statements.{CommandTree}
+use Rattle.hg_model.specs.Tokens.{Token, Word, Digits, number_of}
 use Rattle.hg_model.specs.declared.trees.FromTable.{FromTable}
 use Rattle.hg_model.specs.declared.trees.OrderKey.{OrderKey}
 use Rattle.hg_model.specs.declared.trees.Output.{Output}
@@ -12,12 +12,12 @@ use Rattle.hg_parse.specs.Building.{Draft, empty_draft, plain as all_kept}
 use Rattle.hg_parse.specs.Descent as d
 use Rattle.hg_parse.specs.Follow.{AfterOr}
 use Rattle.hg_parse.specs.Rules as r
-use Rattle.hg_parse.specs.Steps.{Answer, got, and_then, eats, after, closed, Turn, Stop, Go, chain, commas, comma_turn}
+use Rattle.hg_parse.specs.Steps.{got, and_then, eats, closed, commas}
 use Rattle.hg_parse.proofs.Begins.{NoStar, begins, longer_star}
 use Rattle.hg_parse.proofs.Chains.{chain_stop}
-use Rattle.hg_parse.proofs.Found.{if_stop, if_go}
-use Rattle.hg_parse.proofs.FoundParts.{whole_got, commas_stop, name_got, clause_got, outputs_got, tables_got, group_got, AfterKey, order_got, tuples_got, with_values, name_list_got, with_names, listed_got, new_columns_got, with_columns, sets_got, with_sets}
-use Rattle.hg_parse.proofs.Following.{Follows, at_end, at_semicolon, at_order, at_having, at_group, at_where, wider, or_from, follows_or, no_order, no_having, no_group, no_where, AfterTables, follows_tables}
+use Rattle.hg_parse.proofs.Found.{if_stop}
+use Rattle.hg_parse.proofs.FoundParts.{commas_stop, name_got, clause_got, outputs_got, tables_got, group_got, AfterKey, order_got, tuples_got, with_values, name_list_got, with_names, listed_got, new_columns_got, with_columns, sets_got, with_sets}
+use Rattle.hg_parse.proofs.Following.{Follows, at_end, at_semicolon, at_order, at_having, at_group, at_where, wider, or_from, follows_or, no_order, no_having, no_group, no_where, follows_tables}
 
 follows_key : {ts : List Token} → Follows zero ts → AfterKey ts
 follows_key at_end = record { no_dot = refl; no_asc = refl; no_desc = refl }

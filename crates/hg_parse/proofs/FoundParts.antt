@@ -1,30 +1,28 @@
 -- Each part of a statement is found.
-use Rattle.std.proofs.Common.{◌≡◌, ℕ, zero, suc, Bool, cond, ◌+◌, ◌<◌, ◌≤◌, true, false, not, List, [], ◌∷◌, ◌++◌, Option, Some, None, length, refl, sym, ap, ◌∙◌, arith, append_assoc, length-append, pos, neg_ℤ}
+use Rattle.std.proofs.Common.{◌≡◌, ℕ, suc, Bool, true, false, not, List, [], ◌∷◌, ◌++◌, Option, None, length, refl, ap, ◌∙◌, append_assoc, length-append}
 use Rattle.std.specs.Prelude.{codes, ⊤, nat_eq}
 use Rattle.std.proofs.lemmas.Bool.{eq-eqb, and_from}
-use Rattle.hg_model.specs.Grammar.{Read, with_node, next, IsName, open_sign, close_sign, comma, dot, star, plus, minus, equals, semicolon, IsColumn, bare, dotted, Whole, Clause, left_out, given, IsOutput, plain, named, Outputs, one, more, IsRef, own, alias, alias_as, Tables, by_comma, by_cross, by_join, by_inner, GroupColumns, Group, Direction, ascending, descending, IsKey, position, column, Keys, Order, Head, all, distinct, Columns, by_star, by_outputs, IsConstant, positive, negative, text, null, Constants, Tuples, Names, Listed, IsType, integer, int, varchar, Constraints, none, not_null, primary_key, unique, IsNewColumn, NewColumns, Sets, IsUnique}
+use Rattle.hg_model.specs.Grammar.{Read, with_node, next, IsName, open_sign, close_sign, comma, dot, equals, IsColumn, bare, dotted, Whole, Clause, left_out, given, IsOutput, plain, named, Outputs, one, more, IsRef, own, alias, alias_as, Tables, by_comma, by_cross, by_join, by_inner, GroupColumns, Group, Direction, ascending, descending, IsKey, position, column, Keys, Order, IsConstant, positive, negative, text, null, Constants, Tuples, Names, Listed, IsType, integer, int, varchar, Constraints, none, not_null, primary_key, unique, IsNewColumn, NewColumns, Sets}
 use Rattle.hg_model.specs.Tables.{same_name}
-use Rattle.hg_model.specs.Tokens.{Token, Word, Digits, Letters, Sign, is_reserved, number_of}
+use Rattle.hg_model.specs.Tokens.{Token, Word, is_reserved, number_of}
 use Rattle.hg_model.specs.declared.trees.ColRef.{ColRef}
 use Rattle.hg_model.specs.declared.trees.FromTable.{FromTable}
 use Rattle.hg_model.specs.declared.trees.Literal.{Literal}
 use Rattle.hg_model.specs.declared.trees.NewColumn.{NewColumn}
 use Rattle.hg_model.specs.declared.trees.Node.TheVariants as node
-use Rattle.hg_model.specs.declared.trees.OrderBy.{OrderBy}
 use Rattle.hg_model.specs.declared.trees.OrderBy.TheVariants.{Position, Column as ByColumn}
 use Rattle.hg_model.specs.declared.trees.OrderKey.{OrderKey}
 use Rattle.hg_model.specs.declared.trees.Output.{Output}
 use Rattle.hg_model.specs.declared.trees.SqlType.{SqlType}
-use Rattle.hg_model.specs.declared.trees.SqlType.TheVariants.{Integer, Varchar}
-use Rattle.hg_parse.specs.Building.{Builder, Draft, plain as all_kept}
+use Rattle.hg_parse.specs.Building.{Draft, plain as all_kept}
 use Rattle.hg_parse.specs.Descent as d
 use Rattle.hg_parse.specs.Follow.{AfterOr}
 use Rattle.hg_parse.specs.Rules as r
-use Rattle.hg_parse.specs.Steps.{Answer, got, and_then, eats, behind, after, closed, Turn, Stop, Go, chain, commas, comma_turn, same_token}
+use Rattle.hg_parse.specs.Steps.{Answer, got, and_then, eats, closed, Go, chain, commas, comma_turn}
 use Rattle.hg_parse.proofs.Begins.{apart}
-use Rattle.hg_parse.proofs.Chains.{chain_stop, chain_go, one_more}
-use Rattle.hg_parse.proofs.Found.{at, found, or_got, if_stop, if_go, follow_comma, follow_close}
-use Rattle.hg_parse.proofs.Following.{or_as, or_from, or_on, or_cross, or_join, or_inner, AfterRef, ref_on, ref_cross, ref_join, ref_inner, ref_comma}
+use Rattle.hg_parse.proofs.Chains.{chain_stop, one_more}
+use Rattle.hg_parse.proofs.Found.{at, found, or_got, if_stop, if_go, follow_comma}
+use Rattle.hg_parse.proofs.Following.{or_as, or_cross, or_join, or_inner, AfterRef, ref_on, ref_cross, ref_join, ref_inner, ref_comma}
 
 pub same_self : (w : List ℕ) → same_name w w ≡ true
 same_self [] = refl

@@ -1,25 +1,24 @@
 -- What the descent keeps is what is kept of what it makes of the whole.
-use Rattle.std.proofs.Common.{◌≡◌, ℕ, zero, suc, Bool, cond, true, false, not, ◌||◌, ◌&&◌, List, [], ◌∷◌, ◌++◌, Option, Some, None, length, refl, sym, ap, ◌∙◌, arith, pos, neg_ℤ}
+use Rattle.std.proofs.Common.{◌≡◌, ℕ, zero, suc, Bool, cond, true, false, ◌&&◌, List, [], ◌∷◌, Option, Some, None, length, refl, sym, ap, ◌∙◌, arith, pos}
 use Rattle.std.specs.Prelude.{codes, ⊤, nat_lt}
 use Rattle.std.specs.Option.{option_map}
-use Rattle.hg_model.specs.Grammar.{open_sign, close_sign, comma, dot, star, plus, minus, equals}
-use Rattle.hg_model.specs.Reading.{is_long_literal, has_long_number, is_bad_type, is_bad_key}
+use Rattle.hg_model.specs.Grammar.{open_sign, close_sign, comma, dot, star, plus, minus}
+use Rattle.hg_model.specs.Reading.{has_long_number}
 use Rattle.hg_model.specs.Tables.{same_name}
 use Rattle.hg_model.specs.Tokens.{Token, Word, Digits, Letters, Sign, is_reserved, number_of}
 use Rattle.hg_model.specs.declared.trees.Cmp.{Cmp}
 use Rattle.hg_model.specs.declared.trees.Cmp.TheVariants as cmp
-use Rattle.hg_model.specs.declared.trees.ColRef.{ColRef}
 use Rattle.hg_model.specs.declared.trees.Fold.{Fold}
 use Rattle.hg_model.specs.declared.trees.Fold.TheVariants as of
 use Rattle.hg_model.specs.declared.trees.Literal.TheVariants as literal
 use Rattle.hg_model.specs.declared.trees.Node.{Node}
 use Rattle.hg_model.specs.declared.trees.Node.TheVariants as node
 use Rattle.hg_model.specs.declared.trees.Op.TheVariants.{Add, Sub, Mul}
-use Rattle.hg_parse.specs.Building.{Draft, plain, text_at}
+use Rattle.hg_parse.specs.Building.{Draft, plain}
 use Rattle.hg_parse.specs.Descent as d
 use Rattle.hg_parse.specs.Keeping.{cap, Kept, kept_of, keeping, short_node, image}
-use Rattle.hg_parse.specs.Steps.{Answer, Got, got, and_then, eats, behind, after, closed, Turn, Stop, Go, follow, turns, chain, commas, comma_turn}
-use Rattle.hg_parse.proofs.Keeps.{next_kept, node_kept, text_kept_so}
+use Rattle.hg_parse.specs.Steps.{Answer, got, and_then, eats, behind, after, closed, Turn, Stop, Go, follow, turns, chain, commas, comma_turn}
+use Rattle.hg_parse.proofs.Keeps.{node_kept, text_kept_so}
 
 abbrev pub turn_image : {X Y : Type 0} → (X → Y) → Turn Draft X → Turn Kept Y
 turn_image f Stop = Stop

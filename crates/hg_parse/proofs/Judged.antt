@@ -1,11 +1,10 @@
 -- What was kept of a line judges it as its tree does.
-use Rattle.std.proofs.Common.{◌≡◌, ℕ, ◌<◌, min, lit<, Bool, List, [], ◌∷◌, Option, length, refl, sym, ap, ◌∙◌, arith}
+use Rattle.std.proofs.Common.{◌≡◌, ℕ, ◌<◌, min, lit<, Bool, List, [], ◌∷◌, length, refl, arith}
 use Rattle.std.specs.Prelude.{nat_lt}
 use Rattle.std.specs.List.{list_any}
 use Rattle.std.proofs.lemmas.Bool.Decides.{nat_tests}
 use Rattle.hg_model.specs.Reading.{has_bad_number, too_many_of, first_count, is_long_name, is_long_text}
 use Rattle.hg_model.specs.Tokens.{Token}
-use Rattle.hg_model.specs.declared.trees.Count.{Count}
 use Rattle.hg_model.specs.declared.trees.Count.TheVariants as count
 use Rattle.hg_parse.specs.Building.{Draft}
 use Rattle.hg_parse.specs.Judging.{bad_kept, too_many_kept}

@@ -1,18 +1,13 @@
 -- Each call of the keeping builder keeps what the plain one makes.
-use Rattle.std.proofs.Common.{◌≡◌, ℕ, zero, suc, lit≤, ◌+◌, ◌<◌, ◌≤◌, Bool, cond, true, false, ◌||◌, List, [], ◌∷◌, ◌++◌, length, take, map, min, refl, sym, ap, ◌∙◌, arith, length-append}
+use Rattle.std.proofs.Common.{◌≡◌, ℕ, zero, suc, lit≤, ◌+◌, ◌≤◌, Bool, cond, true, false, ◌||◌, List, [], ◌∷◌, ◌++◌, length, take, map, min, refl, sym, ap, ◌∙◌, arith, length-append}
 use Rattle.std.specs.Prelude.{nat_lt}
 use Rattle.std.specs.List.{list_any}
 use Rattle.std.proofs.lemmas.Bool.Decides.{nat_tests}
-use Rattle.hg_model.specs.declared.trees.FromTable.{FromTable}
-use Rattle.hg_model.specs.declared.trees.Literal.{Literal}
-use Rattle.hg_model.specs.declared.trees.NewColumn.{NewColumn}
 use Rattle.hg_model.specs.declared.trees.Node.{Node}
 use Rattle.hg_model.specs.declared.trees.Node.TheVariants as node
-use Rattle.hg_model.specs.declared.trees.OrderKey.{OrderKey}
-use Rattle.hg_model.specs.declared.trees.Output.{Output}
-use Rattle.hg_model.specs.Reading.{is_long_literal, has_long_number, is_bad_type, is_bad_key}
+use Rattle.hg_model.specs.Reading.{has_long_number}
 use Rattle.hg_parse.specs.Building.{Draft, plain, text_at}
-use Rattle.hg_parse.specs.Keeping.{cap, cap_wide, Front, front, pushed, wide_front, wide_pushed, short_node, short_output, short_table, short_key, short_new_column, short_name, short_set, short_literal, Kept, kept_of, keeping}
+use Rattle.hg_parse.specs.Keeping.{cap, cap_wide, front, pushed, wide_front, wide_pushed, short_node, kept_of, keeping}
 
 pub count_more : {X : Type 0} (xs : List X) (x : X) → cap (cap (length xs) + 1) ≡ cap (length (xs ++ x ∷ []))
 count_more xs x = omega (arith, length-append xs (x ∷ []))

@@ -1,5 +1,5 @@
 -- A tree that is not too large is kept whole.
-use Rattle.std.proofs.Common.{◌≡◌, ◌<◌, ◌≤◌, ◌+◌, ◌^◌, ℕ, zero, suc, lit≤, Bool, true, false, ◌&&◌, ◌||◌, List, [], ◌∷◌, Option, Some, None, length, take, map, min, refl, sym, ap, ◌∙◌, arith}
+use Rattle.std.proofs.Common.{◌≡◌, ◌<◌, ◌≤◌, ◌^◌, ℕ, zero, suc, Bool, true, false, ◌&&◌, ◌||◌, List, [], ◌∷◌, Option, Some, None, length, take, map, min, refl, ap, ◌∙◌, arith}
 use Rattle.std.specs.Prelude.{not, nat_lt, nat_le, ⊤, if◌then◌else◌}
 use Rattle.std.specs.List.{list_any}
 use Rattle.std.specs.Option.{option_map}
@@ -7,9 +7,8 @@ use Rattle.std.proofs.lemmas.Bool.{lt-ltb}
 use Rattle.std.proofs.lemmas.Bool.Decides.{nat_tests}
 use Rattle.hg_model.specs.Query.{Query}
 use Rattle.hg_model.specs.Reading.{first_count, is_long_literal, has_long_number, is_bad_type, is_bad_key, is_bad_count}
-use Rattle.hg_model.specs.Statements.{CommandTree, CreateTable, CreateIndex, InsertRows, UpdateRows, DeleteRows, Vacuum, SelectRows, OpenCursor, Start, Work, Fetch, Close, Pool, Mpl, ShowMemory}
+use Rattle.hg_model.specs.Statements.{CommandTree, CreateTable, CreateIndex, InsertRows, UpdateRows, DeleteRows, Vacuum, SelectRows, OpenCursor, Start, Work, Fetch, Close, Pool, Mpl}
 use Rattle.hg_model.specs.declared.trees.ColRef.{ColRef}
-use Rattle.hg_model.specs.declared.trees.Column.{Column}
 use Rattle.hg_model.specs.declared.trees.Count.{Count}
 use Rattle.hg_model.specs.declared.trees.Count.TheVariants as count
 use Rattle.hg_model.specs.declared.trees.FromTable.{FromTable}
@@ -24,7 +23,7 @@ use Rattle.hg_model.specs.declared.trees.OrderKey.{OrderKey}
 use Rattle.hg_model.specs.declared.trees.Output.{Output}
 use Rattle.hg_model.specs.declared.trees.SqlType.{SqlType}
 use Rattle.hg_model.specs.declared.trees.SqlType.TheVariants.{Varchar}
-use Rattle.hg_parse.proofs.Fitting.{Each, each_map, Some_is, Short, ColumnFits, NodeFits}
+use Rattle.hg_parse.proofs.Fitting.{Each, Some_is, Short, ColumnFits, NodeFits}
 use Rattle.hg_parse.proofs.FittingParts.{Below, OutputFits, TableFits, ByFits, KeyFits, SetFits, NewFits, NotOver, QueryFits, ChangeFits, CommandFits}
 use Rattle.hg_parse.specs.Building.{Draft}
 use Rattle.hg_parse.specs.Judging.{bad_kept, too_many_kept, columns_kept, in_insert, in_select, nodes_kept}

@@ -1,14 +1,13 @@
 -- A line from its first token on.
-use Rattle.std.proofs.Common.{◌≡◌, ℕ, Bool, true, false, ◌&&◌, List, Option, sym, ap, ◌∙◌}
+use Rattle.std.proofs.Common.{◌≡◌, ℕ, Bool, ◌&&◌, List, Option, sym, ap, ◌∙◌}
 use Rattle.std.specs.List.{list_any}
 use Rattle.hg_model.specs.Reading.{is_long_name, is_long_text}
-use Rattle.hg_model.specs.Tokens.{Token}
 use Rattle.hg_model.specs.declared.trees.Count.{Count}
 use Rattle.hg_parse.specs.AtHand.{stream, is_whole, tokens, carried, Carried}
 use Rattle.hg_parse.specs.Building.{empty_draft}
 use Rattle.hg_parse.specs.Judging.{too_many_kept}
 use Rattle.hg_parse.specs.Keeping.{Kept, kept_of}
-use Rattle.hg_parse.specs.Kept.{kept, keeper}
+use Rattle.hg_parse.specs.Kept.{keeper}
 use Rattle.hg_parse.specs.Rules.{Form, command, is_end}
 use Rattle.hg_parse.specs.Statements.{lined}
 use Rattle.hg_parse.specs.declared.input.Input.{Input}

@@ -1,6 +1,6 @@
 -- Reading goes on step by step.
-use Rattle.std.proofs.Common.{◌≡◌, ◌≤◌, ◌+◌, ℕ, length, refl, ◌∙◌, arith}
-use Rattle.hg_parse.specs.AtHand.{tokens, left, carried, GoesOn}
+use Rattle.std.proofs.Common.{refl, ◌∙◌, arith}
+use Rattle.hg_parse.specs.AtHand.{GoesOn}
 use Rattle.hg_parse.specs.declared.input.Input.{Input}
 
 pub stays : (i : Input) → GoesOn i i

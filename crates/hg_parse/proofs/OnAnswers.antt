@@ -2,9 +2,8 @@
 use Rattle.std.proofs.Common.{◌≡◌, ℕ, zero, suc, Bool, cond, true, false, List, [], ◌∷◌, ◌++◌, Option, Some, None, length, refl, sym, ap, ◌∙◌, append_assoc}
 use Rattle.std.specs.Prelude.{⊤, nat_lt}
 use Rattle.std.specs.Cmp.Lexicographic.{same_text}
-use Rattle.hg_model.specs.Tables.{same_name}
 use Rattle.hg_model.specs.Tokens.{Token, Word, Digits, Letters, Sign}
-use Rattle.hg_parse.specs.Steps.{Answer, got, Got, and_then, same_token, eats, behind, after, Turn, Stop, Go, follow, turns, chain}
+use Rattle.hg_parse.specs.Steps.{Answer, and_then, same_token, eats, behind, after, Turn, Stop, Go, follow, turns, chain}
 
 abbrev pub OnOption : {R : Type 0} → Option R → (R → Type 0) → Type 0
 OnOption None P = ⊤

@@ -1,9 +1,8 @@
 -- A line is read in one way.
 use Rattle.std.proofs.Common.{◌≡◌, ℕ, Bool, cond, true, false, List, [], ◌∷◌, Option, Some, None, refl, sym, ap, ◌∙◌, subst}
-use Rattle.std.specs.Prelude.{◌↔◌}
 use Rattle.std.proofs.lemmas.Bool.{cond-true, cond-false}
 use Rattle.hg_model.specs.Grammar.{IsLine}
-use Rattle.hg_model.specs.Reading.{Reading, Blank, Syntax, BadNumber, TooMany, Statement, has_bad_number, too_many_of, Reads, blank, syntax_error, bad_number, too_many, statement}
+use Rattle.hg_model.specs.Reading.{Reading, Syntax, BadNumber, has_bad_number, too_many_of, Reads, blank, syntax_error, bad_number, too_many, statement}
 use Rattle.hg_model.specs.Statements.{CommandTree}
 use Rattle.hg_model.specs.Tokens.{Token, Spells}
 use Rattle.hg_model.specs.declared.trees.Count.{Count}

@@ -1,11 +1,11 @@
 -- What the descent reads is an expression of the grammar.
-use Rattle.std.proofs.Common.{◌≡◌, ℕ, zero, suc, Bool, cond, ◌+◌, true, false, List, [], ◌∷◌, ◌++◌, Option, Some, None, length, refl, sym, ap, ◌∙◌, subst, arith, append_assoc, pos}
-use Rattle.std.specs.Prelude.{codes, ⊤, ◌&&◌}
+use Rattle.std.proofs.Common.{◌≡◌, ℕ, zero, suc, ◌+◌, true, List, [], ◌∷◌, ◌++◌, Option, Some, None, refl, sym, ap, ◌∙◌, subst}
+use Rattle.std.specs.Prelude.{codes, ◌&&◌}
 use Rattle.std.proofs.lemmas.Bool.{and_parts}
 use Rattle.std.specs.Cmp.Lexicographic.{same_text}
 use Rattle.hg_model.specs.Grammar.{Read as ReadSoFar, with_node, next, IsName, open_sign, close_sign, comma, dot, star, plus, minus, IsColumn, bare, dotted, IsCmp, eq, ne, ne_bang, lt, le, gt, ge, IsFold, count, sum, min, max, Rule, Or, And, Not, Pred, Sum, Term, Factor, Prim, Items, Expression, or_one, or_more, and_one, and_more, not_none, not_one, pred_sum, pred_cmp, pred_null, pred_not_null, pred_between, pred_not_between, pred_in, pred_not_in, sum_one, sum_plus, sum_minus, term_one, term_times, factor_prim, factor_plus, factor_minus, prim_number, prim_text, prim_null, prim_column, prim_nested, agg_rows, agg_one, items_one, items_more}
 use Rattle.hg_model.specs.Tables.{same_name}
-use Rattle.hg_model.specs.Tokens.{Token, Word, Digits, Letters, Sign, is_reserved, number_of}
+use Rattle.hg_model.specs.Tokens.{Token, Word, Digits, Letters, Sign, is_reserved}
 use Rattle.hg_model.specs.declared.trees.Cmp.{Cmp}
 use Rattle.hg_model.specs.declared.trees.Cmp.TheVariants as cmp
 use Rattle.hg_model.specs.declared.trees.ColRef.{ColRef}
@@ -16,9 +16,9 @@ use Rattle.hg_model.specs.declared.trees.Node.TheVariants as node
 use Rattle.hg_model.specs.declared.trees.Op.TheVariants.{Add, Sub, Mul}
 use Rattle.hg_parse.specs.Building.{Draft, plain}
 use Rattle.hg_parse.specs.Descent as d
-use Rattle.hg_parse.specs.Steps.{Answer, got, Got, and_then, eats, behind, after, closed, Turn, Stop, Go, chain}
+use Rattle.hg_parse.specs.Steps.{Answer, got, and_then, eats, behind, after, closed, chain}
 use Rattle.hg_parse.proofs.Found.{at, inner, next_with, add_twice}
-use Rattle.hg_parse.proofs.OnAnswers.{OnOption, OnAnswer, OnTurn, on_then, on_each, on_if, on_eats, on_after, on_chain, eats_is, joined, put_behind, put_first}
+use Rattle.hg_parse.proofs.OnAnswers.{OnOption, OnAnswer, OnTurn, on_then, on_each, on_if, on_eats, on_after, on_chain, eats_is, joined, put_first}
 
 -- a front of the tokens is an expression, and the rest is left
 pub record ReadBy (l : Rule) (k : ℕ) (g : Draft) (ts : List Token) (s : Draft) (n : ℕ) (rest : List Token) : Type 0 where

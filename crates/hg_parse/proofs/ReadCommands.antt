@@ -1,20 +1,18 @@
 -- What the descent reads is a command and a line of the grammar.
-use Rattle.std.proofs.Common.{◌≡◌, ℕ, zero, suc, Bool, cond, true, false, List, [], ◌∷◌, ◌++◌, Option, Some, None, refl, sym, ap, ◌∙◌, subst, append_assoc, append-nil}
-use Rattle.std.specs.Prelude.{codes, ⊤}
+use Rattle.std.proofs.Common.{◌≡◌, ℕ, Bool, true, false, List, [], ◌∷◌, ◌++◌, Option, Some, None, refl, sym, ap, ◌∙◌, subst, append_assoc, append-nil}
+use Rattle.std.specs.Prelude.{codes}
 use Rattle.std.specs.Cmp.Lexicographic.{same_text}
-use Rattle.hg_model.specs.Grammar.{Read as ReadSoFar, nothing_read, IsName, open_sign, close_sign, star, semicolon, Clause, Outputs, Tables, Group, Order, Head, all, distinct, plain, Columns, by_star, by_outputs, IsSelect, select, IsUnique, left_out, given, Names, Listed, Tuples, Sets, IsCommand, create_table, create_index, insert, update, delete, vacuum, open_cursor, start, work, fetch, close, pool, mpl, show_memory, IsLine, bare, ended}
-use Rattle.hg_model.specs.Query.{Query}
-use Rattle.hg_model.specs.Statements.{CommandTree, DeleteRows}
+use Rattle.hg_model.specs.Grammar.{nothing_read, IsName, open_sign, close_sign, star, semicolon, Clause, Tables, Group, Head, all, distinct, plain, Columns, by_star, by_outputs, IsSelect, select, IsUnique, left_out, given, Listed, Tuples, Sets, IsCommand, create_table, create_index, insert, update, delete, vacuum, open_cursor, start, work, fetch, close, pool, mpl, show_memory, IsLine, bare, ended}
+use Rattle.hg_model.specs.Statements.{CommandTree}
 use Rattle.hg_model.specs.Tables.{same_name}
 use Rattle.hg_model.specs.Tokens.{Token, Word, Digits, Letters, Sign, number_of}
 use Rattle.hg_model.specs.declared.trees.FromTable.{FromTable}
-use Rattle.hg_model.specs.declared.trees.OrderKey.{OrderKey}
 use Rattle.hg_model.specs.declared.trees.Output.{Output}
 use Rattle.hg_parse.specs.Building.{Draft, empty_draft, plain as all_kept}
 use Rattle.hg_parse.specs.Descent as d
 use Rattle.hg_parse.specs.Rules as r
-use Rattle.hg_parse.specs.Steps.{Answer, Got, got, and_then, eats, behind, after, closed, commas}
-use Rattle.hg_parse.proofs.OnAnswers.{OnOption, OnAnswer, on_then, on_each, on_if, on_eats, on_after, eats_is, joined, put_behind, put_first}
+use Rattle.hg_parse.specs.Steps.{Answer, got, and_then, eats, behind, after, closed, commas}
+use Rattle.hg_parse.proofs.OnAnswers.{OnOption, OnAnswer, on_then, on_if, on_eats, on_after, eats_is, joined, put_behind, put_first}
 use Rattle.hg_parse.proofs.Read.{Closed, on_closed, Named, name_read}
 use Rattle.hg_parse.proofs.ReadParts.{ClauseRead, clause_read, OutputsRead, outputs_read, TablesRead, tables_read, GroupRead, group_read, OrderRead, order_read}
 use Rattle.hg_parse.proofs.ReadLines.{NumberRead, number_read, RowsRead, rows_read, NameListRead, name_list_read, ListedRead, listed_read, NewColumnsRead, new_columns_read, SetsRead, sets_read}

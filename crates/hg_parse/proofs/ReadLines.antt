@@ -1,27 +1,22 @@
 -- What the descent reads is a line of the grammar.
-use Rattle.std.proofs.Common.{◌≡◌, ℕ, zero, suc, Bool, cond, ◌+◌, true, false, not, List, [], ◌∷◌, ◌++◌, Option, Some, None, length, refl, sym, ap, ◌∙◌, subst, append_assoc, append-nil, length-append, pos, neg_ℤ}
+use Rattle.std.proofs.Common.{◌≡◌, ℕ, true, false, List, [], ◌∷◌, ◌++◌, length, refl, sym, ap, ◌∙◌, subst, append_assoc, length-append, pos, neg_ℤ}
 use Rattle.std.specs.Prelude.{codes, ⊤, ℤ}
 use Rattle.std.specs.Cmp.Lexicographic.{same_text}
-use Rattle.hg_model.specs.Grammar.{Read as ReadSoFar, nothing_read, IsName, open_sign, close_sign, comma, star, plus, minus, equals, semicolon, Or, Whole, Clause, left_out, given, Outputs, one, more, Tables, Group, Order, Head, all, distinct, plain, Columns, by_star, by_outputs, IsSelect, select, IsConstant, positive, negative, text, null, Constants, Tuples, Names, Listed, IsType, integer, int, varchar, Constraints, none, not_null, primary_key, unique, IsNewColumn, column, NewColumns, Sets, IsUnique, IsCommand, create_table, create_index, insert, update, delete, vacuum, open_cursor, start, work, fetch, close, pool, mpl, show_memory, IsLine, bare, ended}
-use Rattle.hg_model.specs.Query.{Query}
+use Rattle.hg_model.specs.Grammar.{Read as ReadSoFar, IsName, open_sign, close_sign, comma, equals, Or, Whole, left_out, given, one, more, plain, IsConstant, positive, negative, text, null, Constants, Tuples, Names, Listed, IsType, integer, int, varchar, Constraints, none, not_null, primary_key, unique, IsNewColumn, column, NewColumns, Sets}
 use Rattle.hg_model.specs.Tables.{same_name}
-use Rattle.hg_model.specs.Tokens.{Token, Word, Digits, Letters, Sign, is_reserved, number_of}
-use Rattle.hg_model.specs.declared.trees.FromTable.{FromTable}
+use Rattle.hg_model.specs.Tokens.{Token, Word, Digits, Letters, Sign, number_of}
 use Rattle.hg_model.specs.declared.trees.Literal.{Literal}
 use Rattle.hg_model.specs.declared.trees.Literal.TheVariants as literal
 use Rattle.hg_model.specs.declared.trees.NewColumn.{NewColumn}
-use Rattle.hg_model.specs.declared.trees.OrderKey.{OrderKey}
-use Rattle.hg_model.specs.declared.trees.Output.{Output}
 use Rattle.hg_model.specs.declared.trees.SqlType.{SqlType}
-use Rattle.hg_model.specs.declared.trees.SqlType.TheVariants.{Integer, Varchar}
-use Rattle.hg_parse.specs.Building.{Draft, empty_draft, plain as all_kept}
+use Rattle.hg_model.specs.declared.trees.SqlType.TheVariants.{Varchar}
+use Rattle.hg_parse.specs.Building.{Draft, plain as all_kept}
 use Rattle.hg_parse.specs.Descent as d
 use Rattle.hg_parse.specs.Rules as r
-use Rattle.hg_parse.specs.Steps.{Answer, got, and_then, eats, behind, after, closed, Turn, Stop, Go, chain, commas, comma_turn}
-use Rattle.hg_parse.proofs.Found.{at}
-use Rattle.hg_parse.proofs.OnAnswers.{OnOption, OnAnswer, OnTurn, on_then, on_each, on_if, on_eats, on_after, on_chain, eats_is, joined, put_behind, put_first}
+use Rattle.hg_parse.specs.Steps.{Answer, got, and_then, behind, after, closed, Turn, commas}
+use Rattle.hg_parse.proofs.OnAnswers.{OnAnswer, OnTurn, on_then, on_each, on_if, on_eats, on_after, on_chain, joined, put_behind, put_first}
 use Rattle.hg_parse.proofs.Read.{ReadBy, Closed, on_closed, Named, name_read, whole_read}
-use Rattle.hg_parse.proofs.ReadParts.{StepRead, StepsRead, commas_read, Appends, appended, append_at, ClauseRead, clause_read, OutputsRead, outputs_read, TablesRead, tables_read, GroupRead, group_read, OrderRead, order_read}
+use Rattle.hg_parse.proofs.ReadParts.{StepRead, StepsRead, commas_read, Appends, appended, append_at}
 
 -- numbers, with the state as it was
 pub record NumberRead (g : Draft) (ts : List Token) (s : Draft) (n : ℕ) (rest : List Token) : Type 0 where

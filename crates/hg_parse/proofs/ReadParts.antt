@@ -1,28 +1,21 @@
 -- What the descent reads is a part of a statement of the grammar.
-use Rattle.std.proofs.Common.{◌≡◌, ℕ, zero, suc, Bool, cond, ◌+◌, true, false, not, List, [], ◌∷◌, ◌++◌, Option, Some, None, length, refl, sym, ap, ◌∙◌, subst, append_assoc, append-nil, length-append, pos, neg_ℤ}
+use Rattle.std.proofs.Common.{◌≡◌, ℕ, Bool, List, [], ◌∷◌, ◌++◌, Option, Some, None, refl, sym, ap, ◌∙◌, subst}
 use Rattle.std.specs.Prelude.{codes, ⊤}
-use Rattle.std.specs.Cmp.Lexicographic.{same_text}
-use Rattle.hg_model.specs.Grammar.{Read as ReadSoFar, with_node, next, IsName, open_sign, close_sign, comma, dot, star, plus, minus, equals, semicolon, IsColumn, Or, Expression, Whole, Clause, left_out, given, IsOutput, plain, named, Outputs, one, more, IsRef, own, alias, alias_as, Tables, by_comma, by_cross, by_join, by_inner, GroupColumns, Group, Direction, ascending, descending, IsKey, position, column, Keys, Order, IsConstant, positive, negative, text, null, Constants, Tuples, Names, Listed, IsType, integer, int, varchar, Constraints, none, not_null, primary_key, unique, IsNewColumn, NewColumns, Sets}
-use Rattle.hg_model.specs.Tables.{same_name}
-use Rattle.hg_model.specs.Tokens.{Token, Word, Digits, Letters, Sign, is_reserved, number_of}
+use Rattle.hg_model.specs.Grammar.{Read as ReadSoFar, with_node, next, comma, IsColumn, Or, Whole, Clause, left_out, given, IsOutput, plain, named, Outputs, one, more, IsRef, own, alias, alias_as, Tables, by_comma, by_cross, by_join, by_inner, GroupColumns, Group, Direction, ascending, descending, IsKey, position, column, Keys, Order}
+use Rattle.hg_model.specs.Tokens.{Token, Word, Digits, Letters, Sign, number_of}
 use Rattle.hg_model.specs.declared.trees.ColRef.{ColRef}
 use Rattle.hg_model.specs.declared.trees.FromTable.{FromTable}
-use Rattle.hg_model.specs.declared.trees.Literal.{Literal}
-use Rattle.hg_model.specs.declared.trees.NewColumn.{NewColumn}
 use Rattle.hg_model.specs.declared.trees.Node.TheVariants as node
-use Rattle.hg_model.specs.declared.trees.OrderBy.{OrderBy}
 use Rattle.hg_model.specs.declared.trees.OrderBy.TheVariants.{Position, Column as ByColumn}
 use Rattle.hg_model.specs.declared.trees.OrderKey.{OrderKey}
 use Rattle.hg_model.specs.declared.trees.Output.{Output}
-use Rattle.hg_model.specs.declared.trees.SqlType.{SqlType}
-use Rattle.hg_model.specs.declared.trees.SqlType.TheVariants.{Integer, Varchar}
 use Rattle.hg_parse.specs.Building.{Draft, plain as all_kept}
 use Rattle.hg_parse.specs.Descent as d
 use Rattle.hg_parse.specs.Rules as r
-use Rattle.hg_parse.specs.Steps.{Answer, got, and_then, eats, behind, after, closed, Turn, Stop, Go, chain, commas, comma_turn}
+use Rattle.hg_parse.specs.Steps.{Answer, and_then, behind, Turn, chain, commas, comma_turn}
 use Rattle.hg_parse.proofs.Found.{at}
-use Rattle.hg_parse.proofs.OnAnswers.{OnOption, OnAnswer, OnTurn, on_then, on_each, on_if, on_eats, on_after, on_chain, eats_is, joined, put_behind, put_first}
-use Rattle.hg_parse.proofs.Read.{ReadBy, Closed, on_closed, Named, name_read, ColumnRead, column_read, whole_read}
+use Rattle.hg_parse.proofs.OnAnswers.{OnAnswer, OnTurn, on_then, on_each, on_if, on_eats, on_after, on_chain, joined, put_behind, put_first}
+use Rattle.hg_parse.proofs.Read.{ReadBy, Named, name_read, ColumnRead, column_read, whole_read}
 
 -- items with commas: `Step` is one item, `Steps` are some
 module _ {Q A : Type 0} (q_of : Draft → Q) (a_of : Draft → A) (put : Draft → Q → A → Draft) (start : A)

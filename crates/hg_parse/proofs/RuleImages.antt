@@ -1,13 +1,12 @@
 -- What the descent over a statement keeps is what is kept of what it makes of the whole.
-use Rattle.std.proofs.Common.{◌≡◌, ℕ, zero, suc, lit≤, Bool, cond, true, false, not, ◌||◌, List, [], ◌∷◌, ◌++◌, Option, Some, None, length, refl, sym, ap, ◌∙◌, pos, neg_ℤ}
-use Rattle.std.specs.Prelude.{codes, ⊤, ℤ}
+use Rattle.std.proofs.Common.{◌≡◌, ℕ, lit≤, Bool, true, false, ◌||◌, List, [], ◌∷◌, ◌++◌, Some, None, length, refl, ap, ◌∙◌, pos, neg_ℤ}
+use Rattle.std.specs.Prelude.{codes}
 use Rattle.std.specs.List.{list_any}
 use Rattle.std.specs.Option.{option_map}
-use Rattle.hg_model.specs.Grammar.{open_sign, close_sign, comma, dot, star, plus, minus, equals}
-use Rattle.hg_model.specs.Reading.{is_long_literal, has_long_number, is_bad_type, is_bad_key}
+use Rattle.hg_model.specs.Grammar.{open_sign, close_sign, comma, star, equals}
+use Rattle.hg_model.specs.Reading.{is_long_literal, is_bad_type, is_bad_key}
 use Rattle.hg_model.specs.Tables.{same_name}
-use Rattle.hg_model.specs.Tokens.{Token, Word, Digits, Letters, Sign, is_reserved, number_of}
-use Rattle.hg_model.specs.declared.trees.ColRef.{ColRef}
+use Rattle.hg_model.specs.Tokens.{Token, Word, Digits, Letters, Sign, number_of}
 use Rattle.hg_model.specs.declared.trees.FromTable.{FromTable}
 use Rattle.hg_model.specs.declared.trees.Literal.{Literal}
 use Rattle.hg_model.specs.declared.trees.Literal.TheVariants as literal
@@ -17,15 +16,14 @@ use Rattle.hg_model.specs.declared.trees.OrderBy.{OrderBy}
 use Rattle.hg_model.specs.declared.trees.OrderBy.TheVariants.{Position, Column as ByColumn}
 use Rattle.hg_model.specs.declared.trees.OrderKey.{OrderKey}
 use Rattle.hg_model.specs.declared.trees.Output.{Output}
-use Rattle.hg_model.specs.declared.trees.SqlType.{SqlType}
 use Rattle.hg_model.specs.declared.trees.SqlType.TheVariants.{Varchar}
 use Rattle.hg_parse.specs.Building.{Draft, empty_draft, plain, text_at}
 use Rattle.hg_parse.specs.Descent as d
-use Rattle.hg_parse.specs.Keeping.{cap, cap_wide, Front, front, pushed, wide_front, wide_pushed, short_output, short_table, short_key, short_new_column, short_name, short_set, short_literal, Kept, kept_of, keeping, image, cap_heading, cap_form}
+use Rattle.hg_parse.specs.Keeping.{cap, cap_wide, front, pushed, wide_front, short_output, short_table, short_key, short_new_column, short_name, short_set, short_literal, kept_of, keeping, image, cap_heading, cap_form}
 use Rattle.hg_parse.specs.Laws.{KeepsFronts}
 use Rattle.hg_parse.specs.Rules as r
-use Rattle.hg_parse.specs.Steps.{Answer, Got, got, and_then, eats, behind, after, closed, Turn, Stop, Go, chain, commas, comma_turn}
-use Rattle.hg_parse.proofs.Images.{turn_image, same_value, then_image, if_image, turn_if_image, after_image, closed_image, chain_image, commas_image, name_image, column_image, cap_cap, option_cap, whole_image}
+use Rattle.hg_parse.specs.Steps.{got, and_then, eats, behind, Go, chain}
+use Rattle.hg_parse.proofs.Images.{same_value, then_image, if_image, turn_if_image, after_image, closed_image, chain_image, commas_image, name_image, column_image, cap_cap, whole_image}
 use Rattle.hg_parse.proofs.Keeps.{push_front, push_wide, any_more, or_false, node_kept}
 
 -- one more item

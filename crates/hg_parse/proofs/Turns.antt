@@ -1,13 +1,13 @@
 -- Lists with commas, one item at a time, and moves one behind the other.
-use Rattle.std.proofs.Common.{◌≡◌, ◌≤◌, ◌<◌, ◌+◌, ℕ, Bool, true, false, List, Option, None, length, refl, sym, ap, ◌∙◌, arith}
+use Rattle.std.proofs.Common.{◌≡◌, ◌<◌, true, false, List, None, length, sym, ap, ◌∙◌, arith}
 use Rattle.std.specs.Prelude.{if◌then◌else◌, ⊤}
 use Rattle.hg_model.specs.Grammar.{comma}
 use Rattle.hg_model.specs.Tokens.{Token}
 use Rattle.hg_parse.proofs.Chains.{chain_go, chain_stop, chain_fail}
 use Rattle.hg_parse.proofs.Moving.{stays, goes_far}
-use Rattle.hg_parse.specs.AtHand.{tokens, left, GoesOn}
+use Rattle.hg_parse.specs.AtHand.{GoesOn}
 use Rattle.hg_parse.specs.Kept.{used, Fits, Moves}
-use Rattle.hg_parse.specs.Steps.{Answer, got, eats, behind, Turn, Go, Stop, chain, comma_turn}
+use Rattle.hg_parse.specs.Steps.{Answer, got, eats, behind, Go, Stop, chain, comma_turn}
 use Rattle.hg_parse.specs.declared.input.Input.{Input}
 use Rattle.hg_parse.specs.declared.room.Room.{Room}
 

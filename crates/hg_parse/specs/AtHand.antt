@@ -3,7 +3,7 @@ use Rattle.std.specs.Prelude.{Result, Ok, Err, ℕ, zero, suc, ◌+◌, ◌≡�
 use Rattle.std.specs.List.{list_any}
 use Rattle.std.specs.Option.{is_some}
 use Rattle.hg_model.specs.Reading.{is_long_name, is_long_text}
-use Rattle.hg_model.specs.Tokens.{Token, Word, Digits, Letters, Sign, lower, number_of, is_reserved}
+use Rattle.hg_model.specs.Tokens.{Token, Word, Digits, Letters, lower, number_of, is_reserved}
 use Rattle.hg_model.specs.Grammar.{plus, minus}
 use Rattle.hg_model.specs.declared.trees.Fold.{Fold}
 use Rattle.hg_model.specs.declared.trees.Op.{Op}
@@ -20,7 +20,6 @@ use Rattle.hg_scan.specs.Cutting.{Front, AtEnd, Wrong, Next, front_of, tokens_of
 use Rattle.hg_scan.specs.Shown.{token_of}
 use Rattle.hg_scan.specs.declared.piece.Kind.{Kind}
 use Rattle.hg_scan.specs.declared.piece.Kind.TheVariants as kind
-use Rattle.hg_scan.specs.declared.piece.Piece.{Piece}
 
 -- the tokens of a line up to its end, or to the place where none can begin
 abbrev pub stream_by : Front → (List ℕ → List Token) → List Token

@@ -1,5 +1,5 @@
 -- What a descent builds: it knows a state only by these calls. The plain state keeps everything as lists.
-use Rattle.std.specs.Prelude.{ℕ, Bool, List, [], ◌∷◌, ◌++◌, Option, length}
+use Rattle.std.specs.Prelude.{ℕ, List, [], ◌∷◌, ◌++◌, length}
 use Rattle.hg_model.specs.Grammar.{Read, nothing_read, with_node}
 use Rattle.hg_model.specs.declared.trees.FromTable.{FromTable}
 use Rattle.hg_model.specs.declared.trees.Literal.{Literal}

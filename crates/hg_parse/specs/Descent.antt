@@ -1,6 +1,6 @@
 -- The descent over an expression: one function for each rule of the grammar, the tightest first. `inner` reads
 -- what stands in parentheses, and `d` says how deep these may still nest.
-use Rattle.std.specs.Prelude.{ℕ, zero, suc, Bool, true, false, List, [], ◌∷◌, Option, Some, None, ◌&&◌, pos, codes, if◌then◌else◌, nat_lt}
+use Rattle.std.specs.Prelude.{ℕ, zero, suc, Bool, true, false, List, [], ◌∷◌, Option, Some, None, ◌&&◌, pos, codes, if◌then◌else◌}
 use Rattle.hg_model.specs.Grammar.{open_sign, close_sign, comma, dot, star, plus, minus}
 use Rattle.hg_model.specs.Tables.{same_name}
 use Rattle.hg_model.specs.Tokens.{Token, Word, Digits, Letters, Sign, is_reserved, number_of}
@@ -12,7 +12,6 @@ use Rattle.hg_model.specs.declared.trees.Fold.TheVariants as of
 use Rattle.hg_model.specs.declared.trees.Literal.TheVariants as literal
 use Rattle.hg_model.specs.declared.trees.Node.{Node}
 use Rattle.hg_model.specs.declared.trees.Node.TheVariants as node
-use Rattle.hg_model.specs.declared.trees.Op.{Op}
 use Rattle.hg_model.specs.declared.trees.Op.TheVariants.{Add, Sub, Mul}
 use Rattle.hg_parse.specs.Building.{Builder}
 use Rattle.hg_parse.specs.Steps.{Answer, got, and_then, eats, behind, after, closed, Turn, Stop, Go, chain}

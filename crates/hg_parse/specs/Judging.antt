@@ -1,5 +1,5 @@
 -- How a line that was read is judged by what was kept of it.
-use Rattle.std.specs.Prelude.{ℕ, Bool, false, not, ◌&&◌, ◌||◌, List, [], ◌∷◌, Option, nat_le, nat_lt}
+use Rattle.std.specs.Prelude.{ℕ, Bool, false, not, ◌&&◌, ◌||◌, [], ◌∷◌, Option, nat_le, nat_lt}
 use Rattle.hg_model.specs.Reading.{is_bad_count, first_count}
 use Rattle.hg_model.specs.declared.trees.Count.{Count}
 use Rattle.hg_model.specs.declared.trees.Count.TheVariants as count

@@ -1,12 +1,11 @@
 -- What the parser keeps of a draft: as much of each list as a statement may have, and counts. A count stops at
 -- the greatest number of its type, names are kept up to 30 letters, and a number that is out of range is only
 -- marked. So what is kept is a function of the draft, and the parser builds it without the draft.
-use Rattle.std.specs.Prelude.{ℕ, Bool, false, List, [], ◌∷◌, ◌++◌, ◌+◌, ◌^◌, ◌||◌, Option, Some, None, length, take, map, min, nat_lt, if◌then◌else◌}
+use Rattle.std.specs.Prelude.{ℕ, Bool, List, [], ◌∷◌, ◌++◌, ◌+◌, ◌||◌, Some, None, length, take, map, min, nat_lt, if◌then◌else◌}
 use Rattle.std.specs.List.{list_any}
 use Rattle.std.specs.Option.{option_map}
 use Rattle.hg_model.specs.Reading.{is_long_literal, has_long_number, is_bad_type, is_bad_key}
 use Rattle.hg_model.specs.declared.trees.ColRef.{ColRef}
-use Rattle.hg_model.specs.declared.trees.Column.{Column}
 use Rattle.hg_model.specs.declared.trees.FromTable.{FromTable}
 use Rattle.hg_model.specs.declared.trees.Literal.{Literal}
 use Rattle.hg_model.specs.declared.trees.Literal.TheVariants as literal
@@ -18,8 +17,8 @@ use Rattle.hg_model.specs.declared.trees.OrderBy.TheVariants.{Position, Column a
 use Rattle.hg_model.specs.declared.trees.OrderKey.{OrderKey}
 use Rattle.hg_model.specs.declared.trees.Output.{Output}
 use Rattle.hg_model.specs.declared.trees.SqlType.{SqlType}
-use Rattle.hg_model.specs.declared.trees.SqlType.TheVariants.{Integer, Varchar}
-use Rattle.hg_parse.specs.Building.{Builder, Draft, text_at}
+use Rattle.hg_model.specs.declared.trees.SqlType.TheVariants.{Varchar}
+use Rattle.hg_parse.specs.Building.{Builder, Draft}
 use Rattle.hg_parse.specs.Rules.{Heading, Form, TableForm, IndexForm, InsertForm, UpdateForm, DeleteForm, VacuumForm, SelectForm, OpenForm, StartForm, WorkForm, FetchForm, CloseForm, PoolForm, MplForm, MemoryForm}
 use Rattle.hg_parse.specs.Steps.{Answer, got}
 

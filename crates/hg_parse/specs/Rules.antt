@@ -1,25 +1,22 @@
 -- The descent over a statement: one function for each rule of the grammar.
-use Rattle.std.specs.Prelude.{ℕ, zero, suc, Bool, true, false, List, [], ◌∷◌, Option, Some, None, ◌&&◌, not, pos, neg_ℤ, ℤ, codes, if◌then◌else◌, ⊤}
-use Rattle.hg_model.specs.Grammar.{open_sign, close_sign, comma, dot, star, plus, minus, equals, semicolon}
+use Rattle.std.specs.Prelude.{ℕ, Bool, true, false, List, [], ◌∷◌, Option, Some, None, not, pos, neg_ℤ, codes, if◌then◌else◌, ⊤}
+use Rattle.hg_model.specs.Grammar.{open_sign, close_sign, comma, star, equals, semicolon}
 use Rattle.hg_model.specs.Query.{Query}
 use Rattle.hg_model.specs.Statements.{CommandTree, CreateTable, CreateIndex, InsertRows, UpdateRows, DeleteRows, Vacuum, SelectRows, OpenCursor, Start, Work, Fetch, Close, Pool, Mpl, ShowMemory}
 use Rattle.hg_model.specs.Tables.{same_name}
 use Rattle.hg_model.specs.Tokens.{Token, Word, Digits, Letters, Sign, is_reserved, number_of}
 use Rattle.hg_model.specs.declared.trees.ColRef.{ColRef}
 use Rattle.hg_model.specs.declared.trees.FromTable.{FromTable}
-use Rattle.hg_model.specs.declared.trees.Literal.{Literal}
 use Rattle.hg_model.specs.declared.trees.Literal.TheVariants as literal
 use Rattle.hg_model.specs.declared.trees.NewColumn.{NewColumn}
 use Rattle.hg_model.specs.declared.trees.Node.TheVariants as node
 use Rattle.hg_model.specs.declared.trees.OrderBy.{OrderBy}
 use Rattle.hg_model.specs.declared.trees.OrderBy.TheVariants.{Position, Column as ByColumn}
-use Rattle.hg_model.specs.declared.trees.OrderKey.{OrderKey}
-use Rattle.hg_model.specs.declared.trees.Output.{Output}
 use Rattle.hg_model.specs.declared.trees.SqlType.{SqlType}
 use Rattle.hg_model.specs.declared.trees.SqlType.TheVariants.{Integer, Varchar}
 use Rattle.hg_parse.specs.Building.{Builder, Draft, plain, empty_draft}
 use Rattle.hg_parse.specs.Descent.{key, name, column, whole}
-use Rattle.hg_parse.specs.Steps.{Answer, Got, got, and_then, eats, behind, after, closed, Turn, Stop, Go, chain, commas}
+use Rattle.hg_parse.specs.Steps.{Answer, got, and_then, eats, behind, after, closed, Turn, Stop, Go, chain, commas}
 
 -- what a SELECT has beside its lists
 pub record Heading : Type 0 where

@@ -1,5 +1,5 @@
 -- The statement that a room keeps.
-use Rattle.std.specs.Prelude.{ℕ, ◌^◌, Bool, true, false, List, [], ◌∷◌, Option, Some, None, Result, Ok, Err, nat_lt, take, if◌then◌else◌}
+use Rattle.std.specs.Prelude.{ℕ, ◌^◌, Bool, true, false, [], ◌∷◌, Option, Some, None, Result, Ok, Err, nat_lt, if◌then◌else◌}
 use Rattle.hg_model.specs.Query.{Query}
 use Rattle.hg_model.specs.Reading.{Reading, Blank, Syntax, BadNumber, TooMany, first_count}
 use Rattle.hg_model.specs.Reading.{Statement as StatementOf}

@@ -1,9 +1,9 @@
 -- Steps of a descent over the tokens of a line: each reads a front of the tokens and gives what it read, or
 -- refuses. Our own rule: recursive descent with one token of look-ahead.
-use Rattle.std.specs.Prelude.{ℕ, zero, suc, Bool, true, false, List, [], ◌∷◌, Option, Some, None, length, nat_lt, if◌then◌else◌, ⊤}
+use Rattle.std.specs.Prelude.{ℕ, zero, suc, Bool, false, List, [], ◌∷◌, Option, Some, None, length, nat_lt, if◌then◌else◌, ⊤}
 use Rattle.hg_model.specs.Grammar.{comma, close_sign}
 use Rattle.hg_model.specs.Tables.{same_name}
-use Rattle.hg_model.specs.Tokens.{Token, Word, Digits, Letters, Sign}
+use Rattle.hg_model.specs.Tokens.{Token, Word, Sign}
 
 -- what was read: the state behind it, a value, and the tokens that are left
 pub record Got (S X : Type 0) : Type 0 where

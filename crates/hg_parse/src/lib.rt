@@ -40,6 +40,8 @@ mod places;
 mod room;
 mod select;
 mod statement;
+#[cfg(test)]
+mod tests;
 
 pub use laws::{
     a_line_has_one_reading, a_line_is_read_by_descent, fronts_are_kept, tokens_have_one_tree,

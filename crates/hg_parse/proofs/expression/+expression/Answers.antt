@@ -1,11 +1,11 @@
-use Rattle.std.proofs.Common.{◌∙◌, arith, ap, sym, refl}
+use Rattle.std.proofs.Common.{◌∙◌, arith, refl}
 use Rattle.hg_model.specs.declared.trees.Node.TheVariants as node
 use Rattle.hg_model.specs.declared.trees.Op.TheVariants.{Mul}
 use Rattle.hg_parse.proofs.Expressions.{join_go, join_fail, item_by, item_none, turn_go, turn_fail, turn_stop, sum_go, sum_fail, sum_stop}
 use Rattle.hg_parse.proofs.Turns.{far, eaten_far, pushed_far}
-use Rattle.hg_parse.specs.Descent.{inside, and_turn, or_turn, term_turn, sum_turn, items_turn, negation, conjunction, sum, term, factor, joins, item_joined}
+use Rattle.hg_parse.specs.Descent.{inside, and_turn, or_turn, term_turn, items_turn, negation, conjunction, sum, factor, joins, item_joined}
 use Rattle.hg_parse.specs.Kept.{kept, keeper}
-use Rattle.hg_parse.specs.Steps.{got, and_then}
+use Rattle.hg_parse.specs.Steps.{and_then}
 use Rattle.hg_parse.proofs.expression.+expression.Goals as goal
 
 pub conjunction-chain-preserved : goal.conjunction-chain-preserved

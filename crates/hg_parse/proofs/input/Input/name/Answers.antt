@@ -1,4 +1,4 @@
-use Rattle.std.proofs.Common.{◌∙◌, ap, sym, arith}
+use Rattle.std.proofs.Common.{◌∙◌, ap, sym}
 use Rattle.hg_parse.proofs.Eaten.{finds_name, finds_no_name, has_name}
 use Rattle.hg_parse.proofs.Moving.{stays}
 use Rattle.hg_model.specs.Tokens.{lower}

@@ -1,4 +1,4 @@
-use Rattle.std.proofs.Common.{◌∙◌, ap, sym, arith}
+use Rattle.std.proofs.Common.{◌∙◌, ap, sym}
 use Rattle.hg_parse.proofs.Eaten.{finds_number, finds_no_number, has_number}
 use Rattle.hg_parse.proofs.Moving.{stays}
 use Rattle.hg_model.specs.Tokens.{number_of}
