@@ -139,6 +139,7 @@ created-stands s marks entries state e none stands idle =
     record {
       told = stands.told;
       pins = stands.pins;
+      none_lent = stands.none_lent;
       pages = λ k. if k == length entries then [] else stands.pages k;
       tables = tables-more s marks entries state.tables stands.pages e t stands.tables (new-stands s marks e none);
       left = subst (λ l. Rattle.hg_engine.specs.Standing.LeftStands s marks (entries ++ e ∷ []) (λ k. if k == length entries then [] else stands.pages k) None l) (sym idle) tt;

@@ -12,6 +12,7 @@ use Rattle.hg_pool.specs.Work.{IsUnused}
 use Rattle.std.proofs.lemmas.Bool.{false≢true}
 use Rattle.std.proofs.lemmas.Option.{none-some}
 use Rattle.hg_machine.specs.State.{first_state}
+use Rattle.hg_engine.specs.Lent.{NoneLent}
 use Rattle.hg_engine.specs.Opened.{TakesFirst}
 use Rattle.hg_engine.specs.Standing.{Stands}
 use Rattle.hg_engine.specs.Stepping.{TablesAre}
@@ -32,6 +33,7 @@ takes-first a b c page pins made after =
         none_out = ap (λ (s : Space). s.pins - 1) made.after ∙ (let none = pins.none_out in omega arith);
         not_pinned = λ q. ap (λ (s : Space). at s.pinned (key page) false q) made.after ∙ at-twice a.pinned (key page) q (pins.not_pinned q);
       };
+      none_lent = λ none q. ap (λ (s : Space). s.of_heap q) made.after ∙ none q;
       used = taken_in-made Main a b page made;
     })
 
@@ -52,12 +54,13 @@ none-taken taken (suc n) none =
     ap (λ b. (if b then 1 else 0) + taken_below taken Main n) (none (key_in Main n)) ∙ ap (λ k. 0 + k) (none-taken taken n none)
 
 -- an engine of no table stands for the first state
-pub opened : (a b : Space) (x : Tables) (told : Bool) (limit : ℕ) → TakesFirst a b → a.told ≡ told → ((q : ℕ) → a.taken q ≡ false) → a.limit Main ≡ limit
+pub opened : (a b : Space) (x : Tables) (told : Bool) (limit : ℕ) → TakesFirst a b → a.told ≡ told → ((q : ℕ) → a.taken q ≡ false) → NoneLent a → a.limit Main ≡ limit
     → x.entries.items ≡ [] → x.stamps ≡ [] → x.scan ≡ None → TablesAre b x (first_state told limit)
-opened a b x told limit first told_is none limit_is entries stamps scan =
+opened a b x told limit first told_is none lent limit_is entries stamps scan =
     let standing : Stands b [] [] None (first_state told limit) = record {
       told = sym (first.told ∙ told_is);
       pins = first.pins;
+      none_lent = first.none_lent lent;
       pages = λ k. [];
       tables = record {
         count = refl;

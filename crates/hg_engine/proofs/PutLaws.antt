@@ -1,5 +1,6 @@
 -- Laws of rows that are put into a table one by one.
-use Rattle.std.specs.Prelude.{◌≡◌, ℕ, zero, suc, ◌+◌, ◌<◌, ◌≤◌, ◌⊎◌, ◌==◌, ◌||◌, Bool, true, false, List, [], ◌∷◌, ◌++◌, length, Option, Some, unwrap_or, if◌then◌else◌, take, slice_index_or}
+use Rattle.std.specs.Prelude.{◌≡◌, ℕ, zero, suc, ◌+◌, ◌<◌, ◌≤◌, ◌⊎◌, ◌==◌, ◌||◌, Bool, true, false, List, [], ◌∷◌, ◌++◌, length, Option, Some, None, unwrap_or, if◌then◌else◌, take, slice_index_or}
+use Rattle.std.specs.List.{AllByRecursion}
 use Rattle.std.proofs.Common.{sym, ◌∙◌, ap, subst, refl, arith, inl, inr, length-append, length-take}
 use Rattle.std.proofs.Math.Seq.{take-suc}
 use Rattle.std.proofs.lemmas.List.Elements.{All-get_or}
@@ -8,7 +9,7 @@ use Rattle.std.proofs.lemmas.Bool.Decides.{nat_tests, eqb_tells}
 use Rattle.std.proofs.lemmas.Option.{none-some}
 use Rattle.hg_base.specs.Space.{Space, Counts, NoPins, at, key_in, taken_in, taken_below}
 use Rattle.hg_base.specs.Lines.{NoneMine, has_page, last_of}
-use Rattle.hg_base.specs.Steadiness.{Steady}
+use Rattle.hg_base.specs.Steadiness.{Mine, Steady}
 use Rattle.hg_base.specs.SteadyLaws.{Steady_same, Steady_then, Steady_wider, main_failed, temp_failed}
 use Rattle.hg_base.specs.TakenLaws.{AreDistinctPages, taken_below-new}
 use Rattle.hg_base.specs.declared.File.TheVariants.{Main}
@@ -21,6 +22,7 @@ use Rattle.hg_base.specs.declared.pages.PageFault.{PageFault}
 use Rattle.hg_base.specs.declared.pages.PageFault.TheVariants as fault
 use Rattle.hg_table.specs.Calls.{HasTable, InsertFault, NamesGiven, IsNamed, Inserts, newborn, insert_mine, none_mine}
 use Rattle.hg_table.specs.TableLaws.{chain_stays, table_stays}
+use Rattle.hg_engine.specs.Lent.{NoneLent}
 use Rattle.hg_engine.specs.Putting.{Grows, Puts, PutsSome, PutFault, FindsLast, OneMore, CanPut, HaveColumns, table_mine}
 use Rattle.hg_engine.proofs.SeenLaws.{joined-none, joined-one, joined-then}
 
@@ -67,6 +69,30 @@ among-taken taken n (y ∷ ys) x d h = elim (eqb_tells y x) [
 -- a page that is not taken now was not taken before
 not-before : (a b : Space) (q : ℕ) → ((p : ℕ) → a.taken p ≡ true → b.taken p ≡ true) → b.taken q ≡ false → a.taken q ≡ false
 not-before a b q stays none = false_from_ne_true (a.taken q) (λ yes. false≢true (sym none ∙ stays q yes))
+
+-- a page that is among the first ones is among all
+has_page-before : (xs ys : List ℕ) (x : ℕ) → has_page xs x ≡ true → has_page (xs ++ ys) x ≡ true
+has_page-before [] ys x h = absurd (false≢true h)
+has_page-before (z ∷ zs) ys x h = elim (eqb_tells z x) [
+  | inl e ↦ ap (λ b. b || has_page (zs ++ ys) x) e.0
+  | inr n ↦ has_page-cons z x (zs ++ ys) (has_page-before zs ys x (ap (λ b. b || has_page zs x) (sym n.0) ∙ h))
+]
+
+-- the pages of a line are of no heap
+among-no-heap : (s : Space) (xs : List ℕ) (x : ℕ) → AllByRecursion (λ y. s.of_heap (key_in Main y) ≡ false) xs → has_page xs x ≡ true
+    → s.of_heap (key_in Main x) ≡ false
+among-no-heap s [] x all h = absurd (false≢true h)
+among-no-heap s (y ∷ ys) x all h = elim (eqb_tells y x) [
+  | inl e ↦ subst (λ z. s.of_heap (key_in Main z) ≡ false) e.1 all.0
+  | inr apart ↦ among-no-heap s ys x all.1 (ap (λ b. b || has_page ys x) (sym apart.0) ∙ h)
+]
+
+-- no page is lent by a call that lends none of those that it owns
+pub none-lent-after : (mine : Mine) (a b : Space) → Steady mine a b → ((q : ℕ) → mine.pages q → b.of_heap q ≡ false) → NoneLent a → NoneLent b
+none-lent-after mine a b steady own none q =
+    false_from_ne_true (b.of_heap q) (λ yes.
+    let still : b.of_heap q ≡ a.of_heap q = steady.of_heap q (λ here. false≢true (sym (own q here) ∙ yes)) in
+    false≢true (sym (none q) ∙ sym still ∙ yes))
 
 module _ (a b c : Space) (old mid new : Table) (pages now : List ℕ) (m n stamp : ℕ) (row : List Value) (place : Place)
     (g : Grows a b old mid pages now m) (o : OneMore b c mid new place stamp n row) where
@@ -138,6 +164,33 @@ module _ (a b c : Space) (old mid new : Table) (pages now : List ℕ) (m n stamp
         (omega arith, omega arith)
   ]
 
+  place-among : has_page put.now place.page ≡ true
+  place-among = elim o.pages [
+    | inl k ↦ last-among put.now place.page (sym put.chain.last ∙ ap (λ (t : Table). t.last) k.same ∙ k.last)
+    | inr k ↦ last-among put.now place.page (sym put.chain.last ∙ k.last)
+  ]
+
+  last-among-now : (x : ℕ) → mid.last ≡ Some x → has_page put.now x ≡ true
+  last-among-now x e =
+      let among : has_page now x ≡ true = last-among now x (sym g.chain.last ∙ e) in
+      elim put.grown [
+        | inl same ↦ subst (λ l. has_page l x ≡ true) (sym same) among
+        | inr more ↦ subst (λ l. has_page l x ≡ true) (sym more) (has_page-before now (place.page ∷ []) x among)
+      ]
+
+  -- the last page of the table is of no heap
+  last-no-heap : (l : Option ℕ) (q : ℕ) → mid.last ≡ l → IsNamed l q → c.of_heap q ≡ false
+  last-no-heap None q e named = absurd named
+  last-no-heap (Some x) q e named = ap c.of_heap named ∙ among-no-heap c put.now x put.chain.line.no_heap (last-among-now x e)
+
+  step-none-lent : NoneLent a → NoneLent c
+  step-none-lent none =
+      none-lent-after (insert_mine mid place) b c o.steady
+      (λ q mine. elim mine [
+        | inl named ↦ last-no-heap mid.last q refl named
+        | inr here ↦ ap c.of_heap here ∙ among-no-heap c put.now place.page put.chain.line.no_heap place-among
+      ]) (g.none_lent none)
+
   step-grows : Grows a c old new pages put.now (m + 1)
   step-grows = record {
     chain = put.chain;
@@ -145,6 +198,7 @@ module _ (a b c : Space) (old mid new : Table) (pages now : List ℕ) (m n stamp
     last = step-last;
     steady = step-steady;
     stays = step-stays;
+    none_lent = step-none-lent;
     more = let up = g.more in let more = one-more.0 in omega arith;
     few = let up = g.few in let more = one-more.1 in omega arith;
   }
@@ -159,6 +213,7 @@ puts-none a t pages stamp columns pins chain = record {
     last = λ q h. inl h;
     steady = Steady_same (table_mine a t) a pins;
     stays = λ q h. h;
+    none_lent = λ none. none;
     more = omega arith;
     few = omega arith;
   };
@@ -197,6 +252,7 @@ puts-still a b c old new pages stamp columns rows p steady taken =
         last = g.last;
         steady = Steady_then (table_mine a old) a b c g.steady (Steady_wider none_mine (table_mine a old) b c (λ q no. absurd no) (λ h no. no) (λ r no. no) steady);
         stays = λ q h. subst (λ f. f q ≡ true) (sym taken) (g.stays q h);
+        none_lent = λ none. none-lent-after none_mine b c steady (λ q no. absurd no) (g.none_lent none);
         more = let up = g.more in omega arith;
         few = let up = g.few in omega arith;
       };

@@ -78,6 +78,7 @@ insert-joined a b entries old mid new state k name rows s ends st idle f named f
       record {
         told = st.told ∙ sym p.grows.steady.told;
         pins = p.grows.steady.pins_after;
+        none_lent = p.grows.none_lent st.none_lent;
         pages = pages_with st.pages k p.now;
         tables = tables;
         left = subst (LeftStands b new (slice_set entries k (with_data f.entry ends)) (pages_with st.pages k p.now) None) (sym idle) tt;
@@ -109,6 +110,7 @@ insert-failed a b entries old new state k name rows done s ends st idle f d less
       record {
         told = st.told ∙ sym p.grows.steady.told;
         pins = p.grows.steady.pins_after;
+        none_lent = p.grows.none_lent st.none_lent;
         pages = pages_with st.pages k p.now;
         tables = tables;
         left = subst (LeftStands b new (slice_set entries k (with_data f.entry ends)) (pages_with st.pages k p.now) None) (sym idle) tt;

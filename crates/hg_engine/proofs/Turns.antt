@@ -27,7 +27,7 @@ use Rattle.hg_engine.specs.Standing.{TableStands, TablesStand, HasLeft, ScanStan
 use Rattle.hg_engine.specs.declared.entries.Entry.{Entry}
 use Rattle.hg_engine.specs.declared.next.Found.{Found}
 use Rattle.hg_engine.specs.declared.scan.Scan.{Scan}
-use Rattle.hg_engine.proofs.PutLaws.{none-mine}
+use Rattle.hg_engine.proofs.PutLaws.{none-mine, none-lent-after}
 use Rattle.hg_engine.proofs.Creating.{FoundAt}
 
 -- a page shows no more versions than it has slots
@@ -95,6 +95,7 @@ pub moved : (a b : Space) (entries : List Entry) (marks : List Bool) (old new : 
 moved a b entries marks old new state left steady none st stand = record {
   told = st.told ∙ sym steady.told;
   pins = steady.pins_after;
+  none_lent = none-lent-after none_mine a b steady (λ q no. absurd no) st.none_lent;
   pages = st.pages;
   tables = tables-stay a b marks entries state.tables st.pages steady st.tables;
   left = stand;
@@ -111,6 +112,7 @@ pub select-stands : (s : Space) (entries : List Entry) (marks : List Bool) (stat
 select-stands s entries marks state k budget st f inside big = record {
   told = st.told;
   pins = st.pins;
+  none_lent = st.none_lent;
   pages = st.pages;
   tables = st.tables;
   left = record {

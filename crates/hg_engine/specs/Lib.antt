@@ -1,3 +1,4 @@
+pub mod Lent
 pub mod Seen
 pub mod Scanning
 pub mod Standing

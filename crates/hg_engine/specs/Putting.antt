@@ -16,6 +16,7 @@ use Rattle.hg_table.specs.Chains.{IsChain}
 use Rattle.hg_table.specs.Versions.{Placed, IsTable}
 use Rattle.hg_base.specs.declared.Place.{Place}
 use Rattle.hg_table.specs.Calls.{IsNamed, Inserts, KeepsPages, AddsPage, NamesGiven, IsPageCheck, insert_mine, newborn}
+use Rattle.hg_engine.specs.Lent.{NoneLent}
 use Rattle.hg_engine.specs.Seen.{seen_rows, IsPast}
 
 -- Rows joined the versions of a table, born under one stamp: who sees the stamp sees them too, and
@@ -31,13 +32,15 @@ pub record Joined (stamp : ℕ) (old new : List Placed) (rows : List (List Value
 abbrev pub table_mine : Space → Table → Mine
 table_mine a t = these_pages (λ q. IsNamed t.last q ⊎ (a.taken q ≡ false))
 
--- a table with other pages, of which the new ones were not taken before; n pages more at most
+-- a table with other pages, of which the new ones were not taken before; n pages more at most; no page
+-- was lent
 pub record Grows (a b : Space) (old new : Table) (pages now : List ℕ) (n : ℕ) : Type 0 where
   pub chain : IsChain b new now
   pub from : (x : ℕ) → has_page now x ≡ true → (has_page pages x ≡ true) ⊎ (a.taken (key_in Main x) ≡ false)
   pub last : (q : ℕ) → IsNamed new.last q → IsNamed old.last q ⊎ (a.taken q ≡ false)
   pub steady : Steady (table_mine a old) a b
   pub stays : (q : ℕ) → a.taken q ≡ true → b.taken q ≡ true
+  pub none_lent : NoneLent a → NoneLent b
   pub more : taken_in a Main ≤ taken_in b Main
   pub few : taken_in b Main ≤ taken_in a Main + n
 

@@ -1,6 +1,7 @@
 -- Which state of the plain machine an engine stands for. Our own rule: its tables are the rows that the
 -- last stamp sees, the pages in use are the main pages that are taken, and the stamps given are those
--- that were drawn. Where the space does not tell its bytes nothing is said of rows.
+-- that were drawn. Between two steps no pin is out and no page is lent. Where the space does not tell
+-- its bytes nothing is said of rows.
 use Rattle.std.specs.Prelude.{◌≡◌, ◌≢◌, ℕ, ◌<◌, ⊤, Bool, true, List, length, Option, None, Some, slice_get}
 use Rattle.std.specs.List.{AllByRecursion}
 use Rattle.std.specs.List.Sorted.{IsPermutation}
@@ -13,6 +14,7 @@ use Rattle.hg_table.specs.Marks.{last, committed}
 use Rattle.hg_table.specs.Calls.{StandsOn}
 use Rattle.hg_table.specs.Chains.{IsChain}
 use Rattle.hg_table.specs.Versions.{Placed, IsTable}
+use Rattle.hg_engine.specs.Lent.{NoneLent}
 use Rattle.hg_engine.specs.Seen.{seen_rows, IsPast}
 use Rattle.hg_engine.specs.Scanning.{Position}
 use Rattle.hg_engine.specs.declared.entries.Entry.{Entry}
@@ -65,6 +67,7 @@ LeftStands s marks entries pages (Some scan) (Some left) = ScanStands s marks en
 pub record Stands (s : Space) (entries : List Entry) (marks : List Bool) (scan : Option Scan) (state : State) : Type 0 where
   pub told : state.told ≡ s.told
   pub pins : NoPins s
+  pub none_lent : NoneLent s
   pub pages : ℕ → List ℕ
   pub tables : TablesStand s marks entries state.tables pages
   pub left : LeftStands s marks entries pages scan state.left

@@ -17,6 +17,7 @@ returns-clause-start g c =
     let a = state_of g.M.PageDevice g.T.PageDevice c.in-Ok-new.pool in
     let b = state_of g.M.PageDevice g.T.PageDevice c.take_first.new.pool in
     opened a b c.in-Ok.tables _ c.args.config.now.main_pages c.take_first.ensures.taken (ap (λ (s : Space). s.told) (c.in-Ok-new.ensures {u = tt}).start) (λ q. ap (λ (s : Space). s.taken q) (c.in-Ok-new.ensures {u = tt}).start)
+    (λ q. ap (λ (s : Space). s.of_heap q) (c.in-Ok-new.ensures {u = tt}).start)
     (ap (λ (s : Space). s.limit Main) (c.in-Ok-new.ensures {u = tt}).start) (c.in-Ok.ensures {u = tt}).entries (c.in-Ok.ensures {u = tt}).stamps (c.in-Ok.ensures {u = tt}).scan
 
 pub invariant_of-result : goal.invariant_of-result
@@ -25,5 +26,6 @@ invariant_of-result g c =
     let b = state_of g.M.PageDevice g.T.PageDevice c.take_first.new.pool in (
       _,
       opened a b c.in-Ok.tables _ c.args.config.now.main_pages c.take_first.ensures.taken (ap (λ (s : Space). s.told) (c.in-Ok-new.ensures {u = tt}).start) (λ q. ap (λ (s : Space). s.taken q) (c.in-Ok-new.ensures {u = tt}).start)
+          (λ q. ap (λ (s : Space). s.of_heap q) (c.in-Ok-new.ensures {u = tt}).start)
           (ap (λ (s : Space). s.limit Main) (c.in-Ok-new.ensures {u = tt}).start) (c.in-Ok.ensures {u = tt}).entries (c.in-Ok.ensures {u = tt}).stamps (c.in-Ok.ensures {u = tt}).scan,
     )
