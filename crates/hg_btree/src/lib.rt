@@ -28,13 +28,18 @@
 
 mod calls;
 mod change;
+mod commit;
 mod delete;
+mod grow;
+mod halve;
 mod life;
 mod look;
 mod node;
+mod plan;
 mod put;
 mod seek;
 mod split;
+mod store;
 #[cfg(test)]
 mod tests;
 mod write;

@@ -1,0 +1,179 @@
+-- The way down of an insertion.
+use Rattle.std.specs.Prelude.{◌≡◌, ◌≢◌, ℕ, ◌+◌, ◌<◌, ◌≤◌, zero, suc, Bool, true, false, List, [], ◌∷◌, ◌++◌, length, Option, Some, ◌⊎◌, if◌then◌else◌}
+use Rattle.std.proofs.Common.{sym, ◌∙◌, ap, subst, refl, arith, append_assoc, length-append, inl, inr}
+use Rattle.std.proofs.lemmas.Bool.{false≢true}
+use Rattle.hg_base.specs.Space.{Space, NoPins, key, key_in}
+use Rattle.hg_base.specs.declared.File.{File}
+use Rattle.hg_base.specs.declared.PageId.{PageId}
+use Rattle.hg_btree.specs.Entries.{Entry, NotBehind, Ordered, is_below}
+use Rattle.hg_btree.specs.Nodes.{IsBehind, crowded_page}
+use Rattle.hg_btree.specs.Looking.{LeadsFrom}
+use Rattle.hg_btree.specs.Trees.{pages_of, root, uses_in, AllSorted, IsTree, Reached}
+use Rattle.hg_btree.specs.Steps.{Looks}
+use Rattle.hg_btree.specs.Growing.{crowded_one, crowded_at, crowded_on, most_pages, HasRoom, OnWay, AboveCrowded, CrowdedTop, AtStep, FindsHere, IsTreeNow, leaves_after}
+use Rattle.hg_btree.proofs.Orders.{not_behind_trans, least_first}
+use Rattle.hg_btree.proofs.Reading.{all_behind}
+use Rattle.hg_btree.proofs.Walking.{sorted_at, level_below, reached_used, uses_here, uses_in-append}
+use Rattle.hg_btree.proofs.Leaves.{tree_stays, tree_stays-levels}
+use Rattle.hg_btree.proofs.Stepping.{crowded_same, crowded_here}
+use Rattle.hg_btree.proofs.Splits.{on_levels}
+use Rattle.hg_btree.proofs.Seeking.{led}
+use Rattle.hg_btree.proofs.Grown.{tree_bytes, above_stays}
+use Rattle.hg_btree.proofs.Heights.{pages_few}
+use Rattle.hg_btree.proofs.Planning.{page_at}
+
+-- ---- one page a level
+
+page_from : ℕ → List Entry → Entry → ℕ
+page_from p [] t = p
+page_from p (x ∷ xs) t = if is_below t x then p else page_from x.child xs t
+
+page_here_from : (p : ℕ) (front : List Entry) (x : Entry) (behind : List Entry) (t : Entry) → Ordered NotBehind (front ++ x ∷ behind) → NotBehind x t
+    → IsBehind behind t → page_from p (front ++ x ∷ behind) t ≡ x.child
+unfolding page_from
+page_here_from p [] x [] t o f i = ap (λ k. if k then p else x.child) f
+page_here_from p [] x (y ∷ behind) t o f i =
+    ap (λ k. if k then p else page_from x.child (y ∷ behind) t) f ∙ ap (λ k. if k then x.child else page_from y.child behind t) i
+page_here_from p (z ∷ front) x behind t o f i =
+    let zt : NotBehind z t = not_behind_trans z x t ((all_behind (NotBehind z) front (x ∷ behind) o.0).0) f in
+    ap (λ k. if k then p else page_from z.child (front ++ x ∷ behind) t) zt ∙ page_here_from z.child front x behind t o.1 f i
+
+suffix_one : (a b xs ys : List (List Entry)) → a ++ xs ≡ b ++ ys → length xs ≡ length ys → xs ≡ ys
+suffix_one [] [] xs ys e l = e
+suffix_one [] (b ∷ bs) xs ys e l = absurd (let n = ap length e in let m = length-append bs ys in omega arith)
+suffix_one (a ∷ us) [] xs ys e l = absurd (let n = ap length e in let m = length-append us xs in omega arith)
+suffix_one (a ∷ us) (b ∷ bs) xs ys e l = suffix_one us bs xs ys (tails a b (us ++ xs) (bs ++ ys) e) l
+  where
+    tails : (x y : List Entry) (xs ys : List (List Entry)) → x ∷ xs ≡ y ∷ ys → xs ≡ ys
+    tails x y xs ys e = cc
+
+first_one : (x y : List Entry) (xs ys : List (List Entry)) → x ∷ xs ≡ y ∷ ys → x ≡ y
+first_one x y xs ys e = cc
+
+rest_one : (x y : List Entry) (xs ys : List (List Entry)) → x ∷ xs ≡ y ∷ ys → xs ≡ ys
+rest_one x y xs ys e = cc
+
+-- the way passes one page of each level
+pub reached_one : (top : ℕ) (levels : List (List Entry)) (t : Entry) (n c d : ℕ) → AllSorted levels → Reached top levels t n c → Reached top levels t n d → c ≡ d
+reached_one top levels t n c d so p q =
+    let s = suffix_one p.above q.above ((p.front ++ p.x ∷ p.behind) ∷ p.below) ((q.front ++ q.x ∷ q.behind) ∷ q.below) (sym p.all ∙ q.all)
+    (let a = p.level_is in let b = q.level_is in omega arith) in
+    let l = first_one (p.front ++ p.x ∷ p.behind) (q.front ++ q.x ∷ q.behind) p.below q.below s in
+    let so1 = sorted_at top levels p.above p.below (p.front ++ p.x ∷ p.behind) p.all so in
+    let so2 = sorted_at top levels q.above q.below (q.front ++ q.x ∷ q.behind) q.all so in
+    sym p.page_is ∙ sym (page_here_from 0 p.front p.x p.behind t so1 p.from p.to) ∙ ap (λ k. page_from 0 k t) l
+    ∙ page_here_from 0 q.front q.x q.behind t so2 q.from q.to ∙ q.page_is
+
+-- and the levels below the next one are those below it
+below_next : (top : ℕ) (levels : List (List Entry)) (t : Entry) (n c d : ℕ) (p : Reached top levels t (n + 1) c) (q : Reached top levels t n d) → p.below ≡ (q.front ++ q.x ∷ q.behind) ∷ q.below
+below_next top levels t n c d p q =
+    suffix_one (p.above ++ (p.front ++ p.x ∷ p.behind) ∷ []) q.above p.below ((q.front ++ q.x ∷ q.behind) ∷ q.below)
+    (append_assoc p.above ((p.front ++ p.x ∷ p.behind) ∷ []) p.below ∙ sym p.all ∙ q.all) (let a = p.level_is in let b = q.level_is in omega arith)
+
+-- ---- steps
+
+-- what a step is made of, over a space that was looked at meanwhile
+pub step_built : (file : File) (a b : Space) (top : ℕ) (t : Entry) (es : List Entry) (pages : List ℕ) (most leaves level2 child node : ℕ) {level : ℕ} {crowded : Bool} → Looks a b
+    → (h : IsTree file a top es pages leaves) → (r : Reached top h.levels t level node) → (0 < level → HasRoom file a node)
+    → length pages + crowded_on (pages_of file a) r.below t ≤ most
+    → (level ≡ 0 → (node ≡ top) × (h.levels ≡ []) × (length pages + crowded_one (pages_of file a top) + crowded_one (pages_of file a top) ≤ most))
+    → FindsHere file a top t h.levels level node level2 crowded child → AtStep file b top t es most leaves level2 node child
+step_built file a b top t es pages most leaves level2 child node {level} {crowded} l h r room few at_top f =
+    let used : (y : ℕ) → 1 ≤ uses_in ((root top ∷ []) ∷ h.levels) y → b.bytes (key_in file y) ≡ a.bytes (key_in file y) =
+    λ y u. tree_bytes file a b top es pages leaves l h y (let o = h.owns y in omega arith) in
+    let same = crowded_same (pages_of file a) (pages_of file b) r.below t
+    (λ y u. used y (let z = ap (λ k. uses_in k y) r.all ∙ uses_in-append r.above ((r.front ++ r.x ∷ r.behind) ∷ r.below) y in omega arith)) in
+    let top_same : b.bytes (key_in file top) ≡ a.bytes (key_in file top) = used top (let u = uses_here (root top) [] in omega arith) in
+    go (tree_stays file a b top es pages leaves l h) h.levels (tree_stays-levels file a b top es pages leaves l h) level2 (sym f.level_is) r
+    (λ z. let m = room z in record { page = m.page; told = used node (reached_used top h.levels t level node r) ∙ m.told; free = m.free })
+    (omega arith) (λ n e. f.next n e)
+    (λ z. let m = at_top z in (m.0, m.1, let e = ap crowded_one top_same in let k = m.2 in omega arith))
+  where
+    go : (g : IsTree file b top es pages leaves) (now : List (List Entry)) → g.levels ≡ now → (level2 : ℕ) → level ≡ level2 → (r : Reached top now t level node) → (0 < level → HasRoom file b node)
+        → length pages + crowded_on (pages_of file b) r.below t ≤ most → ((n : ℕ) → level ≡ n + 1 → Reached top now t n child)
+        → (level ≡ 0 → (node ≡ top) × (now ≡ []) × (length pages + crowded_one (pages_of file b top) + crowded_one (pages_of file b top) ≤ most))
+        → AtStep file b top t es most leaves level2 node child
+    go g now e level2 l =
+        let P : List (List Entry) → Type 0 =
+        λ ls. (level2 : ℕ) → level ≡ level2 → (r : Reached top ls t level node) → (0 < level → HasRoom file b node)
+        → length pages + crowded_on (pages_of file b) r.below t ≤ most → ((n : ℕ) → level ≡ n + 1 → Reached top ls t n child)
+        → (level ≡ 0 → (node ≡ top) × (ls ≡ []) × (length pages + crowded_one (pages_of file b top) + crowded_one (pages_of file b top) ≤ most))
+        → AtStep file b top t es most leaves level2 node child in
+        subst P e (λ level2 l r room few next at_top.
+        subst (λ k. AtStep file b top t es most leaves k node child) l
+        (record { on = record { pages = pages; tree = g; way = r; room = room; few = few }; next = next; at_top = at_top })) level2 l
+
+-- the tree as it is, whatever the step
+pub still : (file : File) (s : Space) (top : ℕ) (es : List Entry) (pages : List ℕ) (most leaves before : ℕ) → IsTree file s top es pages leaves → length pages ≤ most → before ≤ leaves → leaves ≤ before + 1
+    → IsTreeNow file s top es most before
+still file s top es pages most leaves before h few a b = record { pages = pages; leaves_now = leaves; tree = h; few = few; two_a_leaf = pages_few file s top es pages leaves h; no_less = a; one_more = b }
+
+-- ---- what the steps tell
+
+-- the tree as it is once it was looked at
+pub now_looked : (file : File) (a b : Space) (top : ℕ) (es : List Entry) (pages : List ℕ) (most leaves before : ℕ) → Looks a b → IsTree file a top es pages leaves → length pages ≤ most
+    → before ≤ leaves → leaves ≤ before + 1 → IsTreeNow file b top es most before
+now_looked file a b top es pages most leaves before l h few x y = still file b top es pages most leaves before (tree_stays file a b top es pages leaves l h) few x y
+
+-- where the way begins
+pub way_top : (top : ℕ) (levels : List (List Entry)) (t : Entry) → (r : Reached top levels t (length levels) top) × (r.below ≡ levels)
+way_top top levels t = (record { above = []; front = []; x = root top; behind = []; below = levels; all = refl; level_is = refl; page_is = refl; from = least_first (root top) t refl refl; to = tt }, refl)
+
+no_levels : (l : List (List Entry)) → length l ≡ 0 → l ≡ []
+no_levels [] e = refl
+no_levels (x ∷ l) e = absurd (omega arith)
+
+-- a top that is not split
+pub step_first : (file : File) (a b : Space) (top : ℕ) (t : Entry) (es : List Entry) (pages : List ℕ) (leaves level child : ℕ) (crowded : Bool) → NoPins a → Looks a b
+    → (h : IsTree file a top es pages leaves) → FindsHere file a top t h.levels (length h.levels) top level crowded child → ((level ≡ 0) ⊎ (crowded ≡ false))
+    → AtStep file b top t es (most_pages file a top h.levels (length pages) t) leaves level top child
+step_first file a b top t es pages leaves level child crowded out l h f or =
+    let w = way_top top h.levels t in
+    let p = page_at file a top es pages leaves (length h.levels) top t out h w.0 in
+    let one : crowded_at (pages_of file a) (root top ∷ []) t ≡ crowded_one (pages_of file a top) = refl in
+    (step_built file a b top t es pages (most_pages file a top h.levels (length pages) t) leaves level child top l h w.0
+    (λ z. record { page = p.page; told = p.told; free = sym (f.crowded_is p.page p.told) ∙ by_or or z })
+    (let e = ap (λ k. crowded_on (pages_of file a) k t) w.1 in omega arith)
+    (λ z. (refl, no_levels h.levels z, omega arith)) f)
+  where
+    by_or : ((level ≡ 0) ⊎ (crowded ≡ false)) → 0 < length h.levels → crowded ≡ false
+    by_or (inl e) z = absurd (let k = f.level_is in omega arith)
+    by_or (inr e) z = e
+
+-- a page that was split
+pub step_split : (file : File) (d e : Space) (top : ℕ) (t : Entry) (es : List Entry) (most leaves n level half child : ℕ) (crowded : Bool) → Looks d e → (o : OnWay file d top t es most leaves n half)
+    → HasRoom file d half → 0 < n → FindsHere file d top t o.tree.levels n half level crowded child → AtStep file e top t es most leaves level half child
+step_split file d e top t es most leaves n level half child crowded l o room above f =
+    step_built file d e top t es o.pages most leaves level child half l o.tree o.way (λ _. room) o.few (λ z. absurd (omega arith)) f
+
+-- a page that was not crowded
+pub step_further : (file : File) (a b : Space) (top : ℕ) (t : Entry) (es : List Entry) (most leaves n level node child below : ℕ) (crowded : Bool) → NoPins a → Looks a b
+    → (s : AtStep file a top t es most leaves (n + 1) node child) → 0 < n → FindsHere file a top t s.on.tree.levels n child level crowded below → crowded ≡ false
+    → AtStep file b top t es most leaves level child below
+step_further file a b top t es most leaves n level node child below crowded out l s above f no_split =
+    let r = s.next n refl in
+    let h = s.on.tree in
+    let p = page_at file a top es s.on.pages leaves n child t out h r in
+    let e = ap (λ k. crowded_on (pages_of file a) k t) (below_next top h.levels t n node child s.on.way r) in
+    step_built file a b top t es s.on.pages most leaves level below child l h r
+    (λ z. record { page = p.page; told = p.told; free = sym (f.crowded_is p.page p.told) ∙ no_split })
+    (let k = s.on.few in omega arith) (λ z. absurd (omega arith)) f
+
+-- a page that is to be split
+pub above_crowded : (file : File) (a b : Space) (top : ℕ) (t : Entry) (es : List Entry) (most leaves n level node child below : ℕ) (crowded : Bool) → NoPins a → Looks a b
+    → (s : AtStep file a top t es most leaves (n + 1) node child) → FindsHere file a top t s.on.tree.levels n child level crowded below → crowded ≡ true
+    → AboveCrowded file b top t es most leaves n node
+above_crowded file a b top t es most leaves n level node child below crowded out l s f full =
+    (above_stays file a b top t es most leaves n node l (record {
+      on = s.on;
+      full = λ c page r told.
+          let e = reached_one top s.on.tree.levels t n c child s.on.tree.sorted r (s.next n refl) in
+          sym (f.crowded_is page (ap (pages_of file a) (sym e) ∙ told)) ∙ full;
+    })).0
+
+pub top_crowded : (file : File) (a b : Space) (top : ℕ) (t : Entry) (es : List Entry) (pages : List ℕ) (leaves level child : ℕ) (crowded : Bool) → Looks a b
+    → (h : IsTree file a top es pages leaves) → FindsHere file a top t h.levels (length h.levels) top level crowded child → crowded ≡ true
+    → (w : CrowdedTop file b top es pages leaves) × (w.tree.levels ≡ h.levels)
+top_crowded file a b top t es pages leaves level child crowded l h f full =
+    let same = tree_bytes file a b top es pages leaves l h top (let o = h.owns top in let u = uses_here (root top) [] in omega arith) in
+    (record { tree = tree_stays file a b top es pages leaves l h; full = λ page told. sym (f.crowded_is page (sym same ∙ told)) ∙ full }, tree_stays-levels file a b top es pages leaves l h)
