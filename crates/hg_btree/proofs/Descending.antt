@@ -1,5 +1,5 @@
 -- The way down of an insertion.
-use Rattle.std.specs.Prelude.{◌≡◌, ◌≢◌, ℕ, ◌+◌, ◌<◌, ◌≤◌, zero, suc, Bool, true, false, List, [], ◌∷◌, ◌++◌, length, Option, Some, ◌⊎◌, if◌then◌else◌}
+use Rattle.std.specs.Prelude.{◌≡◌, ◌≢◌, ℕ, ◌+◌, ◌-◌, ◌<◌, ◌≤◌, not, zero, suc, Bool, true, false, List, [], ◌∷◌, ◌++◌, length, Option, Some, Result, Ok, Err, OnErr, ◌⊎◌, if◌then◌else◌}
 use Rattle.std.proofs.Common.{sym, ◌∙◌, ap, subst, refl, arith, append_assoc, length-append, inl, inr}
 use Rattle.std.proofs.lemmas.Bool.{false≢true}
 use Rattle.hg_base.specs.Space.{Space, NoPins, key, key_in}
@@ -8,7 +8,7 @@ use Rattle.hg_base.specs.declared.PageId.{PageId}
 use Rattle.hg_btree.specs.Entries.{Entry, NotBehind, Ordered, is_below}
 use Rattle.hg_btree.specs.Nodes.{IsBehind, crowded_page}
 use Rattle.hg_btree.specs.Looking.{LeadsFrom}
-use Rattle.hg_btree.specs.Trees.{pages_of, root, uses_in, AllSorted, IsTree, Reached}
+use Rattle.hg_btree.specs.Trees.{pages_of, root, uses_in, AllSorted, IsTree, HasTree, Reached}
 use Rattle.hg_btree.specs.Steps.{Looks}
 use Rattle.hg_btree.specs.Growing.{crowded_one, crowded_at, crowded_on, most_pages, HasRoom, OnWay, AboveCrowded, CrowdedTop, AtStep, FindsHere, IsTreeNow, leaves_after}
 use Rattle.hg_btree.proofs.Orders.{not_behind_trans, least_first}
@@ -177,3 +177,67 @@ pub top_crowded : (file : File) (a b : Space) (top : ℕ) (t : Entry) (es : List
 top_crowded file a b top t es pages leaves level child crowded l h f full =
     let same = tree_bytes file a b top es pages leaves l h top (let o = h.owns top in let u = uses_here (root top) [] in omega arith) in
     (record { tree = tree_stays file a b top es pages leaves l h; full = λ page told. sym (f.crowded_is page (sym same ∙ told)) ∙ full }, tree_stays-levels file a b top es pages leaves l h)
+
+-- ---- the first step
+
+pub first_there : (file : File) (a : Space) (top : ℕ) (t : Entry) → HasTree file a top
+    → (es : List Entry) × (pages : List ℕ) × (leaves : ℕ) × (level : ℕ) × (h : IsTree file a top es pages leaves) × Reached top h.levels t level top
+first_there file a top t h = (h.es, h.pages, h.leaves, length h.tree.levels, h.tree, (way_top top h.tree.levels t).0)
+
+pub on_err : {T E : Type 0} (r : Result T E) (X : Type 0) → X → OnErr r X
+on_err (Ok v) X x = tt
+on_err (Err e) X x = x
+
+pub leaves_inner : (n leaves : ℕ) → 0 < n → leaves_after n leaves ≡ leaves
+leaves_inner zero leaves z = absurd (omega arith)
+leaves_inner (suc n) leaves z = refl
+
+pub leaves_near : (n leaves : ℕ) → (leaves ≤ leaves_after n leaves) × (leaves_after n leaves ≤ leaves + 1)
+leaves_near zero leaves = (omega arith, omega arith)
+leaves_near (suc n) leaves = (omega arith, omega arith)
+
+-- how many pages a split of the top may make
+pub first_most : (file : File) (a b : Space) (top : ℕ) (t : Entry) (es : List Entry) (pages : List ℕ) (leaves level child : ℕ) (crowded : Bool) → NoPins a → Looks a b
+    → (h : IsTree file a top es pages leaves) → FindsHere file a top t h.levels (length h.levels) top level crowded child → crowded ≡ true
+    → (w : CrowdedTop file b top es pages leaves) × (length pages + 2 + crowded_on (pages_of file b) w.tree.levels t ≤ most_pages file a top h.levels (length pages) t) × (length w.tree.levels ≡ level)
+first_most file a b top t es pages leaves level child crowded out l h f full =
+    let w = top_crowded file a b top t es pages leaves level child crowded l h f full in
+    let p = page_at file a top es pages leaves (length h.levels) top t out h (way_top top h.levels t).0 in
+    let one : crowded_one (pages_of file a top) ≡ 1 = ap crowded_one p.told ∙ ap (λ v. if v then 1 else 0) (sym (f.crowded_is p.page p.told) ∙ full) in
+    let same = crowded_same (pages_of file a) (pages_of file b) h.levels t (λ y u. tree_bytes file a b top es pages leaves l h y (let o = h.owns y in omega arith)) in
+    let e = ap (λ k. crowded_on (pages_of file b) k t) w.1 in
+    (w.0, omega arith, ap length w.1 ∙ sym f.level_is)
+
+-- the tree once a page was split
+pub now_split : (file : File) (d e : Space) (top : ℕ) (t : Entry) (es : List Entry) (most leaves n half k : ℕ) → Looks d e → OnWay file d top t es most (leaves_after k leaves) n half → IsTreeNow file e top es most leaves
+now_split file d e top t es most leaves n half k l o =
+    let q = leaves_near k leaves in
+    now_looked file d e top es o.pages most (leaves_after k leaves) leaves l o.tree (let f = o.few in omega arith) q.0 q.1
+
+pub now_at : (file : File) (d e : Space) (top : ℕ) (t : Entry) (es : List Entry) (most leaves n half : ℕ) → Looks d e → OnWay file d top t es most leaves n half → IsTreeNow file e top es most leaves
+now_at file d e top t es most leaves n half l o = now_looked file d e top es o.pages most leaves leaves l o.tree (let f = o.few in omega arith) (omega arith) (omega arith)
+
+pub on_there : (file : File) (d : Space) (top : ℕ) (t : Entry) (es : List Entry) (most leaves n half : ℕ) → OnWay file d top t es most leaves n half
+    → (es : List Entry) × (pages : List ℕ) × (leaves : ℕ) × (level : ℕ) × (h : IsTree file d top es pages leaves) × Reached top h.levels t level half
+on_there file d top t es most leaves n half o = (es, o.pages, leaves, n, o.tree, o.way)
+
+-- a split page, with its leaves
+pub step_after : (file : File) (d e : Space) (top : ℕ) (t : Entry) (es : List Entry) (most leaves n level half child : ℕ) (crowded : Bool) → Looks d e
+    → (o : OnWay file d top t es most (leaves_after n leaves) n half) → HasRoom file d half → 0 < n → FindsHere file d top t o.tree.levels n half level crowded child
+    → AtStep file e top t es most leaves level half child
+step_after file d e top t es most leaves n level half child crowded l o room z f =
+    subst (λ k. AtStep file e top t es most k level half child) (leaves_inner n leaves z) (step_split file d e top t es most (leaves_after n leaves) n level half child crowded l o room z f)
+
+-- a step above the leaves
+pub at_one : (file : File) (s : Space) (top : ℕ) (t : Entry) (es : List Entry) (most leaves level node child : ℕ) → AtStep file s top t es most leaves level node child → 1 < level
+    → AtStep file s top t es most leaves (level - 1 + 1) node child
+at_one file s top t es most leaves level node child w z =
+    subst (λ k. AtStep file s top t es most leaves k node child) (let e : level ≡ level - 1 + 1 = omega arith in e) w
+
+pub not_was : (b : Bool) → not b ≡ true → b ≡ false
+not_was true e = absurd (false≢true e)
+not_was false e = refl
+
+pub was_so : (b : Bool) → not b ≡ false → b ≡ true
+was_so true e = refl
+was_so false e = absurd (false≢true (sym e))

@@ -32,6 +32,7 @@ mod commit;
 mod delete;
 mod grow;
 mod halve;
+mod insert;
 mod life;
 mod look;
 mod node;

@@ -1,0 +1,130 @@
+//! Putting entries into a tree.
+ghost use Rattle.std.specs.Prelude.{◌≡◌, ℕ, ◌+◌, ◌<◌, ◌≤◌, true, false, List, length, Some, IfOk, IfErr, OnOk, OnErr, ◌⊎◌};
+ghost use Rattle.hg_base.specs.Space.{NoPins};
+ghost use Rattle.hg_base.specs.Causes.{HasCause, fault_of};
+ghost use Rattle.hg_base.specs.Lines.{IsLine};
+ghost use Rattle.hg_btree.specs.Entries.{Entry};
+ghost use Rattle.hg_btree.specs.Trees.{IsTree, HasTree, Reached};
+ghost use Rattle.hg_btree.specs.Growing.{AtStep, FindsHere, IsTreeNow, LineGrows, Inserts, most_pages};
+ghost use Rattle.hg_btree.specs.Steps.{Looks, LookFault, GrowFault};
+
+use crate::change::{Put, put_into};
+use crate::grow::{split_child, split_top};
+use crate::look::{Found, look};
+use crate::seek::page_in;
+use hg_base::{Check, PageFault, Pages, Tree};
+
+/// Where the way down has come to: a page with room for one more entry, or a top that is a leaf, and what
+/// was found there.
+#[derive(Clone, Copy)]
+struct Step {
+    node: u32,
+    found: Found,
+}
+
+/// Looks at a page where the way down has come to.
+fn look_here<S: Pages>(
+    tree: Tree,
+    space: &mut S,
+    node: u32,
+    key: &[u8],
+    place: u64,
+) -> Result<Found, PageFault>
+    requires no_pins { NoPins (S.state space.old) }
+    requires there { (S.state space.old).told ≡ true → (es : List Entry) × (pages : List ℕ) × (leaves : ℕ) × (level : ℕ)
+        × (h : IsTree tree.file (S.state space.old) tree.top es pages leaves) × Reached tree.top h.levels (record { key = key.now; place = place; child = 0 }) level node }
+    ensures found { IfOk result (λ f. (es : List Entry) (pages : List ℕ) (leaves level : ℕ) (h : IsTree tree.file (S.state space.old) tree.top es pages leaves)
+        → Reached tree.top h.levels (record { key = key.now; place = place; child = 0 }) level node
+        → FindsHere tree.file (S.state space.old) tree.top (record { key = key.now; place = place; child = 0 }) h.levels level node f.level f.crowded f.child) }
+    ensures looks { Looks (S.state space.old) (S.state space.new) }
+    ensures cause { HasCause (S.state space.old) (S.state space.new) (fault_of result) }
+    ensures fault { IfErr result (LookFault tree.file) }
+{
+    let found = look(space, page_in(tree.file, node), key, place)?;
+    Ok(found)
+}
+
+/// Whether a top need not be split on the way down: it is a leaf, or not crowded.
+fn may_stay(found: Found) -> bool
+    ensures stays { result ≡ true → (found.level ≡ 0) ⊎ (found.crowded ≡ false) }
+    ensures splits { result ≡ false → (0 < found.level) × (found.crowded ≡ true) }
+{
+    if found.level == 0 {
+        return true;
+    }
+    !found.crowded
+}
+
+/// The first step down: a crowded top that is no leaf is split.
+fn first_step<S: Pages>(
+    tree: Tree,
+    space: &mut S,
+    key: &[u8],
+    place: u64,
+) -> Result<Step, PageFault>
+    requires no_pins { NoPins (S.state space.old) }
+    requires line { (pages : List ℕ) × IsLine tree.file (S.state space.old) (Some tree.top) pages }
+    requires short { length key.now ≤ 512 }
+    requires there { (S.state space.old).told ≡ true → HasTree tree.file (S.state space.old) tree.top }
+    ensures step { IfOk result (λ s. (es : List Entry) (pages : List ℕ) (leaves : ℕ) (h : IsTree tree.file (S.state space.old) tree.top es pages leaves)
+        → AtStep tree.file (S.state space.new) tree.top (record { key = key.now; place = place; child = 0 }) es
+        (most_pages tree.file (S.state space.old) tree.top h.levels (length pages) (record { key = key.now; place = place; child = 0 })) leaves s.found.level s.node s.found.child) }
+    ensures err { OnErr result ((es : List Entry) (pages : List ℕ) (leaves : ℕ) (h : IsTree tree.file (S.state space.old) tree.top es pages leaves)
+        → IsTreeNow tree.file (S.state space.new) tree.top es
+        (most_pages tree.file (S.state space.old) tree.top h.levels (length pages) (record { key = key.now; place = place; child = 0 })) leaves) }
+    ensures line { (pages : List ℕ) → IsLine tree.file (S.state space.old) (Some tree.top) pages
+        → LineGrows tree.file (S.state space.old) (S.state space.new) tree.top pages }
+    ensures cause { HasCause (S.state space.old) (S.state space.new) (fault_of result) }
+    ensures fault { IfErr result (GrowFault tree.file (S.state space.new)) }
+{
+    let node = tree.top;
+    let found = look_here(tree, space, node, key, place)?;
+    if may_stay(found) {
+        return Ok(Step { node, found });
+    }
+    let half = split_top(tree, space, key, place)?;
+    match look_here(tree, space, half, key, place) {
+        Ok(found) => Ok(Step { node: half, found }),
+        Err(fault) => Err(fault),
+    }
+}
+
+/// One step further down: a crowded page there is split.
+fn next_step<S: Pages>(
+    tree: Tree,
+    space: &mut S,
+    from: Step,
+    key: &[u8],
+    place: u64,
+) -> Result<Step, PageFault>
+    requires no_pins { NoPins (S.state space.old) }
+    requires line { (pages : List ℕ) × IsLine tree.file (S.state space.old) (Some tree.top) pages }
+    requires short { length key.now ≤ 512 }
+    requires above { 1 < from.found.level }
+    requires there { (S.state space.old).told ≡ true → (es : List Entry) × (most : ℕ) × (leaves : ℕ)
+        × AtStep tree.file (S.state space.old) tree.top (record { key = key.now; place = place; child = 0 }) es most leaves from.found.level from.node from.found.child }
+    ensures step { IfOk result (λ s. (es : List Entry) (most leaves : ℕ)
+        → AtStep tree.file (S.state space.old) tree.top (record { key = key.now; place = place; child = 0 }) es most leaves from.found.level from.node from.found.child
+        → AtStep tree.file (S.state space.new) tree.top (record { key = key.now; place = place; child = 0 }) es most leaves s.found.level s.node s.found.child) }
+    ensures below { IfOk result (λ s. (es : List Entry) (most leaves : ℕ)
+        → AtStep tree.file (S.state space.old) tree.top (record { key = key.now; place = place; child = 0 }) es most leaves from.found.level from.node from.found.child
+        → s.found.level + 1 ≡ from.found.level) }
+    ensures err { OnErr result ((es : List Entry) (most leaves : ℕ)
+        → AtStep tree.file (S.state space.old) tree.top (record { key = key.now; place = place; child = 0 }) es most leaves from.found.level from.node from.found.child
+        → IsTreeNow tree.file (S.state space.new) tree.top es most leaves) }
+    ensures line { (pages : List ℕ) → IsLine tree.file (S.state space.old) (Some tree.top) pages
+        → LineGrows tree.file (S.state space.old) (S.state space.new) tree.top pages }
+    ensures cause { HasCause (S.state space.old) (S.state space.new) (fault_of result) }
+    ensures fault { IfErr result (GrowFault tree.file (S.state space.new)) }
+{
+    let node = from.found.child;
+    let found = look_here(tree, space, node, key, place)?;
+    if !found.crowded {
+        return Ok(Step { node, found });
+    }
+    let half = split_child(tree, space, from.node, key, place)?;
+    match look_here(tree, space, half, key, place) {
+        Ok(found) => Ok(Step { node: half, found }),
+        Err(fault) => Err(fault),
+    }
+}
