@@ -241,3 +241,7 @@ not_was false e = refl
 pub was_so : (b : Bool) → not b ≡ false → b ≡ true
 was_so true e = refl
 was_so false e = absurd (false≢true (sym e))
+
+pub now_of_step : (file : File) (s : Space) (top : ℕ) (t : Entry) (es : List Entry) (most leaves level node child : ℕ) → AtStep file s top t es most leaves level node child → IsTreeNow file s top es most leaves
+now_of_step file s top t es most leaves level node child w =
+    still file s top es w.on.pages most leaves leaves w.on.tree (let f = w.on.few in omega arith) (omega arith) (omega arith)

@@ -128,3 +128,39 @@ fn next_step<S: Pages>(
         Err(fault) => Err(fault),
     }
 }
+
+/// The page above the leaf where an entry goes, or the top where that is the leaf. What the way meets
+/// crowded is split.
+fn way_down<S: Pages>(tree: Tree, space: &mut S, key: &[u8], place: u64) -> Result<Step, PageFault>
+    requires no_pins { NoPins (S.state space.old) }
+    requires line { (pages : List ℕ) × IsLine tree.file (S.state space.old) (Some tree.top) pages }
+    requires short { length key.now ≤ 512 }
+    requires there { (S.state space.old).told ≡ true → HasTree tree.file (S.state space.old) tree.top }
+    ensures step { IfOk result (λ s. (es : List Entry) (pages : List ℕ) (leaves : ℕ) (h : IsTree tree.file (S.state space.old) tree.top es pages leaves)
+        → AtStep tree.file (S.state space.new) tree.top (record { key = key.now; place = place; child = 0 }) es
+        (most_pages tree.file (S.state space.old) tree.top h.levels (length pages) (record { key = key.now; place = place; child = 0 })) leaves s.found.level s.node s.found.child) }
+    ensures low { IfOk result (λ s. s.found.level ≤ 1) }
+    ensures err { OnErr result ((es : List Entry) (pages : List ℕ) (leaves : ℕ) (h : IsTree tree.file (S.state space.old) tree.top es pages leaves)
+        → IsTreeNow tree.file (S.state space.new) tree.top es
+        (most_pages tree.file (S.state space.old) tree.top h.levels (length pages) (record { key = key.now; place = place; child = 0 })) leaves) }
+    ensures line { (pages : List ℕ) → IsLine tree.file (S.state space.old) (Some tree.top) pages
+        → LineGrows tree.file (S.state space.old) (S.state space.new) tree.top pages }
+    ensures cause { HasCause (S.state space.old) (S.state space.new) (fault_of result) }
+    ensures fault { IfErr result (GrowFault tree.file (S.state space.new)) }
+{
+    let mut step = first_step(tree, space, key, place)?;
+    while step.found.level > 1 {
+        let next = match next_step(tree, space, step, key, place) {
+            Ok(next) => next,
+            Err(fault) => return Err(fault),
+        };
+        if next.found.level >= step.found.level {
+            return Err(PageFault::Damaged {
+                page: page_in(tree.file, next.node),
+                check: Check::Level,
+            });
+        }
+        step = next;
+    }
+    Ok(step)
+}
