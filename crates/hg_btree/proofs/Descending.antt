@@ -1,5 +1,5 @@
 -- The way down of an insertion.
-use Rattle.std.specs.Prelude.{◌≡◌, ◌≢◌, ℕ, ◌+◌, ◌-◌, ◌<◌, ◌≤◌, not, zero, suc, Bool, true, false, List, [], ◌∷◌, ◌++◌, length, Option, Some, Result, Ok, Err, OnErr, ◌⊎◌, if◌then◌else◌}
+use Rattle.std.specs.Prelude.{◌≡◌, ◌≢◌, ℕ, ◌+◌, ◌-◌, ◌<◌, ◌≤◌, not, zero, suc, Bool, true, false, List, [], ◌∷◌, ◌++◌, length, Option, Some, Result, Ok, Err, OnErr, IfOk, ◌⊎◌, if◌then◌else◌}
 use Rattle.std.proofs.Common.{sym, ◌∙◌, ap, subst, refl, arith, append_assoc, length-append, inl, inr}
 use Rattle.std.proofs.lemmas.Bool.{false≢true}
 use Rattle.hg_base.specs.Space.{Space, NoPins, key, key_in}
@@ -21,6 +21,16 @@ use Rattle.hg_btree.proofs.Seeking.{led}
 use Rattle.hg_btree.proofs.Grown.{tree_bytes, above_stays}
 use Rattle.hg_btree.proofs.Heights.{pages_few}
 use Rattle.hg_btree.proofs.Planning.{page_at}
+use Rattle.hg_base.specs.Lines.{IsLine, has_page}
+use Rattle.hg_base.specs.LineLaws.{IsSameLink, line_stays, all_map, line_one}
+use Rattle.hg_btree.specs.declared.change.Put.{Put}
+use Rattle.hg_btree.specs.declared.change.Put.TheVariants as put
+use Rattle.hg_btree.specs.Putting.{Puts, PutsInto, IsFullFor}
+use Rattle.hg_btree.specs.Growing.{LineGrows, AtFullLeaf, IsTreeNowWith}
+use Rattle.hg_btree.proofs.Splitting.{crowded_less}
+use Rattle.hg_btree.proofs.Deleting.{changed_steady}
+use Rattle.hg_btree.proofs.Grown.{line_looked}
+use Rattle.hg_btree.proofs.Walking.{times_has, leaf_here}
 
 -- ---- one page a level
 
@@ -245,3 +255,76 @@ was_so false e = absurd (false≢true (sym e))
 pub now_of_step : (file : File) (s : Space) (top : ℕ) (t : Entry) (es : List Entry) (most leaves level node child : ℕ) → AtStep file s top t es most leaves level node child → IsTreeNow file s top es most leaves
 now_of_step file s top t es most leaves level node child w =
     still file s top es w.on.pages most leaves leaves w.on.tree (let f = w.on.few in omega arith) (omega arith) (omega arith)
+
+-- ---- the leaf
+
+-- what a put into a leaf does to the line
+pub put_line : (file : File) (m b : Space) (page : PageId) (top : ℕ) (pages : List ℕ) (leaf : ℕ) (t : Entry) (how : Put) → page ≡ record { file = file; no = leaf } → (m.told ≡ true → has_page pages leaf ≡ true)
+    → IsLine file m (Some top) pages → PutsInto m b page t how → LineGrows file m b top pages
+put_line file m b page top pages leaf t put.Old pe h l ch = line_looked file m b top pages ch.looks l
+put_line file m b page top pages leaf t put.NoRoom pe h l ch = line_looked file m b top pages ch.looks l
+put_line file m b page top pages leaf t put.New pe h l ch = record {
+  now = pages;
+  line = line_stays file m b (Some top) pages ch.steady.limit
+      (all_map (λ x. m.of_heap (key_in file x) ≡ false) (λ x. IsSameLink m b (key_in file x)) pages
+      (λ x _. record { taken = ap (λ f. f (key_in file x)) ch.taken; of_heap = ap (λ f. f (key_in file x)) ch.of_heap; next = ap (λ f. f (key_in file x)) ch.links }) l.no_heap) l;
+  kept = λ n e. e;
+  more = λ n e. inl e;
+  steady = changed_steady file m b page _ pages leaf m.told refl pe h ch;
+}
+
+-- what a leaf without room tells
+pub full_looked : (m b : Space) (page : PageId) (t : Entry) (how : Put) → how ≡ put.NoRoom → PutsInto m b page t how → Looks m b × ((bytes : List ℕ) → m.bytes (key page) ≡ Some bytes → IsFullFor bytes t)
+full_looked m b page t how e ch =
+    let c = subst (PutsInto m b page t) e ch in
+    (c.looks, c.is)
+
+pub leaf_in : (file : File) (s : Space) (top : ℕ) (es : List Entry) (ps pages : List ℕ) (leaves leaf : ℕ) (t : Entry) → (h : IsTree file s top es ps leaves) → Reached top h.levels t 0 leaf
+    → IsLine file s (Some top) pages → has_page pages leaf ≡ true
+leaf_in file s top es ps pages leaves leaf t h r l =
+    let u = reached_used top h.levels t 0 leaf r in
+    let o = h.owns leaf in
+    subst (λ k. has_page k leaf ≡ true) (line_one file s (Some top) ps pages h.line l) (times_has ps leaf (omega arith))
+
+-- a leaf above which the way has come
+pub full_above : (file : File) (s : Space) (top : ℕ) (t : Entry) (es : List Entry) (most leaves level node child : ℕ) → AtFullLeaf file s top t es most leaves level node child → level ≤ 1 → (level ≡ 0 → ⊥)
+    → AboveCrowded file s top t es most leaves 0 node
+full_above file s top t es most leaves level node child w z n =
+    let e : level ≡ 0 + 1 = omega arith in
+    let P : ℕ → Type 0 = λ k. AtFullLeaf file s top t es most leaves k node child → AboveCrowded file s top t es most leaves 0 node in
+    subst P (sym e) (λ v. record { on = v.at.on; full = v.full }) w
+
+pub full_top : (file : File) (s : Space) (top : ℕ) (t : Entry) (es : List Entry) (most leaves level node child : ℕ) → (w : AtFullLeaf file s top t es most leaves level node child) → level ≡ 0
+    → (v : CrowdedTop file s top es w.at.on.pages leaves) × (v.tree.levels ≡ []) × (length w.at.on.pages + 2 + crowded_on (pages_of file s) v.tree.levels t ≤ most)
+full_top file s top t es most leaves level node child w z =
+    let a = w.at.at_top z in
+    let h = w.at.on.tree in
+    let wt = way_top top h.levels t in
+    let r0 : Reached top h.levels t 0 top = subst (λ k. Reached top h.levels t k top) (ap length a.1) wt.0 in
+    let r1 : Reached top h.levels t 0 node = subst (λ k. Reached top h.levels t k node) z w.at.on.way in
+    let l = leaf_here (pages_of file s) top h.levels es t top h.chained h.sorted r0 in
+    let told = ap (pages_of file s) (sym r0.page_is) ∙ l.at.told in
+    let one : crowded_one (pages_of file s top) ≡ 1 = ap crowded_one told ∙ ap (λ v. if v then 1 else 0) (w.full top l.at.page r0 told) in
+    let e = ap (λ k. crowded_on (pages_of file s) k t) a.1 in
+    let m = a.2 in
+    (record { tree = h; full = λ page q. w.full top page r0 q }, a.1, omega arith)
+
+pub if_ok_map : {T E : Type 0} (r : Result T E) (P Q : T → Type 0) → ((x : T) → P x → Q x) → IfOk r P → IfOk r Q
+if_ok_map (Ok v) P Q f h = f v h
+if_ok_map (Err e) P Q f h = tt
+
+-- ---- what was put in
+
+pub put_inserts : (file : File) (b : Space) (top : ℕ) (t : Entry) (es : List Entry) (pages : List ℕ) (most leaves before : ℕ) → Puts file b top es pages leaves t put.New → length pages ≤ most → before ≤ leaves → leaves ≤ before + 1
+    → IsTreeNowWith file b top es most before t
+put_inserts file b top t es pages most leaves before p few x y = record { now = p.now; put = p.put; tree = still file b top p.now pages most leaves before p.tree few x y }
+
+-- a leaf with room holds the entry
+pub no_full : (file : File) (s : Space) (node : ℕ) (t : Entry) → length t.key ≤ 512 → HasRoom file s node → ((page : List ℕ) → s.bytes (key_in file node) ≡ Some page → IsFullFor page t) → ⊥
+no_full file s node t short r f = let l = f r.page r.told in let k = crowded_less r.page r.free in absurd (omega arith)
+
+pub full_leaf : (file : File) (a b : Space) (top : ℕ) (t : Entry) (es : List Entry) (most leaves level node child leaf : ℕ) → length t.key ≤ 512 → (w : AtStep file a top t es most leaves level node child) → level ≤ 1
+    → (level ≡ 0 → leaf ≡ node) → (0 < level → leaf ≡ child) → Reached top w.on.tree.levels t 0 leaf
+full_leaf file a b top t es most leaves zero node child leaf short w z f g = subst (λ k. Reached top w.on.tree.levels t 0 k) (sym (f refl)) w.on.way
+full_leaf file a b top t es most leaves (suc n) node child leaf short w z f g =
+    subst (λ k. Reached top w.on.tree.levels t 0 k) (sym (g (omega arith))) (w.next 0 (omega arith))

@@ -108,3 +108,8 @@ pub record FindsHere (file : File) (s : Space) (top : ℕ) (t : Entry) (levels :
   pub level_is : found_level ≡ level
   pub next : (n : ℕ) → level ≡ n + 1 → Reached top levels t n child
   pub crowded_is : (page : List ℕ) → s.bytes (key_in file node) ≡ Some page → crowded ≡ crowded_page page
+
+-- The way down has come to the leaf of t, or to the page above it, and the leaf has no room for t.
+pub record AtFullLeaf (file : File) (s : Space) (top : ℕ) (t : Entry) (es : List Entry) (most leaves level node child : ℕ) : Type 0 where
+  pub at : AtStep file s top t es most leaves level node child
+  pub full : (leaf : ℕ) (page : List ℕ) → Reached top at.on.tree.levels t 0 leaf → s.bytes (key_in file leaf) ≡ Some page → crowded_page page ≡ true

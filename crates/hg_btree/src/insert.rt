@@ -1,11 +1,12 @@
 //! Putting entries into a tree.
 ghost use Rattle.std.specs.Prelude.{◌≡◌, ℕ, ◌+◌, ◌<◌, ◌≤◌, true, false, List, length, Some, IfOk, IfErr, OnOk, OnErr, ◌⊎◌};
-ghost use Rattle.hg_base.specs.Space.{NoPins};
+ghost use Rattle.hg_base.specs.Space.{NoPins, key_in};
 ghost use Rattle.hg_base.specs.Causes.{HasCause, fault_of};
 ghost use Rattle.hg_base.specs.Lines.{IsLine};
 ghost use Rattle.hg_btree.specs.Entries.{Entry};
 ghost use Rattle.hg_btree.specs.Trees.{IsTree, HasTree, Reached};
-ghost use Rattle.hg_btree.specs.Growing.{AtStep, FindsHere, IsTreeNow, LineGrows, Inserts, most_pages};
+ghost use Rattle.hg_btree.specs.Growing.{AtStep, AtFullLeaf, OnWay, HasRoom, FindsHere, IsTreeNow, LineGrows, Inserts, most_pages};
+ghost use Rattle.hg_btree.specs.Putting.{Puts, IsFullFor};
 ghost use Rattle.hg_btree.specs.Steps.{Looks, LookFault, GrowFault};
 
 use crate::change::{Put, put_into};
@@ -163,4 +164,73 @@ fn way_down<S: Pages>(tree: Tree, space: &mut S, key: &[u8], place: u64) -> Resu
         step = next;
     }
     Ok(step)
+}
+
+/// The leaf where an entry goes.
+fn leaf_under(step: Step) -> u32
+    ensures top { step.found.level ≡ 0 → result ≡ step.node }
+    ensures below { 0 < step.found.level → result ≡ step.found.child }
+{
+    if step.found.level == 0 {
+        step.node
+    } else {
+        step.found.child
+    }
+}
+
+/// Puts an entry into the leaf where the way down has come to.
+fn put_at<S: Pages>(
+    tree: Tree,
+    space: &mut S,
+    leaf: u32,
+    key: &[u8],
+    place: u64,
+) -> Result<Put, PageFault>
+    requires no_pins { NoPins (S.state space.old) }
+    requires short { length key.now ≤ 512 }
+    requires there { (S.state space.old).told ≡ true → (es : List Entry) × (pages : List ℕ) × (leaves : ℕ)
+        × (h : IsTree tree.file (S.state space.old) tree.top es pages leaves) × Reached tree.top h.levels (record { key = key.now; place = place; child = 0 }) 0 leaf }
+    ensures puts { IfOk result (λ how. (es : List Entry) (pages : List ℕ) (leaves : ℕ) (h : IsTree tree.file (S.state space.old) tree.top es pages leaves)
+        → Reached tree.top h.levels (record { key = key.now; place = place; child = 0 }) 0 leaf
+        → Puts tree.file (S.state space.new) tree.top es pages leaves (record { key = key.now; place = place; child = 0 }) how) }
+    ensures full { IfOk result (λ how. how ≡ Put.NoRoom → Looks (S.state space.old) (S.state space.new)
+        × ((page : List ℕ) → (S.state space.old).bytes (key_in tree.file leaf) ≡ Some page → IsFullFor page (record { key = key.now; place = place; child = 0 }))) }
+    ensures line { OnOk result ((pages : List ℕ) → IsLine tree.file (S.state space.old) (Some tree.top) pages
+        → LineGrows tree.file (S.state space.old) (S.state space.new) tree.top pages) }
+    ensures err { OnErr result (Looks (S.state space.old) (S.state space.new)) }
+    ensures cause { HasCause (S.state space.old) (S.state space.new) (fault_of result) }
+    ensures fault { IfErr result (LookFault tree.file) }
+{
+    let how = put_into(space, page_in(tree.file, leaf), key, place)?;
+    Ok(how)
+}
+
+/// Splits the leaf where an entry goes. Answers the half where it goes then.
+fn split_leaf<S: Pages>(
+    tree: Tree,
+    space: &mut S,
+    step: Step,
+    key: &[u8],
+    place: u64,
+) -> Result<u32, PageFault>
+    requires no_pins { NoPins (S.state space.old) }
+    requires line { (pages : List ℕ) × IsLine tree.file (S.state space.old) (Some tree.top) pages }
+    requires short { length key.now ≤ 512 }
+    requires low { step.found.level ≤ 1 }
+    requires there { (S.state space.old).told ≡ true → (es : List Entry) × (most : ℕ) × (leaves : ℕ)
+        × AtFullLeaf tree.file (S.state space.old) tree.top (record { key = key.now; place = place; child = 0 }) es most leaves step.found.level step.node step.found.child }
+    ensures split { IfOk result (λ half. (es : List Entry) (most leaves : ℕ)
+        → AtFullLeaf tree.file (S.state space.old) tree.top (record { key = key.now; place = place; child = 0 }) es most leaves step.found.level step.node step.found.child
+        → OnWay tree.file (S.state space.new) tree.top (record { key = key.now; place = place; child = 0 }) es most (leaves + 1) 0 half
+        × HasRoom tree.file (S.state space.new) half) }
+    ensures line { OnOk result ((pages : List ℕ) → IsLine tree.file (S.state space.old) (Some tree.top) pages
+        → LineGrows tree.file (S.state space.old) (S.state space.new) tree.top pages) }
+    ensures err { OnErr result (Looks (S.state space.old) (S.state space.new)) }
+    ensures cause { HasCause (S.state space.old) (S.state space.new) (fault_of result) }
+    ensures fault { IfErr result (GrowFault tree.file (S.state space.new)) }
+{
+    if step.found.level == 0 {
+        return split_top(tree, space, key, place);
+    }
+    split_child(tree, space, step.node, key, place)
 }

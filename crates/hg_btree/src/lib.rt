@@ -22,8 +22,12 @@
 //! the other. So a page that is cut in two changes its own level's list by one place and leaves the
 //! lists above and below as they were.
 //!
-//! This crate makes, reads, thins out and ends trees, and puts entries where they fit their leaf. The
-//! call that cuts full pages in two is not here yet; its steps on single pages are (`split`).
+//! A split reads the page and the one above it into copies, puts the halves together there, pins the pages
+//! and takes its new ones, and only then writes them whole: what fails before that has changed nothing. It
+//! is made on the way down, where the longest entry would not fit, so no step goes back up.
+//!
+//! This crate makes, reads, thins out and ends trees, and puts entries where they fit their leaf. The way
+//! down of an insertion with its splits stands (`insert`, `grow`); the call that joins them is not here yet.
 #![tactic(auto)]
 
 mod calls;
