@@ -234,3 +234,40 @@ fn split_leaf<S: Pages>(
     }
     split_child(tree, space, step.node, key, place)
 }
+
+/// Puts an entry into a leaf that has no room for it.
+fn put_split<S: Pages>(
+    tree: Tree,
+    space: &mut S,
+    step: Step,
+    key: &[u8],
+    place: u64,
+) -> Result<bool, PageFault>
+    requires no_pins { NoPins (S.state space.old) }
+    requires line { (pages : List ℕ) × IsLine tree.file (S.state space.old) (Some tree.top) pages }
+    requires short { length key.now ≤ 512 }
+    requires low { step.found.level ≤ 1 }
+    requires there { (S.state space.old).told ≡ true → (es : List Entry) × (most : ℕ) × (leaves : ℕ)
+        × AtFullLeaf tree.file (S.state space.old) tree.top (record { key = key.now; place = place; child = 0 }) es most leaves step.found.level step.node step.found.child }
+    ensures inserts { (es : List Entry) (most leaves : ℕ)
+        → AtFullLeaf tree.file (S.state space.old) tree.top (record { key = key.now; place = place; child = 0 }) es most leaves step.found.level step.node step.found.child
+        → Inserts tree.file (S.state space.new) tree.top es most leaves (record { key = key.now; place = place; child = 0 }) result }
+    ensures line { (pages : List ℕ) → IsLine tree.file (S.state space.old) (Some tree.top) pages
+        → LineGrows tree.file (S.state space.old) (S.state space.new) tree.top pages }
+    ensures cause { HasCause (S.state space.old) (S.state space.new) (fault_of result) }
+    ensures fault { IfErr result (GrowFault tree.file (S.state space.new)) }
+{
+    let half = match split_leaf(tree, space, step, key, place) {
+        Ok(half) => half,
+        Err(fault) => return Err(fault),
+    };
+    match put_at(tree, space, half, key, place) {
+        Ok(Put::New) => Ok(true),
+        Ok(Put::Old) => Ok(false),
+        Ok(Put::NoRoom) => Err(PageFault::Damaged {
+            page: page_in(tree.file, half),
+            check: Check::Size,
+        }),
+        Err(fault) => Err(fault),
+    }
+}
