@@ -1,12 +1,13 @@
 -- The way down of an insertion.
-use Rattle.std.specs.Prelude.{◌≡◌, ◌≢◌, ℕ, ◌+◌, ◌-◌, ◌<◌, ◌≤◌, not, zero, suc, Bool, true, false, List, [], ◌∷◌, ◌++◌, length, Option, Some, Result, Ok, Err, OnErr, IfOk, ◌⊎◌, if◌then◌else◌}
+use Rattle.std.specs.Prelude.{◌≡◌, ◌≢◌, ℕ, ◌+◌, ◌-◌, ◌<◌, ◌≤◌, not, nat_lt, zero, suc, Bool, true, false, List, [], ◌∷◌, ◌++◌, length, Option, Some, Result, Ok, Err, OnErr, IfOk, ◌⊎◌, if◌then◌else◌}
 use Rattle.std.proofs.Common.{sym, ◌∙◌, ap, subst, refl, arith, append_assoc, length-append, inl, inr}
 use Rattle.std.proofs.lemmas.Bool.{false≢true}
 use Rattle.hg_base.specs.Space.{Space, NoPins, key, key_in}
 use Rattle.hg_base.specs.declared.File.{File}
 use Rattle.hg_base.specs.declared.PageId.{PageId}
 use Rattle.hg_btree.specs.Entries.{Entry, NotBehind, Ordered, is_below}
-use Rattle.hg_btree.specs.Nodes.{IsBehind, crowded_page}
+use Rattle.hg_btree.specs.Nodes.{number, IsBehind, crowded_page}
+use Rattle.std.proofs.lemmas.Bool.Decides.{nat_tests}
 use Rattle.hg_btree.specs.Looking.{LeadsFrom}
 use Rattle.hg_btree.specs.Trees.{pages_of, root, uses_in, AllSorted, IsTree, HasTree, Reached}
 use Rattle.hg_btree.specs.Steps.{Looks}
@@ -328,3 +329,41 @@ pub full_leaf : (file : File) (a b : Space) (top : ℕ) (t : Entry) (es : List E
 full_leaf file a b top t es most leaves zero node child leaf short w z f g = subst (λ k. Reached top w.on.tree.levels t 0 k) (sym (f refl)) w.on.way
 full_leaf file a b top t es most leaves (suc n) node child leaf short w z f g =
     subst (λ k. Reached top w.on.tree.levels t 0 k) (sym (g (omega arith))) (w.next 0 (omega arith))
+
+crowded_yes : (n : ℕ) → 4096 < n → nat_lt 4096 n ≡ true
+crowded_yes n e = grind (arith, nat_tests)
+
+-- the leaf has no room for the entry, which was looked at
+pub at_full : (file : File) (d e : Space) (top : ℕ) (t : Entry) (es : List Entry) (most leaves level node child leaf : ℕ) → Looks d e → (w : AtStep file d top t es most leaves level node child)
+    → Reached top w.on.tree.levels t 0 leaf → length t.key ≤ 512 → ((page : List ℕ) → d.bytes (key_in file leaf) ≡ Some page → IsFullFor page t) → AtFullLeaf file e top t es most leaves level node child
+at_full file d e top t es most leaves level node child leaf l w reach short full =
+    let h = w.on.tree in
+    let r = w.on.way in
+    let used : (y : ℕ) → 1 ≤ uses_in ((root top ∷ []) ∷ h.levels) y → e.bytes (key_in file y) ≡ d.bytes (key_in file y) =
+    λ y u. tree_bytes file d e top es w.on.pages leaves l h y (let o = h.owns y in omega arith) in
+    let same = crowded_same (pages_of file d) (pages_of file e) r.below t
+    (λ y u. used y (let z = ap (λ k. uses_in k y) r.all ∙ uses_in-append r.above ((r.front ++ r.x ∷ r.behind) ∷ r.below) y in omega arith)) in
+    let top_same : e.bytes (key_in file top) ≡ d.bytes (key_in file top) = used top (let u = uses_here (root top) [] in omega arith) in
+    go (tree_stays file d e top es w.on.pages leaves l h) h.levels (tree_stays-levels file d e top es w.on.pages leaves l h) r
+    (λ z. let m = w.on.room z in record { page = m.page; told = used node (reached_used top h.levels t level node r) ∙ m.told; free = m.free })
+    (let f = w.on.few in omega arith) w.next
+    (λ z. let m = w.at_top z in (m.0, m.1, let q = ap crowded_one top_same in let k = m.2 in omega arith))
+    (λ other page q told.
+    let o = reached_one top h.levels t 0 other leaf h.sorted q reach in
+    let f = full page (sym (used leaf (reached_used top h.levels t 0 leaf reach)) ∙ ap (pages_of file e) (sym o) ∙ told) in
+    crowded_yes (number page 4 + 526) (omega arith))
+  where
+    go : (g : IsTree file e top es w.on.pages leaves) (now : List (List Entry)) → g.levels ≡ now → (r : Reached top now t level node) → (0 < level → HasRoom file e node)
+        → length w.on.pages + crowded_on (pages_of file e) r.below t ≤ most → ((n : ℕ) → level ≡ n + 1 → Reached top now t n child)
+        → (level ≡ 0 → (node ≡ top) × (now ≡ []) × (length w.on.pages + crowded_one (pages_of file e top) + crowded_one (pages_of file e top) ≤ most))
+        → ((other : ℕ) (page : List ℕ) → Reached top now t 0 other → e.bytes (key_in file other) ≡ Some page → crowded_page page ≡ true)
+        → AtFullLeaf file e top t es most leaves level node child
+    go g now eq =
+        let P : List (List Entry) → Type 0 =
+        λ ls. (r : Reached top ls t level node) → (0 < level → HasRoom file e node)
+        → length w.on.pages + crowded_on (pages_of file e) r.below t ≤ most → ((n : ℕ) → level ≡ n + 1 → Reached top ls t n child)
+        → (level ≡ 0 → (node ≡ top) × (ls ≡ []) × (length w.on.pages + crowded_one (pages_of file e top) + crowded_one (pages_of file e top) ≤ most))
+        → ((other : ℕ) (page : List ℕ) → Reached top ls t 0 other → e.bytes (key_in file other) ≡ Some page → crowded_page page ≡ true)
+        → AtFullLeaf file e top t es most leaves level node child in
+        subst P eq (λ r room few next at_top full.
+        record { at = record { on = record { pages = w.on.pages; tree = g; way = r; room = room; few = few }; next = next; at_top = at_top }; full = full })

@@ -271,3 +271,36 @@ fn put_split<S: Pages>(
         Err(fault) => Err(fault),
     }
 }
+
+/// Puts an entry into a tree. False where it was there.
+pub fn insert<S: Pages>(
+    tree: Tree,
+    space: &mut S,
+    key: &[u8],
+    place: u64,
+) -> Result<bool, PageFault>
+    requires no_pins { NoPins (S.state space.old) }
+    requires line { (pages : List ℕ) × IsLine tree.file (S.state space.old) (Some tree.top) pages }
+    requires short { length key.now ≤ 512 }
+    requires there { (S.state space.old).told ≡ true → HasTree tree.file (S.state space.old) tree.top }
+    ensures inserts { (es : List Entry) (pages : List ℕ) (leaves : ℕ) (h : IsTree tree.file (S.state space.old) tree.top es pages leaves)
+        → Inserts tree.file (S.state space.new) tree.top es
+        (most_pages tree.file (S.state space.old) tree.top h.levels (length pages) (record { key = key.now; place = place; child = 0 })) leaves
+        (record { key = key.now; place = place; child = 0 }) result }
+    ensures line { (pages : List ℕ) → IsLine tree.file (S.state space.old) (Some tree.top) pages
+        → LineGrows tree.file (S.state space.old) (S.state space.new) tree.top pages }
+    ensures cause { HasCause (S.state space.old) (S.state space.new) (fault_of result) }
+    ensures fault { IfErr result (GrowFault tree.file (S.state space.new)) }
+{
+    let step = match way_down(tree, space, key, place) {
+        Ok(step) => step,
+        Err(fault) => return Err(fault),
+    };
+    let leaf = leaf_under(step);
+    match put_at(tree, space, leaf, key, place) {
+        Ok(Put::New) => Ok(true),
+        Ok(Put::Old) => Ok(false),
+        Ok(Put::NoRoom) => put_split(tree, space, step, key, place),
+        Err(fault) => Err(fault),
+    }
+}

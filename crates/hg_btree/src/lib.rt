@@ -26,8 +26,8 @@
 //! and takes its new ones, and only then writes them whole: what fails before that has changed nothing. It
 //! is made on the way down, where the longest entry would not fit, so no step goes back up.
 //!
-//! This crate makes, reads, thins out and ends trees, and puts entries where they fit their leaf. The way
-//! down of an insertion with its splits stands (`insert`, `grow`); the call that joins them is not here yet.
+//! A leaf is split where an entry does not fit it: in the middle, or, where the entry goes behind all of the
+//! last leaf, so that the old leaf stays full.
 #![tactic(auto)]
 
 mod calls;
