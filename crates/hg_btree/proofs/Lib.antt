@@ -12,3 +12,13 @@ pub mod Splitting
 pub mod Inserting
 pub mod Halving
 pub mod Touching
+pub mod Parting
+pub mod Growing
+pub mod Stepping
+pub mod Rewriting
+pub mod Splits
+pub mod Heights
+pub mod Planning
+pub mod Grown
+pub mod Tops
+pub mod Descending

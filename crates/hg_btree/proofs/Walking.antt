@@ -150,22 +150,23 @@ pub record LastPassed (t first : Entry) (done todo : List Entry) : Type 0 where
   pub front : List Entry
   pub x : Entry
   pub all : first ∷ (done ++ todo) ≡ front ++ x ∷ todo
+  pub passed : first ∷ done ≡ front ++ x ∷ []
   pub child : x.child ≡ last_child first.child done
   pub from : NotBehind x t
 
 pub last_passed : (t first : Entry) (done todo : List Entry) → NotBehind first t → AllBy (λ e. NotBehind e t) done → LastPassed t first done todo
-last_passed t first [] todo f d = record { front = []; x = first; all = refl; child = refl; from = f }
+last_passed t first [] todo f d = record { front = []; x = first; all = refl; passed = refl; child = refl; from = f }
 last_passed t first (y ∷ done) todo f d =
     let p = last_passed t y done todo d.0 d.1 in
-    record { front = first ∷ p.front; x = p.x; all = ap (λ l. first ∷ l) p.all; child = p.child; from = p.from }
+    record { front = first ∷ p.front; x = p.x; all = ap (λ l. first ∷ l) p.all; passed = ap (λ l. first ∷ l) p.passed; child = p.child; from = p.from }
 
 -- the first of the children behind
-behind_kids : (b : ℕ → Option (List ℕ)) (n : ℕ) (behind rest : List Entry) (t : Entry) → Inners b n behind rest → IsBehind behind t → IsBehind rest t
+pub behind_kids : (b : ℕ → Option (List ℕ)) (n : ℕ) (behind rest : List Entry) (t : Entry) → Inners b n behind rest → IsBehind behind t → IsBehind rest t
 behind_kids b n [] rest t h i = subst (λ l. IsBehind l t) (sym h) tt
 behind_kids b n (z ∷ zs) rest t (kids, more, at, e, h) i =
     subst (λ l. IsBehind l t) (sym (e ∙ ap (λ l. l ++ more) at.are)) (page_second z t at.first ∙ i)
 
-behind_more : (todo rest : List Entry) (t : Entry) → IsBehind todo t → IsBehind rest t → IsBehind (todo ++ rest) t
+pub behind_more : (todo rest : List Entry) (t : Entry) → IsBehind todo t → IsBehind rest t → IsBehind (todo ++ rest) t
 behind_more [] rest t h g = g
 behind_more (x ∷ todo) rest t h g = h
 

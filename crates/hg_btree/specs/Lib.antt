@@ -9,3 +9,7 @@ pub mod Deleting
 pub mod Life
 pub mod Cutting
 pub mod Putting
+pub mod Halving
+pub mod Rewriting
+pub mod Growing
+pub mod Planning

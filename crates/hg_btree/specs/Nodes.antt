@@ -8,7 +8,7 @@
 --   from 16 on   the entries one behind the other: two bytes length of the key, eight bytes place, the
 --                key, and in an inner page four bytes number of the child
 -- All numbers have their least byte first. All other bytes are zero.
-use Rattle.std.specs.Prelude.{◌≡◌, ℕ, ◌+◌, ◌^◌, ◌<◌, ◌≤◌, Bool, true, false, List, [], ◌∷◌, ◌++◌, length, take, drop, slice_index, Option, Some, None, ⊤}
+use Rattle.std.specs.Prelude.{◌≡◌, ℕ, ◌+◌, ◌^◌, ◌<◌, ◌≤◌, nat_lt, Bool, true, false, List, [], ◌∷◌, ◌++◌, length, take, drop, slice_index, Option, Some, None, ⊤}
 use Rattle.std.specs.Int.{w16, w32, w64, from_le_bytes, to_le_bytes}
 use Rattle.hg_btree.specs.Entries.{Entry, AllBy, Before, NotBehind, IsSame}
 
@@ -65,6 +65,10 @@ pub record IsNode (inner : Bool) (page : List ℕ) (level link : ℕ) (es : List
   pub fits : 16 + length (spelling inner es) ≤ 4096
   pub text : take (length (spelling inner es)) (drop 16 page) ≡ spelling inner es
   pub proper : AllBy IsProper es
+
+-- fewer bytes are free on a page than the longest entry takes
+abbrev pub crowded_page : List ℕ → Bool
+crowded_page page = nat_lt 4096 (number page 4 + 526)
 
 -- what the bytes from the place `at` on say of the entry that stands there
 pub record Reads (inner : Bool) (page : List ℕ) (at : ℕ) (e : Entry) : Type 0 where

@@ -3,6 +3,8 @@ use Rattle.std.specs.Prelude.{◌≡◌, ⊤}
 use Rattle.hg_base.specs.Space.{Space, key}
 use Rattle.hg_base.specs.Steadiness.{Mine, Steady, these_pages}
 use Rattle.hg_base.specs.declared.File.{File}
+use Rattle.hg_base.specs.declared.File.TheVariants as file
+use Rattle.hg_btree.specs.Rewriting.{IsNearlyFull}
 use Rattle.hg_base.specs.declared.PageId.{PageId}
 use Rattle.hg_base.specs.declared.Check.{Check}
 use Rattle.hg_base.specs.declared.Check.TheVariants.{Kind, Size, Frame, Link, Level, Order, RowBytes}
@@ -40,3 +42,12 @@ LookFault f fault.TempFault = ⊤
 LookFault f fault.MainFull = ⊥
 LookFault f fault.TempFull = ⊥
 LookFault f (fault.Damaged page check) = IsTreeCheck check × (page.file ≡ f)
+
+-- Why a call fails that takes pages: as one that takes none, or at most one page of its own file was not
+-- taken when it failed.
+abbrev pub GrowFault : File → Space → PageFault → Type 0
+GrowFault f b fault.MainFault = ⊤
+GrowFault f b fault.TempFault = ⊤
+GrowFault f b fault.MainFull = (f ≡ file.Main) × IsNearlyFull b f
+GrowFault f b fault.TempFull = (f ≡ file.Temp) × IsNearlyFull b f
+GrowFault f b (fault.Damaged page check) = IsTreeCheck check × (page.file ≡ f)

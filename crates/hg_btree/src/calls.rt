@@ -1,6 +1,6 @@
 //! The calls on a tree.
 
-use crate::{delete, life, seek};
+use crate::{delete, insert, life, seek};
 use arrayvec::ArrayVec;
 use hg_base::{File, PageFault, Pages, Tree};
 
@@ -15,7 +15,7 @@ use hg_base::{File, PageFault, Pages, Tree};
 /// is no page of a tree, `Level` of one whose level does not fit its place in the tree or that cannot be
 /// pinned, `Order` of a walk along more leaves than pages are taken.
 pub trait TreeCalls {
-    ghost use Rattle.std.specs.Prelude.{◌≡◌, ℕ, ◌^◌, ◌<◌, true, List, Some, IfOk, IfErr, OnOk, OnErr};
+    ghost use Rattle.std.specs.Prelude.{◌≡◌, ℕ, ◌^◌, ◌<◌, ◌≤◌, true, List, length, Some, IfOk, IfErr, OnOk, OnErr};
     ghost use Rattle.hg_base.specs.Space.{NoPins};
     ghost use Rattle.hg_base.specs.Causes.{HasCause, FreshFault, fault_of};
     ghost use Rattle.hg_base.specs.Steadiness.{Steady};
@@ -26,10 +26,33 @@ pub trait TreeCalls {
     ghost use Rattle.hg_btree.specs.Trees.{IsTree, HasTree};
     ghost use Rattle.hg_btree.specs.Life.{Makes, Ends};
     ghost use Rattle.hg_btree.specs.Deleting.{Deletes, pages_mine};
-    ghost use Rattle.hg_btree.specs.Steps.{Looks, LookFault};
+    ghost use Rattle.hg_btree.specs.Steps.{Looks, LookFault, GrowFault};
+    ghost use Rattle.hg_btree.specs.Growing.{Inserts, LineGrows, most_pages};
 
     // where the tree stands
     ghost stands: { Self → TreeOf };
+
+    /// Puts an entry in. False exactly where it was there; the entries then stay, as they do where the
+    /// call fails. Full pages on the way are split, so the tree's line may have more pages.
+    fn insert<S: Pages>(&mut self, space: &mut S, key: &[u8], at: u64) -> Result<bool, PageFault>
+        requires no_pins { NoPins (S.state space.old) }
+        requires line { (pages : List ℕ)
+            × IsLine (stands self.old).file (S.state space.old) (Some (stands self.old).top) pages }
+        requires short { length key.now ≤ 512 }
+        requires there { (S.state space.old).told ≡ true
+            → HasTree (stands self.old).file (S.state space.old) (stands self.old).top }
+        ensures inserts { (es : List Entry) (pages : List ℕ) (leaves : ℕ)
+            (h : IsTree (stands self.old).file (S.state space.old) (stands self.old).top es pages leaves)
+            → Inserts (stands self.old).file (S.state space.new) (stands self.old).top es
+            (most_pages (stands self.old).file (S.state space.old) (stands self.old).top h.levels (length pages)
+            (record { key = key.now; place = at; child = 0 })) leaves
+            (record { key = key.now; place = at; child = 0 }) result }
+        ensures line { (pages : List ℕ)
+            → IsLine (stands self.old).file (S.state space.old) (Some (stands self.old).top) pages
+            → LineGrows (stands self.old).file (S.state space.old) (S.state space.new) (stands self.old).top pages }
+        ensures same { stands self.new ≡ stands self.old }
+        ensures cause { HasCause (S.state space.old) (S.state space.new) (fault_of result) }
+        ensures fault { IfErr result (GrowFault (stands self.old).file (S.state space.new)) };
 
     /// Takes an entry out. False exactly where it is not there; the tree then stays.
     fn delete<S: Pages>(&mut self, space: &mut S, key: &[u8], at: u64) -> Result<bool, PageFault>
@@ -80,6 +103,10 @@ pub trait TreeCalls {
 
 impl TreeCalls for Tree {
     ghost stands = { λ t. t };
+
+    fn insert<S: Pages>(&mut self, space: &mut S, key: &[u8], at: u64) -> Result<bool, PageFault> {
+        insert::insert(*self, space, key, at)
+    }
 
     fn delete<S: Pages>(&mut self, space: &mut S, key: &[u8], at: u64) -> Result<bool, PageFault> {
         delete::delete(*self, space, key, at)

@@ -22,19 +22,29 @@
 //! the other. So a page that is cut in two changes its own level's list by one place and leaves the
 //! lists above and below as they were.
 //!
-//! This crate makes, reads, thins out and ends trees, and puts entries where they fit their leaf. The
-//! call that cuts full pages in two is not here yet; its steps on single pages are (`split`).
+//! A split reads the page and the one above it into copies, puts the halves together there, pins the pages
+//! and takes its new ones, and only then writes them whole: what fails before that has changed nothing. It
+//! is made on the way down, where the longest entry would not fit, so no step goes back up.
+//!
+//! A leaf is split where an entry does not fit it: in the middle, or, where the entry goes behind all of the
+//! last leaf, so that the old leaf stays full.
 #![tactic(auto)]
 
 mod calls;
 mod change;
+mod commit;
 mod delete;
+mod grow;
+mod halve;
+mod insert;
 mod life;
 mod look;
 mod node;
+mod plan;
 mod put;
 mod seek;
 mod split;
+mod store;
 #[cfg(test)]
 mod tests;
 mod write;

@@ -3,30 +3,32 @@ ghost use Rattle.std.specs.Prelude.{◌≡◌, ℕ, ◌<◌, true, false, List, 
 ghost use Rattle.hg_base.specs.Space.{NoPins, IsFree, IsPinned, IsSame, key as page_key};
 ghost use Rattle.hg_base.specs.Causes.{HasCause, fault_of};
 ghost use Rattle.hg_btree.specs.Entries.{Entry, AllBy, Before};
-ghost use Rattle.hg_btree.specs.Nodes.{IsNode, IsWay, IsFirst, page_number};
+ghost use Rattle.hg_btree.specs.Nodes.{IsNode, IsWay, IsFirst, page_number, crowded_page};
 ghost use Rattle.hg_btree.specs.Looking.{LeadsFrom, IsTreePage, SeeksOn};
 ghost use Rattle.hg_btree.specs.Steps.{Looks, IsTreeCheck, LookFault};
 
-use crate::node::{first_from, level_of, page_number_at, way};
+use crate::node::{first_from, is_crowded, level_of, page_number_at, way};
 use arrayvec::ArrayVec;
 use hg_base::{Check, PageFault, PageId, Pages};
 
 /// Where a leaf names the next one.
-const NEXT: usize = 8;
+pub const NEXT: usize = 8;
 
-/// What was found on a page on the way down: its level, 0 of a leaf, and the page where the way leads on,
-/// which is none that counts where it is a leaf.
+/// What was found on a page on the way down: its level, 0 of a leaf, whether it is crowded, and the page
+/// where the way leads on, which is none that counts where it is a leaf.
 #[derive(Clone, Copy)]
 pub struct Found {
     pub level: u8,
+    pub crowded: bool,
     pub child: u32,
 }
 
 /// Pins a page whose number may be any. One that cannot be pinned is damage.
 pub fn open<S: Pages>(space: &mut S, page: PageId) -> Result<S::Pin, PageFault>
-    requires out { NoPins (S.state space.old) }
+    requires few { (S.state space.old).pins < 8 }
     requires free { (S.state space.old).told ≡ true → IsFree (S.state space.old) page }
     ensures names { IfOk result (λ pin. S.pin_page pin ≡ page) }
+    ensures was_free { OnOk result (IsFree (S.state space.old) page) }
     ensures ok { OnOk result (IsPinned (S.state space.old) (S.state space.new) (page_key page)) }
     ensures err { OnErr result (IsSame (S.state space.old) (S.state space.new)) }
     ensures cause { HasCause (S.state space.old) (S.state space.new) (fault_of result) }
@@ -46,15 +48,22 @@ fn lead(page: &[u8], key: &[u8], place: u64) -> Result<Found, Check>
     requires { length page.now ≡ 4096 }
     ensures sound { IsTreePage page.now → IsOk result }
     ensures leads { IfOk result (λ found. LeadsFrom page.now (record { key = key.now; place = place; child = 0 }) found.level found.child) }
+    ensures crowded { IfOk result (λ found. found.crowded ≡ crowded_page page.now) }
     ensures wrong { IfErr result IsTreeCheck }
 {
     let level = level_of(page)?;
+    let crowded = is_crowded(page);
     if level == 0 {
-        return Ok(Found { level, child: 0 });
+        return Ok(Found {
+            level,
+            crowded,
+            child: 0,
+        });
     }
     let onward = way(page, key, place)?;
     Ok(Found {
         level,
+        crowded,
         child: onward.child,
     })
 }
@@ -71,6 +80,8 @@ pub fn look<S: Pages>(
     requires sound { (S.state space.old).told ≡ true → (bytes : List ℕ) × ((S.state space.old).bytes (page_key page) ≡ Some bytes) × IsTreePage bytes }
     ensures leads { IfOk result (λ found. (bytes : List ℕ) → (S.state space.old).bytes (page_key page) ≡ Some bytes
         → LeadsFrom bytes (record { key = key.now; place = place; child = 0 }) found.level found.child) }
+    ensures crowded { IfOk result (λ found. (bytes : List ℕ) → (S.state space.old).bytes (page_key page) ≡ Some bytes
+        → found.crowded ≡ crowded_page bytes) }
     ensures looks { Looks (S.state space.old) (S.state space.new) }
     ensures cause { HasCause (S.state space.old) (S.state space.new) (fault_of result) }
     ensures fault { IfErr result (LookFault page.file) }

@@ -2,7 +2,7 @@
 ghost use Rattle.std.specs.Prelude.{◌≡◌, ℕ, ◌+◌, ◌-◌, ◌*◌, ◌≤◌, ◌<◌, ◌^◌, Bool, true, false, List, length, take, drop, Some, None, IsOk, IfOk, Ok, IfErr, OnErr, slice_index, ◌⊎◌};
 ghost use Rattle.std.specs.Ordering.{is_gt};
 ghost use Rattle.hg_btree.specs.Entries.{Entry, order};
-ghost use Rattle.hg_btree.specs.Nodes.{number, page_number, place_at, width, IsNode, Reads, Passed, IsSpot, IsWay, IsFirst, kind_of};
+ghost use Rattle.hg_btree.specs.Nodes.{number, page_number, place_at, width, IsNode, Reads, Passed, IsSpot, IsWay, IsFirst, kind_of, crowded_page};
 
 use arrayvec::ArrayVec;
 use hg_base::{Check, get_u16, get_u32, get_u64};
@@ -24,6 +24,9 @@ pub const INNER: u8 = 0x4e;
 
 /// The bytes of an entry before its key: the key's length and the place.
 pub const BEFORE_KEY: usize = 10;
+
+/// The bytes of the longest entry: one of an inner page with a key of 512 bytes.
+pub const LONGEST: usize = 526;
 
 /// Where an entry stands on a page, or would stand: it begins at the byte `at`. `after` is where it ends
 /// if it is there, and else `at` again.
@@ -60,6 +63,14 @@ pub fn place_of(page: &[u8], at: usize) -> u64
     ensures { result ≡ place_at page.now at }
 {
     get_u64(page, at)
+}
+
+/// Whether fewer bytes are free on a page than the longest entry takes.
+pub fn is_crowded(page: &[u8]) -> bool
+    requires { length page.now ≡ 4096 }
+    ensures { result ≡ crowded_page page.now }
+{
+    number_at(page, FREE) + LONGEST > PAGE
 }
 
 /// How many bytes a child takes in an entry.

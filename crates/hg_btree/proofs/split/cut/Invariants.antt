@@ -8,6 +8,7 @@ abbrev pub invariant-loop-at : goal.invariant-loop-at
 invariant-loop-at l = record {
   from : 16 ≤ l.at;
   to : l.at ≤ l.end;
+  near : l.at ≤ l.middle + 526;
   few : 10 * l.count + 16 ≤ l.at;
   counted : (level link : ℕ) (es : List Entry) → IsNode l.inner l.page level link es → Counted l.inner es l.at l.count;
 }
