@@ -9,7 +9,7 @@ use Rattle.hg_base.specs.declared.pages.PageFault.{PageFault}
 use Rattle.hg_base.specs.declared.pages.PageFault.TheVariants as fault
 use Rattle.hg_model.specs.declared.values.Value.{Value}
 use Rattle.hg_machine.specs.State.{State, IsTableAt}
-use Rattle.hg_machine.specs.Reply.{Reply as ReplyOf, unknown_table, row, at_end, closed}
+use Rattle.hg_machine.specs.Reply.{unknown_table, row, at_end, closed}
 use Rattle.hg_machine.specs.Run.{Turn}
 use Rattle.hg_machine.specs.Select.{Selects, rows_found, rows_unknown}
 use Rattle.hg_reply.specs.Steps.{TellsFound, TellOnlyFound}
