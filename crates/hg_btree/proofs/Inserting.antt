@@ -102,24 +102,6 @@ puts file a m b page top es pages leaves leaf t put.Old l h r pe ch = put_old fi
 puts file a m b page top es pages leaves leaf t put.NoRoom l h r pe ch =
     tree_stays file m b top es pages leaves ch.looks (at_leaf file a m top es pages leaves leaf t l h r).tree
 
-pub put_steady : (file : File) (a m b : Space) (page : PageId) (top : ℕ) (pages : List ℕ) (leaf : ℕ) (t : Entry) (how : Put) → Looks a m
-    → ((es : List Entry) (ps : List ℕ) (leaves : ℕ) (h : IsTree file a top es ps leaves) → Reached top h.levels t 0 leaf)
-    → (a.told ≡ true → HasTree file a top) → page ≡ record { file = file; no = leaf } → IsLine file a (Some top) pages → PutsInto m b page t how
-    → Steady (pages_mine file pages) a b
-put_steady file a m b page top pages leaf t put.New l r has pe line ch =
-    Steady_then (pages_mine file pages) a m b (none_wider (pages_mine file pages) a m l.steady)
-    (changed_steady file m b page _ pages leaf m.told refl pe
-    (λ told.
-    let h = has (sym l.steady.told ∙ told) in
-    let u = reached_used top h.tree.levels t 0 leaf (r h.es h.pages h.leaves h.tree) in
-    let o = h.tree.owns leaf in
-    subst (λ k. has_page k leaf ≡ true) (line_one file a (Some top) h.pages pages h.tree.line line) (times_has h.pages leaf (omega arith)))
-    ch)
-put_steady file a m b page top pages leaf t put.Old l r has pe line ch =
-    Steady_then (pages_mine file pages) a m b (none_wider (pages_mine file pages) a m l.steady) (none_wider (pages_mine file pages) m b ch.looks.steady)
-put_steady file a m b page top pages leaf t put.NoRoom l r has pe line ch =
-    Steady_then (pages_mine file pages) a m b (none_wider (pages_mine file pages) a m l.steady) (none_wider (pages_mine file pages) m b ch.looks.steady)
-
 -- by the three ways in which it may end
 pub into : (a d : Space) (page : PageId) (t : Entry) (how : Put) → (how ≡ put.New → PutsInto a d page t put.New) → (how ≡ put.Old → PutsInto a d page t put.Old)
     → (how ≡ put.NoRoom → PutsInto a d page t put.NoRoom) → PutsInto a d page t how
