@@ -1,7 +1,8 @@
 -- A tree and its line between calls.
-use Rattle.std.specs.Prelude.{◌≡◌, ℕ, ◌<◌, Bool, true, false, List, [], ◌∷◌, length, Some, Result, Ok, Err}
+use Rattle.std.specs.Prelude.{◌≡◌, ℕ, ◌<◌, Bool, true, false, List, [], ◌∷◌, length, Some, Result, Ok, Err, IfOk, OnOk, OnErr}
 use Rattle.std.proofs.Common.{sym, ◌∙◌, ap, subst}
 use Rattle.hg_base.specs.Space.{Space, NoPins, key_in}
+use Rattle.hg_base.specs.Steadiness.{Steady}
 use Rattle.hg_base.specs.Lines.{IsLine}
 use Rattle.hg_base.specs.LineLaws.{IsSameLink, line_stays, all_map}
 use Rattle.hg_base.specs.declared.File.{File}
@@ -12,6 +13,7 @@ use Rattle.hg_btree.specs.Entries.{Entry}
 use Rattle.hg_btree.specs.Trees.{IsTree, HasTree}
 use Rattle.hg_btree.specs.Steps.{Looks}
 use Rattle.hg_btree.specs.Leaf.{ChangesPage, TakesFrom}
+use Rattle.hg_btree.specs.Deleting.{Deletes, pages_mine}
 use Rattle.hg_btree.specs.Life.{Makes}
 use Rattle.hg_btree.specs.Growing.{LineGrows, Inserts, most_pages}
 use Rattle.hg_btree.specs.Kept.{IsReady}
@@ -76,3 +78,27 @@ ready_made file a b tree m = record {
     tree = subst (λ f. IsTree f b tree.top [] (tree.top ∷ []) 1) (sym m.in_file) (m.is_tree (sym m.steady.told ∙ told));
   };
 }
+
+deleted_has : (file : File) (b : Space) (top : ℕ) (es : List Entry) (pages : List ℕ) (leaves : ℕ) (t : Entry) (gone : Bool) → Deletes file b top es pages leaves t gone → HasTree file b top
+deleted_has file b top es pages leaves t true w = record { es = w.now; pages = pages; leaves = leaves; tree = w.tree }
+deleted_has file b top es pages leaves t false w = record { es = es; pages = pages; leaves = leaves; tree = w.1 }
+
+pub ready_deleted : (a b : Space) (tree : Tree) (t : Entry) (result : Result Bool PageFault)
+    → IfOk result (λ gone. (es : List Entry) (pages : List ℕ) (leaves : ℕ) → IsTree tree.file a tree.top es pages leaves → Deletes tree.file b tree.top es pages leaves t gone)
+    → OnOk result ((pages : List ℕ) → IsLine tree.file a (Some tree.top) pages → Steady (pages_mine tree.file pages) a b)
+    → OnErr result (Looks a b) → ((pages : List ℕ) → IsLine tree.file a (Some tree.top) pages → IsLine tree.file b (Some tree.top) pages) → IsReady a tree → IsReady b tree
+ready_deleted a b tree t (Ok gone) deletes steady err line r =
+    let s : Steady (pages_mine tree.file r.pages) a b = steady r.pages r.line in
+    record {
+      no_pins = s.pins_after;
+      pages = r.pages;
+      line = line r.pages r.line;
+      there = λ told.
+          let h : HasTree tree.file a tree.top = r.there (sym s.told ∙ told) in
+          deleted_has tree.file b tree.top h.es h.pages h.leaves t gone (deletes h.es h.pages h.leaves h.tree);
+    }
+ready_deleted a b tree t (Err f) deletes steady err line r = ready_looked a b tree err r
+
+pub ready_begun : (file : File) (a b : Space) (result : Result Tree PageFault) → IfOk result (Makes file a b) → IfOk result (λ tree. IsReady b tree)
+ready_begun file a b (Ok tree) m = ready_made file a b tree m
+ready_begun file a b (Err f) m = tt
