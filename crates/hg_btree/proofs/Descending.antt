@@ -1,5 +1,5 @@
 -- The way down of an insertion.
-use Rattle.std.specs.Prelude.{◌≡◌, ◌≢◌, ℕ, ◌+◌, ◌-◌, ◌<◌, ◌≤◌, not, nat_lt, zero, suc, Bool, true, false, List, [], ◌∷◌, ◌++◌, length, Option, Some, Result, Ok, Err, OnErr, IfOk, ◌⊎◌, if◌then◌else◌}
+use Rattle.std.specs.Prelude.{◌≡◌, ℕ, ◌+◌, ◌-◌, ◌<◌, ◌≤◌, not, nat_lt, zero, suc, Bool, true, false, List, [], ◌∷◌, ◌++◌, length, Some, Result, Ok, Err, OnErr, IfOk, ◌⊎◌, if◌then◌else◌}
 use Rattle.std.proofs.Common.{sym, ◌∙◌, ap, subst, refl, arith, append_assoc, length-append, inl, inr}
 use Rattle.std.proofs.lemmas.Bool.{false≢true}
 use Rattle.hg_base.specs.Space.{Space, NoPins, key, key_in}
@@ -8,17 +8,14 @@ use Rattle.hg_base.specs.declared.PageId.{PageId}
 use Rattle.hg_btree.specs.Entries.{Entry, NotBehind, Ordered, is_below}
 use Rattle.hg_btree.specs.Nodes.{number, IsBehind, crowded_page}
 use Rattle.std.proofs.lemmas.Bool.Decides.{nat_tests}
-use Rattle.hg_btree.specs.Looking.{LeadsFrom}
 use Rattle.hg_btree.specs.Trees.{pages_of, root, uses_in, AllSorted, IsTree, HasTree, Reached}
 use Rattle.hg_btree.specs.Steps.{Looks}
 use Rattle.hg_btree.specs.Growing.{crowded_one, crowded_at, crowded_on, most_pages, HasRoom, OnWay, AboveCrowded, CrowdedTop, AtStep, FindsHere, IsTreeNow, leaves_after}
 use Rattle.hg_btree.proofs.Orders.{not_behind_trans, least_first}
 use Rattle.hg_btree.proofs.Reading.{all_behind}
-use Rattle.hg_btree.proofs.Walking.{sorted_at, level_below, reached_used, uses_here, uses_in-append}
+use Rattle.hg_btree.proofs.Walking.{sorted_at, reached_used, uses_here, uses_in-append}
 use Rattle.hg_btree.proofs.Leaves.{tree_stays, tree_stays-levels}
-use Rattle.hg_btree.proofs.Stepping.{crowded_same, crowded_here}
-use Rattle.hg_btree.proofs.Splits.{on_levels}
-use Rattle.hg_btree.proofs.Seeking.{led}
+use Rattle.hg_btree.proofs.Stepping.{crowded_same}
 use Rattle.hg_btree.proofs.Grown.{tree_bytes, above_stays}
 use Rattle.hg_btree.proofs.Heights.{pages_few}
 use Rattle.hg_btree.proofs.Planning.{page_at}

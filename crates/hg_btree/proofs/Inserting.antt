@@ -1,26 +1,21 @@
 -- An insertion into a leaf, from the leaf to the tree.
 use Rattle.std.specs.Prelude.{◌≡◌, ℕ, ◌+◌, true, false, List, [], ◌∷◌, ◌++◌, length, Some}
-use Rattle.std.proofs.Common.{sym, ◌∙◌, ap, subst, refl, arith, append_assoc}
+use Rattle.std.proofs.Common.{sym, ◌∙◌, ap, subst, refl, append_assoc}
 use Rattle.hg_base.specs.Space.{Space, key, key_in}
-use Rattle.hg_base.specs.Steadiness.{Steady}
-use Rattle.hg_base.specs.SteadyLaws.{Steady_then}
-use Rattle.hg_base.specs.Lines.{IsLine, has_page}
-use Rattle.hg_base.specs.LineLaws.{line_one}
 use Rattle.hg_base.specs.declared.File.{File}
 use Rattle.hg_base.specs.declared.PageId.{PageId}
 use Rattle.hg_btree.specs.declared.change.Put.{Put}
 use Rattle.hg_btree.specs.declared.change.Put.TheVariants as put
 use Rattle.hg_btree.specs.Entries.{Entry, AllBy, Before, Ordered, NotBehind}
 use Rattle.hg_btree.specs.Nodes.{spelling, IsNode, IsSpot, IsThere}
-use Rattle.hg_btree.specs.Trees.{pages_of, first_page, AllBefore, IsTree, HasTree, Reached}
+use Rattle.hg_btree.specs.Trees.{pages_of, first_page, AllBefore, IsTree, Reached}
 use Rattle.hg_btree.specs.Steps.{Looks}
-use Rattle.hg_btree.specs.Deleting.{pages_mine}
 use Rattle.hg_btree.specs.Putting.{Adds, Has, PutsInto, IsTreeWith, Puts}
 use Rattle.hg_btree.proofs.Reading.{all_append}
-use Rattle.hg_btree.proofs.Walking.{leaf_here, reached_used, times_has, ordered_front, ordered_behind}
+use Rattle.hg_btree.proofs.Walking.{leaf_here, ordered_front, ordered_behind}
 use Rattle.hg_btree.proofs.Changing.{ordered_with, all_from, before_with, from_with}
 use Rattle.hg_btree.proofs.Leaves.{tree_stays, tree_leaf}
-use Rattle.hg_btree.proofs.Deleting.{AtLeaf, at_leaf, none_wider, changed_steady}
+use Rattle.hg_btree.proofs.Deleting.{AtLeaf, at_leaf}
 
 -- ---- at a spot
 

@@ -1,7 +1,7 @@
 -- A tree and its line between calls.
-use Rattle.std.specs.Prelude.{◌≡◌, ℕ, ◌<◌, Bool, true, false, List, [], ◌∷◌, length, Some, Result, Ok, Err, IfOk, OnOk, OnErr}
+use Rattle.std.specs.Prelude.{◌≡◌, ℕ, Bool, true, false, List, [], ◌∷◌, length, Some, Result, Ok, Err, IfOk, OnOk, OnErr}
 use Rattle.std.proofs.Common.{sym, ◌∙◌, ap, subst}
-use Rattle.hg_base.specs.Space.{Space, NoPins, key_in}
+use Rattle.hg_base.specs.Space.{Space, key_in}
 use Rattle.hg_base.specs.Steadiness.{Steady}
 use Rattle.hg_base.specs.Lines.{IsLine}
 use Rattle.hg_base.specs.LineLaws.{IsSameLink, line_stays, all_map}

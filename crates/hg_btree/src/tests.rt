@@ -205,14 +205,17 @@ fn round<S: Pages>(space: &mut S, many: u32) -> Result<Totals, PageFault>
 #[test]
 fn descending_keys_are_walked_ascending(rt: HostRuntime) -> Result<(), Fail> {
     let mut space = PlainSpace::new(rt.alloc());
-    assert_eq!(rt; round(&mut space, 3_000)?, Totals {
-        new: 3_000,
-        again: 0,
-        walked: 3_000,
-        out: 1_500,
-        rest: 1_500,
-        several: true,
-        left: 0,
-    });
+    assert_eq!(rt;
+        round(&mut space, 3_000)?,
+        Totals {
+            new: 3_000,
+            again: 0,
+            walked: 3_000,
+            out: 1_500,
+            rest: 1_500,
+            several: true,
+            left: 0,
+        }
+    );
     Ok(())
 }
