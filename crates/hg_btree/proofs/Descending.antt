@@ -1,5 +1,5 @@
 -- The way down of an insertion.
-use Rattle.std.specs.Prelude.{◌≡◌, ◌≢◌, ℕ, ◌+◌, ◌-◌, ◌<◌, ◌≤◌, not, nat_lt, zero, suc, Bool, true, false, List, [], ◌∷◌, ◌++◌, length, Option, Some, Result, Ok, Err, OnErr, IfOk, ◌⊎◌, if◌then◌else◌}
+use Rattle.std.specs.Prelude.{◌≡◌, ℕ, ◌+◌, ◌-◌, ◌<◌, ◌≤◌, not, nat_lt, zero, suc, Bool, true, false, List, [], ◌∷◌, ◌++◌, length, Some, Result, Ok, Err, OnErr, IfOk, ◌⊎◌, if◌then◌else◌}
 use Rattle.std.proofs.Common.{sym, ◌∙◌, ap, subst, refl, arith, append_assoc, length-append, inl, inr}
 use Rattle.std.proofs.lemmas.Bool.{false≢true}
 use Rattle.hg_base.specs.Space.{Space, NoPins, key, key_in}
@@ -8,22 +8,19 @@ use Rattle.hg_base.specs.declared.PageId.{PageId}
 use Rattle.hg_btree.specs.Entries.{Entry, NotBehind, Ordered, is_below}
 use Rattle.hg_btree.specs.Nodes.{number, IsBehind, crowded_page}
 use Rattle.std.proofs.lemmas.Bool.Decides.{nat_tests}
-use Rattle.hg_btree.specs.Looking.{LeadsFrom}
 use Rattle.hg_btree.specs.Trees.{pages_of, root, uses_in, AllSorted, IsTree, HasTree, Reached}
 use Rattle.hg_btree.specs.Steps.{Looks}
 use Rattle.hg_btree.specs.Growing.{crowded_one, crowded_at, crowded_on, most_pages, HasRoom, OnWay, AboveCrowded, CrowdedTop, AtStep, FindsHere, IsTreeNow, leaves_after}
 use Rattle.hg_btree.proofs.Orders.{not_behind_trans, least_first}
 use Rattle.hg_btree.proofs.Reading.{all_behind}
-use Rattle.hg_btree.proofs.Walking.{sorted_at, level_below, reached_used, uses_here, uses_in-append}
+use Rattle.hg_btree.proofs.Walking.{sorted_at, reached_used, uses_here, uses_in-append}
 use Rattle.hg_btree.proofs.Leaves.{tree_stays, tree_stays-levels}
-use Rattle.hg_btree.proofs.Stepping.{crowded_same, crowded_here}
-use Rattle.hg_btree.proofs.Splits.{on_levels}
-use Rattle.hg_btree.proofs.Seeking.{led}
+use Rattle.hg_btree.proofs.Stepping.{crowded_same}
 use Rattle.hg_btree.proofs.Grown.{tree_bytes, above_stays}
 use Rattle.hg_btree.proofs.Heights.{pages_few}
 use Rattle.hg_btree.proofs.Planning.{page_at}
 use Rattle.hg_base.specs.Lines.{IsLine, has_page}
-use Rattle.hg_base.specs.LineLaws.{IsSameLink, line_stays, all_map, line_one}
+use Rattle.hg_base.specs.LineLaws.{line_one}
 use Rattle.hg_btree.specs.declared.change.Put.{Put}
 use Rattle.hg_btree.specs.declared.change.Put.TheVariants as put
 use Rattle.hg_btree.specs.Putting.{Puts, PutsInto, IsFullFor}
@@ -31,6 +28,7 @@ use Rattle.hg_btree.specs.Growing.{LineGrows, AtFullLeaf, IsTreeNowWith}
 use Rattle.hg_btree.proofs.Splitting.{crowded_less}
 use Rattle.hg_btree.proofs.Deleting.{changed_steady}
 use Rattle.hg_btree.proofs.Grown.{line_looked}
+use Rattle.hg_btree.proofs.Keeping.{line_changed}
 use Rattle.hg_btree.proofs.Walking.{times_has, leaf_here}
 
 -- ---- one page a level
@@ -266,9 +264,7 @@ put_line file m b page top pages leaf t put.Old pe h l ch = line_looked file m b
 put_line file m b page top pages leaf t put.NoRoom pe h l ch = line_looked file m b top pages ch.looks l
 put_line file m b page top pages leaf t put.New pe h l ch = record {
   now = pages;
-  line = line_stays file m b (Some top) pages ch.steady.limit
-      (all_map (λ x. m.of_heap (key_in file x) ≡ false) (λ x. IsSameLink m b (key_in file x)) pages
-      (λ x _. record { taken = ap (λ f. f (key_in file x)) ch.taken; of_heap = ap (λ f. f (key_in file x)) ch.of_heap; next = ap (λ f. f (key_in file x)) ch.links }) l.no_heap) l;
+  line = line_changed file m b page _ top pages ch l;
   kept = λ n e. e;
   more = λ n e. inl e;
   steady = changed_steady file m b page _ pages leaf m.told refl pe h ch;

@@ -1,17 +1,17 @@
 -- How a tree grows by one page: a page of a level is cut in two, and the page above it has one child
 -- more.
-use Rattle.std.specs.Prelude.{◌≡◌, ◌≢◌, ℕ, ◌+◌, ◌<◌, ◌≤◌, zero, suc, Bool, true, false, List, [], ◌∷◌, ◌++◌, length, Option, Some}
-use Rattle.std.proofs.Common.{sym, ◌∙◌, ap, subst, refl, arith, append_assoc, length-append}
+use Rattle.std.specs.Prelude.{◌≡◌, ◌≢◌, ℕ, ◌+◌, ◌≤◌, true, List, [], ◌∷◌, ◌++◌, length, Option, Some}
+use Rattle.std.proofs.Common.{sym, ◌∙◌, ap, subst, refl, arith, append_assoc}
 use Rattle.hg_btree.specs.Entries.{Entry, AllBy, Before, Ordered, NotBehind}
-use Rattle.hg_btree.specs.Nodes.{spelling, IsNode, IsBehind, IsWay}
+use Rattle.hg_btree.specs.Nodes.{spelling, IsBehind, IsWay}
 use Rattle.hg_btree.specs.Trees.{first_page, AllBefore, IsLeafAt, with_page, IsInnerAt, Leaves, Inners, Chained, root, AllSorted, Reached}
 use Rattle.hg_btree.specs.Halving.{AreInnerHalves, AreLeafHalves}
 use Rattle.hg_btree.proofs.Orders.{page_first, page_second, before_not_behind}
-use Rattle.hg_btree.proofs.Reading.{all_append, all_front, all_behind}
-use Rattle.hg_btree.proofs.Walking.{all_weaker, ordered_front, ordered_behind, none_behind, leaves_join, inners_join, last_passed, behind_kids, behind_more, InnerHere, LeafHere, sorted_at, inner_here, leaf_here, uses-append, uses_in-append, uses_here}
-use Rattle.hg_btree.proofs.Changing.{Agree, AreChained, inners_same, leaves_same, chained_same, chained_swap}
+use Rattle.hg_btree.proofs.Reading.{all_front, all_behind}
+use Rattle.hg_btree.proofs.Walking.{all_weaker, ordered_front, ordered_behind, none_behind, leaves_join, last_passed, behind_kids, behind_more, InnerHere, uses-append, uses_in-append, uses_here}
+use Rattle.hg_btree.proofs.Changing.{Agree}
 use Rattle.hg_btree.specs.Trees.{uses, uses_in, lowest}
-use Rattle.hg_btree.proofs.Halving.{leaves_tail, inner_cut, inners_cut, kids_cut, first_not_behind, sorted_cut}
+use Rattle.hg_btree.proofs.Halving.{leaves_tail, inner_cut, inners_cut, first_not_behind}
 
 -- ---- a leaf
 

@@ -4,14 +4,12 @@ use Rattle.std.specs.List.{AllByRecursion}
 use Rattle.std.proofs.Common.{sym, ◌∙◌, ap, subst, refl, arith, inl, inr}
 use Rattle.std.proofs.lemmas.Bool.Decides.{nat_tests}
 use Rattle.std.proofs.lemmas.Bool.{false≢true, cases_eq, eq-eqb}
-use Rattle.hg_base.specs.Space.{Space, NoPins, IsFree, key, key_in, at}
-use Rattle.hg_base.specs.Steadiness.{Steady, these_pages}
+use Rattle.hg_base.specs.Space.{Space, NoPins, key, key_in, at}
 use Rattle.hg_base.specs.SteadyLaws.{Steady_then, Steady_wider}
 use Rattle.hg_base.specs.TakenLaws.{key_in-one}
 use Rattle.hg_base.specs.Lines.{IsLine, has_page}
-use Rattle.hg_base.specs.LineLaws.{line_one, line_steady, distinct-taken, all_map, all_has}
+use Rattle.hg_base.specs.LineLaws.{line_steady}
 use Rattle.hg_base.specs.declared.File.{File}
-use Rattle.hg_base.specs.declared.PageId.{PageId}
 use Rattle.hg_btree.specs.Entries.{Entry, Before, NotBehind}
 use Rattle.hg_btree.specs.Nodes.{spelling, IsNode, crowded_page}
 use Rattle.hg_btree.specs.Trees.{pages_of, root, uses_in, times, IsTree, Reached}
@@ -28,8 +26,7 @@ use Rattle.hg_btree.proofs.Walking.{uses_in-append, reached_used}
 use Rattle.hg_btree.proofs.Touching.{at-here}
 use Rattle.hg_btree.proofs.Parting.{halves_linked}
 use Rattle.hg_btree.proofs.Stepping.{ChildHalves, crowded_same}
-use Rattle.hg_btree.proofs.Planning.{page_at}
-use Rattle.hg_btree.proofs.Rewriting.{at-other, LinksOne, Lined, line_more, rewritten_steady}
+use Rattle.hg_btree.proofs.Rewriting.{at-other, LinksOne, line_more, rewritten_steady}
 use Rattle.hg_btree.proofs.Splits.{split_on}
 
 -- ---- the line

@@ -1,6 +1,6 @@
 -- How many levels and pages a tree may have.
-use Rattle.std.specs.Prelude.{◌≡◌, ℕ, ◌+◌, ◌-◌, ◌*◌, ◌<◌, ◌≤◌, ◌^◌, zero, suc, List, [], ◌∷◌, ◌++◌, length, Option, Some}
-use Rattle.std.proofs.Common.{sym, ◌∙◌, ap, subst, refl, arith, length-append}
+use Rattle.std.specs.Prelude.{◌≡◌, ℕ, ◌+◌, ◌-◌, ◌*◌, ◌<◌, ◌≤◌, ◌^◌, zero, suc, List, [], ◌∷◌, length, Option, Some}
+use Rattle.std.proofs.Common.{◌∙◌, ap, subst, refl, arith, length-append}
 use Rattle.hg_base.specs.Space.{Space}
 use Rattle.hg_base.specs.LineLaws.{line_few}
 use Rattle.hg_base.specs.TakenLaws.{taken_below-le}

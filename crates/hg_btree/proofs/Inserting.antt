@@ -1,26 +1,21 @@
 -- An insertion into a leaf, from the leaf to the tree.
 use Rattle.std.specs.Prelude.{◌≡◌, ℕ, ◌+◌, true, false, List, [], ◌∷◌, ◌++◌, length, Some}
-use Rattle.std.proofs.Common.{sym, ◌∙◌, ap, subst, refl, arith, append_assoc}
+use Rattle.std.proofs.Common.{sym, ◌∙◌, ap, subst, refl, append_assoc}
 use Rattle.hg_base.specs.Space.{Space, key, key_in}
-use Rattle.hg_base.specs.Steadiness.{Steady}
-use Rattle.hg_base.specs.SteadyLaws.{Steady_then}
-use Rattle.hg_base.specs.Lines.{IsLine, has_page}
-use Rattle.hg_base.specs.LineLaws.{line_one}
 use Rattle.hg_base.specs.declared.File.{File}
 use Rattle.hg_base.specs.declared.PageId.{PageId}
 use Rattle.hg_btree.specs.declared.change.Put.{Put}
 use Rattle.hg_btree.specs.declared.change.Put.TheVariants as put
 use Rattle.hg_btree.specs.Entries.{Entry, AllBy, Before, Ordered, NotBehind}
 use Rattle.hg_btree.specs.Nodes.{spelling, IsNode, IsSpot, IsThere}
-use Rattle.hg_btree.specs.Trees.{pages_of, first_page, AllBefore, IsTree, HasTree, Reached}
+use Rattle.hg_btree.specs.Trees.{pages_of, first_page, AllBefore, IsTree, Reached}
 use Rattle.hg_btree.specs.Steps.{Looks}
-use Rattle.hg_btree.specs.Deleting.{pages_mine}
 use Rattle.hg_btree.specs.Putting.{Adds, Has, PutsInto, IsTreeWith, Puts}
 use Rattle.hg_btree.proofs.Reading.{all_append}
-use Rattle.hg_btree.proofs.Walking.{leaf_here, reached_used, times_has, ordered_front, ordered_behind}
+use Rattle.hg_btree.proofs.Walking.{leaf_here, ordered_front, ordered_behind}
 use Rattle.hg_btree.proofs.Changing.{ordered_with, all_from, before_with, from_with}
 use Rattle.hg_btree.proofs.Leaves.{tree_stays, tree_leaf}
-use Rattle.hg_btree.proofs.Deleting.{AtLeaf, at_leaf, none_wider, changed_steady}
+use Rattle.hg_btree.proofs.Deleting.{AtLeaf, at_leaf}
 
 -- ---- at a spot
 
@@ -101,24 +96,6 @@ puts file a m b page top es pages leaves leaf t put.New l h r pe ch = put_new fi
 puts file a m b page top es pages leaves leaf t put.Old l h r pe ch = put_old file m b page top es pages leaves leaf t (at_leaf file a m top es pages leaves leaf t l h r) pe ch
 puts file a m b page top es pages leaves leaf t put.NoRoom l h r pe ch =
     tree_stays file m b top es pages leaves ch.looks (at_leaf file a m top es pages leaves leaf t l h r).tree
-
-pub put_steady : (file : File) (a m b : Space) (page : PageId) (top : ℕ) (pages : List ℕ) (leaf : ℕ) (t : Entry) (how : Put) → Looks a m
-    → ((es : List Entry) (ps : List ℕ) (leaves : ℕ) (h : IsTree file a top es ps leaves) → Reached top h.levels t 0 leaf)
-    → (a.told ≡ true → HasTree file a top) → page ≡ record { file = file; no = leaf } → IsLine file a (Some top) pages → PutsInto m b page t how
-    → Steady (pages_mine file pages) a b
-put_steady file a m b page top pages leaf t put.New l r has pe line ch =
-    Steady_then (pages_mine file pages) a m b (none_wider (pages_mine file pages) a m l.steady)
-    (changed_steady file m b page _ pages leaf m.told refl pe
-    (λ told.
-    let h = has (sym l.steady.told ∙ told) in
-    let u = reached_used top h.tree.levels t 0 leaf (r h.es h.pages h.leaves h.tree) in
-    let o = h.tree.owns leaf in
-    subst (λ k. has_page k leaf ≡ true) (line_one file a (Some top) h.pages pages h.tree.line line) (times_has h.pages leaf (omega arith)))
-    ch)
-put_steady file a m b page top pages leaf t put.Old l r has pe line ch =
-    Steady_then (pages_mine file pages) a m b (none_wider (pages_mine file pages) a m l.steady) (none_wider (pages_mine file pages) m b ch.looks.steady)
-put_steady file a m b page top pages leaf t put.NoRoom l r has pe line ch =
-    Steady_then (pages_mine file pages) a m b (none_wider (pages_mine file pages) a m l.steady) (none_wider (pages_mine file pages) m b ch.looks.steady)
 
 -- by the three ways in which it may end
 pub into : (a d : Space) (page : PageId) (t : Entry) (how : Put) → (how ≡ put.New → PutsInto a d page t put.New) → (how ≡ put.Old → PutsInto a d page t put.Old)

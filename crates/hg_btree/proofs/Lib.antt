@@ -22,3 +22,4 @@ pub mod Planning
 pub mod Grown
 pub mod Tops
 pub mod Descending
+pub mod Keeping

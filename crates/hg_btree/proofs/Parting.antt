@@ -1,10 +1,10 @@
 -- What both halves of a page are.
 use Rattle.std.specs.Prelude.{◌≡◌, ℕ, ◌+◌, ◌≤◌, true, false, Bool, List, [], ◌∷◌, ◌++◌, length, ◌⊎◌}
-use Rattle.std.proofs.Common.{sym, ◌∙◌, ap, subst, refl, arith, append_assoc, length-append, inl, inr}
+use Rattle.std.proofs.Common.{sym, ◌∙◌, ap, subst, arith, append_assoc, length-append, inl, inr}
 use Rattle.hg_btree.specs.declared.split.Halves.{Halves}
 use Rattle.hg_btree.specs.Entries.{Entry, Before}
-use Rattle.hg_btree.specs.Nodes.{number, spelled, spelling, IsNode, crowded_page}
-use Rattle.hg_btree.specs.Halving.{HalvesInner, HalvesLeaf, HaveRoom, AreInnerHalves, AreLeafHalves}
+use Rattle.hg_btree.specs.Nodes.{number, spelled, spelling, IsNode}
+use Rattle.hg_btree.specs.Halving.{HalvesInner, HalvesLeaf, AreInnerHalves, AreLeafHalves}
 use Rattle.hg_btree.proofs.Orders.{not_before_itself, page_second}
 use Rattle.hg_btree.proofs.Reading.{spelling-none, spelling-more, spelling-append, end_is}
 use Rattle.hg_btree.proofs.Splitting.{crowded_not, crowded_less}

@@ -1,20 +1,20 @@
 -- What is known of the pages of a split before anything is written.
-use Rattle.std.specs.Prelude.{◌≡◌, ◌≢◌, ℕ, ◌+◌, ◌-◌, ◌<◌, ◌≤◌, zero, suc, Bool, true, false, List, [], ◌∷◌, ◌++◌, length, Option, Some}
+use Rattle.std.specs.Prelude.{◌≡◌, ◌≢◌, ℕ, ◌+◌, ◌≤◌, zero, suc, true, false, List, [], ◌∷◌, ◌++◌, length, Option, Some}
 use Rattle.std.proofs.Common.{sym, ◌∙◌, ap, subst, refl, arith}
 use Rattle.hg_base.specs.Space.{Space, NoPins, IsFree, key, key_in}
 use Rattle.hg_base.specs.declared.File.{File}
 use Rattle.hg_base.specs.declared.PageId.{PageId}
 use Rattle.hg_btree.specs.Entries.{Entry}
 use Rattle.hg_btree.specs.Nodes.{IsNode, IsWay, crowded_page}
-use Rattle.hg_btree.specs.Trees.{pages_of, first_page, root, uses_in, times, IsTree, Reached}
+use Rattle.hg_btree.specs.Trees.{pages_of, first_page, times, IsTree, Reached}
 use Rattle.hg_btree.specs.Looking.{IsTreePage}
-use Rattle.hg_btree.specs.Growing.{HasRoom, OnWay, AboveCrowded, CrowdedTop}
+use Rattle.hg_btree.specs.Growing.{AboveCrowded, CrowdedTop}
 use Rattle.hg_btree.specs.Planning.{IsLevelOf}
 use Rattle.hg_btree.specs.Steps.{Looks}
 use Rattle.hg_btree.proofs.Walking.{leaf_here, inner_here, reached_used, reached_top}
-use Rattle.hg_btree.proofs.Leaves.{tree_times, tree_stays, tree_stays-levels}
-use Rattle.hg_btree.proofs.Seeking.{used_free, free_stays, bytes_stay}
-use Rattle.hg_btree.proofs.Growing.{ChildHere, child_here, parent_elsewhere}
+use Rattle.hg_btree.proofs.Leaves.{tree_times}
+use Rattle.hg_btree.proofs.Seeking.{used_free, bytes_stay}
+use Rattle.hg_btree.proofs.Growing.{child_here, parent_elsewhere}
 use Rattle.hg_btree.proofs.Stepping.{way_child}
 
 some_one : (x y : List ℕ) → ◌≡◌ {A = Option (List ℕ)} (Some x) (Some y) → x ≡ y

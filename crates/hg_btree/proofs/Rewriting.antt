@@ -1,19 +1,18 @@
 -- Three pages of a tree that are written together, and a page more in its line.
-use Rattle.std.specs.Prelude.{◌≡◌, ◌≢◌, ℕ, ◌+◌, ◌<◌, ◌≤◌, ◌==◌, ◌||◌, Bool, true, false, List, [], ◌∷◌, ◌++◌, length, Option, Some, None, ◌⊎◌}
+use Rattle.std.specs.Prelude.{◌≡◌, ◌≢◌, ℕ, ◌<◌, Bool, true, false, List, [], ◌∷◌, Option, Some, None}
 use Rattle.std.specs.List.{AllByRecursion}
 use Rattle.std.proofs.Common.{sym, ◌∙◌, ap, subst, refl, arith, inl, inr}
 use Rattle.std.proofs.lemmas.Bool.Decides.{nat_tests}
 use Rattle.std.proofs.lemmas.Bool.{false≢true, cases_eq}
-use Rattle.hg_base.specs.Space.{Space, Counts, NoPins, key, key_in, at, unpinned_bytes, with_bytes, without_pin, with_next}
+use Rattle.hg_base.specs.Space.{Space, Counts, NoPins, key, key_in, at, unpinned_bytes, with_next}
 use Rattle.hg_base.specs.Causes.{Later}
 use Rattle.hg_base.specs.Steadiness.{Steady, these_pages}
-use Rattle.hg_base.specs.TakenLaws.{AreDistinctPages, key_in-one}
-use Rattle.hg_base.specs.Lines.{IsLine, IsPath, has_page}
-use Rattle.hg_base.specs.LineLaws.{all_map, all_both, distinct-same, distinct-taken, has_cases}
+use Rattle.hg_base.specs.TakenLaws.{key_in-one}
+use Rattle.hg_base.specs.Lines.{IsLine, IsPath}
+use Rattle.hg_base.specs.LineLaws.{all_map, all_both, distinct-same, distinct-taken}
 use Rattle.hg_base.specs.declared.File.{File}
-use Rattle.hg_btree.specs.Deleting.{pages_mine}
 use Rattle.hg_base.specs.declared.PageId.{PageId}
-use Rattle.hg_btree.specs.Rewriting.{written, with_three, with_linked, HoldsThree, Rewrites, IsNewPage, PinsWithNew, PinsWithTwo, WritesSplit, WritesTop}
+use Rattle.hg_btree.specs.Rewriting.{written, with_linked, HoldsThree, Rewrites, IsNewPage, PinsWithNew, PinsWithTwo, WritesSplit, WritesTop}
 use Rattle.hg_btree.proofs.Touching.{at-here}
 
 pub at-other : {X : Type 0} (f : ℕ → X) (p : ℕ) (x : X) (q : ℕ) → q ≢ p → at f p x q ≡ f q

@@ -1,24 +1,23 @@
 -- A tree after a page of it was split.
-use Rattle.std.specs.Prelude.{◌≡◌, ◌≢◌, ℕ, ◌+◌, ◌<◌, ◌≤◌, ◌^◌, ◌==◌, ◌||◌, zero, suc, Bool, true, false, List, [], ◌∷◌, ◌++◌, length, Option, Some, None, ◌⊎◌, if◌then◌else◌}
-use Rattle.std.proofs.Common.{sym, ◌∙◌, ap, subst, refl, arith, inl, inr, length-append, append_assoc}
-use Rattle.std.proofs.lemmas.Bool.{false≢true, cases_eq, ne_eqb}
-use Rattle.std.proofs.lemmas.Bool.Decides.{nat_tests}
+use Rattle.std.specs.Prelude.{◌≡◌, ◌≢◌, ℕ, ◌+◌, ◌<◌, ◌≤◌, ◌==◌, zero, suc, Bool, true, false, List, [], ◌∷◌, ◌++◌, length, Option, Some, if◌then◌else◌}
+use Rattle.std.proofs.Common.{sym, ◌∙◌, ap, subst, refl, arith, length-append, append_assoc}
+use Rattle.std.proofs.lemmas.Bool.{false≢true, ne_eqb}
 use Rattle.std.specs.List.{AllByRecursion}
-use Rattle.hg_base.specs.Space.{Space, NoPins, key, key_in, at}
+use Rattle.hg_base.specs.Space.{Space, key_in, at}
 use Rattle.hg_base.specs.TakenLaws.{key_in-one}
-use Rattle.hg_base.specs.Lines.{IsLine, has_page}
-use Rattle.hg_base.specs.LineLaws.{distinct-taken, has_cases}
+use Rattle.hg_base.specs.Lines.{IsLine}
+use Rattle.hg_base.specs.LineLaws.{distinct-taken}
 use Rattle.hg_base.specs.declared.File.{File}
-use Rattle.hg_btree.specs.Entries.{Entry, Ordered, Before, NotBehind, is_below}
-use Rattle.hg_btree.specs.Nodes.{IsNode, IsBehind, IsWay, spelling, crowded_page}
+use Rattle.hg_btree.specs.Entries.{Entry, Before, NotBehind, is_below}
+use Rattle.hg_btree.specs.Nodes.{IsNode, IsWay, spelling}
 use Rattle.hg_btree.specs.Halving.{HaveRoom}
 use Rattle.hg_btree.proofs.Orders.{page_second}
-use Rattle.hg_btree.specs.Trees.{pages_of, first_page, root, Chained, AllSorted, Reached, IsTree, uses, uses_in, times, width_of, lowest}
+use Rattle.hg_btree.specs.Trees.{pages_of, first_page, root, Chained, AllSorted, Reached, IsTree, uses_in, times, width_of, lowest}
 use Rattle.hg_btree.specs.Growing.{crowded_one, crowded_at, crowded_on, HasRoom, OnWay, AboveCrowded, leaves_after}
-use Rattle.hg_btree.proofs.Walking.{InnerHere, sorted_at, inner_here, leaf_here, uses-append, uses_in-append, uses_here, width-append, reached_used}
+use Rattle.hg_btree.proofs.Walking.{InnerHere, sorted_at, inner_here, leaf_here, uses-append, uses_in-append, width-append}
 use Rattle.hg_btree.proofs.Changing.{Agree}
 use Rattle.hg_btree.proofs.Leaves.{tree_times}
-use Rattle.hg_btree.proofs.Growing.{ChildHere, child_here, Elsewhere, parent_elsewhere, child_elsewhere, new_elsewhere, agree_without, lowest_at}
+use Rattle.hg_btree.proofs.Growing.{ChildHere, child_here, parent_elsewhere, child_elsewhere, new_elsewhere, agree_without, lowest_at}
 use Rattle.hg_btree.proofs.Stepping.{ChildHalves, SplitLevels, split_levels, way_child, crowded_same, crowded_here}
 
 some_one : (x y : List ℕ) → ◌≡◌ {A = Option (List ℕ)} (Some x) (Some y) → x ≡ y

@@ -1,14 +1,14 @@
 -- How a tree grows by one page: all its levels.
-use Rattle.std.specs.Prelude.{◌≡◌, ◌≢◌, ℕ, ◌+◌, ◌<◌, ◌≤◌, zero, suc, Bool, true, false, List, [], ◌∷◌, ◌++◌, length, Option, Some, if◌then◌else◌}
-use Rattle.std.proofs.Common.{sym, ◌∙◌, ap, subst, refl, arith, append_assoc, length-append}
-use Rattle.hg_btree.specs.Entries.{Entry, AllBy, Before, Ordered, NotBehind, is_below}
+use Rattle.std.specs.Prelude.{◌≡◌, ◌≢◌, ℕ, ◌+◌, ◌<◌, zero, suc, Bool, true, false, List, [], ◌∷◌, ◌++◌, length, Option, Some, if◌then◌else◌}
+use Rattle.std.proofs.Common.{sym, ◌∙◌, ap, subst, refl, arith, append_assoc}
+use Rattle.hg_btree.specs.Entries.{Entry, Before, Ordered, NotBehind, is_below}
 use Rattle.hg_btree.specs.Nodes.{IsNode, IsBehind}
-use Rattle.hg_btree.specs.Trees.{first_page, with_page, Leaves, Inners, Chained, root, AllSorted, Reached, uses, uses_in, lowest}
+use Rattle.hg_btree.specs.Trees.{first_page, with_page, Leaves, Inners, Chained, root, AllSorted, Reached, uses, uses_in}
 use Rattle.hg_btree.specs.Halving.{AreInnerHalves, AreLeafHalves}
 use Rattle.hg_btree.specs.Growing.{crowded_one, crowded_from, crowded_at, crowded_on}
 use Rattle.hg_btree.proofs.Orders.{not_behind_trans}
 use Rattle.hg_btree.proofs.Reading.{all_behind}
-use Rattle.hg_btree.proofs.Walking.{InnerHere, LeafHere, sorted_at, inner_here, leaf_here, ordered_behind, uses_here}
+use Rattle.hg_btree.proofs.Walking.{InnerHere, sorted_at, inner_here, leaf_here, uses_here}
 use Rattle.hg_btree.proofs.Changing.{Agree, AreChained, inners_same, leaves_same, chained_same, chained_swap}
 use Rattle.hg_btree.proofs.Halving.{kids_cut, sorted_cut}
 use Rattle.hg_btree.proofs.Growing.{LevelCut, leaf_cut_at, inner_cut_at, ChildHere, Elsewhere, agree_without, tail_of, head_kept, sorted_swap}

@@ -1,5 +1,5 @@
 -- A tree and its line after the top was split.
-use Rattle.std.specs.Prelude.{◌≡◌, ◌≢◌, ℕ, ◌+◌, ◌<◌, ◌≤◌, ◌==◌, ◌||◌, zero, suc, Bool, true, false, List, [], ◌∷◌, ◌++◌, length, Option, Some, None, ◌⊎◌, if◌then◌else◌}
+use Rattle.std.specs.Prelude.{◌≡◌, ◌≢◌, ℕ, ◌+◌, ◌<◌, ◌≤◌, Bool, true, false, List, [], ◌∷◌, length, Option, Some, None}
 use Rattle.std.proofs.Common.{sym, ◌∙◌, ap, subst, refl, arith, inl, inr}
 use Rattle.std.proofs.lemmas.Bool.Decides.{nat_tests}
 use Rattle.std.proofs.lemmas.Bool.{false≢true, cases_eq}
@@ -10,7 +10,7 @@ use Rattle.hg_base.specs.declared.File.{File}
 use Rattle.hg_base.specs.declared.PageId.{PageId}
 use Rattle.hg_btree.specs.Entries.{Entry, Before, NotBehind, is_below}
 use Rattle.hg_btree.specs.Nodes.{IsNode}
-use Rattle.hg_btree.specs.Trees.{pages_of, root, with_page, Leaves, Inners, Chained, IsTree, Reached, uses, uses_in, times, width_of, lowest}
+use Rattle.hg_btree.specs.Trees.{pages_of, root, IsTree, Reached, uses, uses_in, times, lowest}
 use Rattle.hg_btree.specs.Deleting.{pages_mine}
 use Rattle.hg_btree.specs.Halving.{HaveRoom}
 use Rattle.hg_btree.specs.Growing.{crowded_on, HasRoom, OnWay, CrowdedTop, LineGrows, leaves_after}
@@ -23,9 +23,9 @@ use Rattle.hg_btree.proofs.Touching.{at-here}
 use Rattle.hg_btree.proofs.Changing.{Agree}
 use Rattle.hg_btree.proofs.Growing.{LevelCut, agree_without}
 use Rattle.hg_btree.proofs.Stepping.{level_cut, crowded_same}
-use Rattle.hg_btree.proofs.Rewriting.{at-other, LinksOne, Lined, line_more, rewritten_steady}
+use Rattle.hg_btree.proofs.Rewriting.{at-other, LinksOne, line_more, rewritten_steady}
 use Rattle.hg_btree.proofs.Walking.{uses_here}
-use Rattle.hg_btree.proofs.Splits.{times_new, on_levels, child_room, same_use}
+use Rattle.hg_btree.proofs.Splits.{times_new, on_levels, child_room}
 use Rattle.hg_btree.proofs.Grown.{first_taken, tree_bytes, linked_halves, has_kept, has_more, has_first, has_second, linked_other, linked_new}
 
 -- ---- the line

@@ -1,5 +1,5 @@
 -- How a page of a tree is halved: its upper entries go to a new page. Our own rule.
-use Rattle.std.specs.Prelude.{◌≡◌, ℕ, ◌+◌, ◌<◌, Bool, true, false, List, ◌∷◌, ◌++◌, length}
+use Rattle.std.specs.Prelude.{◌≡◌, ℕ, ◌+◌, ◌<◌, true, false, List, ◌∷◌, ◌++◌, length}
 use Rattle.hg_btree.specs.Entries.{Entry, AllBy, Before, Ordered, NotBehind}
 use Rattle.hg_btree.specs.Nodes.{spelled, spelling, IsNode, crowded_page}
 use Rattle.hg_btree.specs.declared.split.Halves.{Halves}

@@ -13,3 +13,4 @@ pub mod Halving
 pub mod Rewriting
 pub mod Growing
 pub mod Planning
+pub mod Kept

@@ -1,5 +1,5 @@
 -- What is known of a split before anything is written. Our own rule.
-use Rattle.std.specs.Prelude.{◌≡◌, ◌≢◌, ℕ, ◌+◌, ◌<◌, true, false, List, Some}
+use Rattle.std.specs.Prelude.{◌≡◌, ◌≢◌, ℕ, ◌<◌, true, false, List, Some}
 use Rattle.hg_base.specs.Space.{Space, IsFree, key_in}
 use Rattle.hg_base.specs.Lines.{has_page}
 use Rattle.hg_base.specs.declared.File.{File}

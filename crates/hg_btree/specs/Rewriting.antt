@@ -1,6 +1,6 @@
 -- What a call does that writes three pages of a tree at once. Our own rule.
-use Rattle.std.specs.Prelude.{◌≡◌, ◌≢◌, ℕ, ◌+◌, ◌<◌, Bool, true, false, List, length, Option, Some, None}
-use Rattle.hg_base.specs.Space.{Space, Counts, NoPins, IsUnused, key, key_in, at, zero_page, with_bytes, without_pin}
+use Rattle.std.specs.Prelude.{◌≡◌, ◌≢◌, ℕ, ◌+◌, ◌<◌, Bool, true, false, List, Option, Some, None}
+use Rattle.hg_base.specs.Space.{Space, Counts, NoPins, IsUnused, key, key_in, at, with_bytes, without_pin}
 use Rattle.hg_base.specs.Causes.{Later}
 use Rattle.hg_base.specs.declared.File.{File}
 use Rattle.hg_base.specs.declared.PageId.{PageId}

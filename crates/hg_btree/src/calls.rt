@@ -54,7 +54,8 @@ pub trait TreeCalls {
         ensures cause { HasCause (S.state space.old) (S.state space.new) (fault_of result) }
         ensures fault { IfErr result (GrowFault (stands self.old).file (S.state space.new)) };
 
-    /// Takes an entry out. False exactly where it is not there; the tree then stays.
+    /// Takes an entry out. False exactly where it is not there; the tree then stays. Its line stays in any
+    /// case.
     fn delete<S: Pages>(&mut self, space: &mut S, key: &[u8], at: u64) -> Result<bool, PageFault>
         requires no_pins { NoPins (S.state space.old) }
         requires there { (S.state space.old).told ≡ true
@@ -67,6 +68,9 @@ pub trait TreeCalls {
             → IsLine (stands self.old).file (S.state space.old) (Some (stands self.old).top) pages
             → Steady (pages_mine (stands self.old).file pages) (S.state space.old) (S.state space.new)) }
         ensures taken { OnOk result ((S.state space.new).taken ≡ (S.state space.old).taken) }
+        ensures line { (pages : List ℕ)
+            → IsLine (stands self.old).file (S.state space.old) (Some (stands self.old).top) pages
+            → IsLine (stands self.old).file (S.state space.new) (Some (stands self.old).top) pages }
         ensures same { stands self.new ≡ stands self.old }
         ensures err { OnErr result (Looks (S.state space.old) (S.state space.new)) }
         ensures cause { HasCause (S.state space.old) (S.state space.new) (fault_of result) }

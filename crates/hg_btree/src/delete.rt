@@ -27,6 +27,8 @@ pub fn delete<S: Pages>(
     ensures steady { OnOk result ((pages : List ℕ) → IsLine tree.file (S.state space.old) (Some tree.top) pages
         → Steady (pages_mine tree.file pages) (S.state space.old) (S.state space.new)) }
     ensures taken { OnOk result ((S.state space.new).taken ≡ (S.state space.old).taken) }
+    ensures line { (pages : List ℕ) → IsLine tree.file (S.state space.old) (Some tree.top) pages
+        → IsLine tree.file (S.state space.new) (Some tree.top) pages }
     ensures err { OnErr result (Looks (S.state space.old) (S.state space.new)) }
     ensures cause { HasCause (S.state space.old) (S.state space.new) (fault_of result) }
     ensures fault { IfErr result (LookFault tree.file) }

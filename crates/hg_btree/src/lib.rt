@@ -41,7 +41,6 @@ mod life;
 mod look;
 mod node;
 mod plan;
-mod put;
 mod seek;
 mod split;
 mod store;

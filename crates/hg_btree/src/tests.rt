@@ -1,10 +1,18 @@
-//! A leaf alone: what stands on it after entries were put in and taken out, and damaged pages.
+//! A leaf alone: what stands on it after entries were put in and taken out, and damaged pages. A tree of
+//! several levels: keys put in from the last to the first, and walked from the first to the last.
+ghost use Rattle.std.specs.Prelude.{◌≤◌, ◌<◌, ◌^◌, length, IfOk};
+ghost use Rattle.hg_base.specs.Space.{NoPins};
+ghost use Rattle.hg_btree.specs.Kept.{IsReady};
 
 use crate::change::{Put, put_in, take_out};
+use crate::delete::delete;
+use crate::insert::insert;
+use crate::life::{destroy, make};
 use crate::node::first_from;
+use crate::seek::seek;
 use crate::write::start;
 use arrayvec::ArrayVec;
-use hg_base::Check;
+use hg_base::{Check, File, PageFault, Pages, PlainSpace, Tree};
 use std::test::Fail;
 
 #[test]
@@ -61,5 +69,153 @@ fn damaged_leaves(rt: HostRuntime) -> Result<(), Fail> {
     assert_eq!(rt; put_in(&mut page, &[1], 0), Err(Check::Size));
     page[4] = 20;
     assert_eq!(rt; take_out(&mut page, &[1], 0), Err(Check::Size));
+    Ok(())
+}
+
+/// What was found of a tree: how many keys were new when they were put in, and when they were put in once
+/// more, how many a walk from the empty key met in ascending order, how many were taken out, how many a
+/// walk met then, whether it had several levels, and the pages that it leaves behind.
+#[derive(Clone, Copy, PartialEq, Eq, Debug)]
+struct Totals {
+    new: u32,
+    again: u32,
+    walked: u32,
+    out: u32,
+    rest: u32,
+    several: bool,
+    left: u32,
+}
+
+/// Makes a tree with no entries.
+fn begin<S: Pages>(space: &mut S) -> Result<Tree, PageFault>
+    requires no_pins { NoPins (S.state space.old) }
+    requires numbers { (S.state space.old).limit File.Temp < 2 ^ 32 }
+    ensures { IfOk result (λ tree. IsReady (S.state space.new) tree) }
+{
+    make(space, File::Temp)
+}
+
+/// Puts an entry in.
+fn put<S: Pages>(tree: Tree, space: &mut S, key: &[u8], place: u64) -> Result<bool, PageFault>
+    requires ready { IsReady (S.state space.old) tree }
+    requires short { length key.now ≤ 512 }
+    ensures { IsReady (S.state space.new) tree }
+{
+    insert(tree, space, key, place)
+}
+
+/// Takes an entry out.
+fn take<S: Pages>(tree: Tree, space: &mut S, key: &[u8], place: u64) -> Result<bool, PageFault>
+    requires { IsReady (S.state space.old) tree }
+    ensures { IsReady (S.state space.new) tree }
+{
+    delete(tree, space, key, place)
+}
+
+/// The first entry from a key on.
+fn next<S: Pages>(
+    tree: Tree,
+    space: &mut S,
+    key: &[u8],
+    out: &mut ArrayVec<u8, 512>,
+) -> Result<Option<u64>, PageFault>
+    requires { IsReady (S.state space.old) tree }
+    ensures { IsReady (S.state space.new) tree }
+{
+    seek(tree, space, key, 0, out)
+}
+
+/// Puts so many keys in, from the last to the first. How many were new.
+fn fill<S: Pages>(tree: Tree, space: &mut S, many: u32) -> Result<u32, PageFault>
+    requires { IsReady (S.state space.old) tree }
+    ensures { IsReady (S.state space.new) tree }
+{
+    let mut new = 0u32;
+    for n in 0..many {
+        let key = (many - 1 - n).to_be_bytes();
+        if put(tree, space, &key, 5)? {
+            new = new.saturating_add(1);
+        }
+    }
+    Ok(new)
+}
+
+/// Takes every second one of so many keys out. How many were there.
+fn thin<S: Pages>(tree: Tree, space: &mut S, many: u32) -> Result<u32, PageFault>
+    requires { IsReady (S.state space.old) tree }
+    ensures { IsReady (S.state space.new) tree }
+{
+    let mut out = 0u32;
+    for n in 0..many {
+        let key = n.saturating_mul(2).to_be_bytes();
+        if take(tree, space, &key, 5)? {
+            out = out.saturating_add(1);
+        }
+    }
+    Ok(out)
+}
+
+/// Walks a tree from the empty key to its end: how many entries it meets, where they are those of the
+/// numbers from `first` on with this step between them.
+fn walk<S: Pages>(tree: Tree, space: &mut S, first: u32, step: u32) -> Result<u32, PageFault>
+    requires { IsReady (S.state space.old) tree }
+    ensures { IsReady (S.state space.new) tree }
+{
+    let mut key: ArrayVec<u8, 512> = ArrayVec::new();
+    let mut out: ArrayVec<u8, 512> = ArrayVec::new();
+    let mut number = first;
+    for n in 0..100_000u32 {
+        let Some(place) = next(tree, space, key.as_slice(), &mut out)? else {
+            return Ok(n);
+        };
+        if place != 5 || out.as_slice() != number.to_be_bytes().as_slice() {
+            return Ok(0);
+        }
+        key.clear();
+        let _ = key.try_extend_from_slice(&number.saturating_add(1).to_be_bytes());
+        number = number.saturating_add(step);
+    }
+    Ok(0)
+}
+
+/// Makes a tree of so many keys, walks it, thins it, and gives its pages back.
+fn round<S: Pages>(space: &mut S, many: u32) -> Result<Totals, PageFault>
+    requires no_pins { NoPins (S.state space.old) }
+    requires numbers { (S.state space.old).limit File.Temp < 2 ^ 32 }
+{
+    let tree = begin(space)?;
+    let new = fill(tree, space, many)?;
+    let again = fill(tree, space, many)?;
+    let pages = space.taken(File::Temp);
+    let walked = walk(tree, space, 0, 1)?;
+    let out = thin(tree, space, many)?;
+    let rest = walk(tree, space, 1, 2)?;
+    destroy(tree, space);
+    Ok(Totals {
+        new,
+        again,
+        walked,
+        out,
+        rest,
+        several: pages > 3,
+        left: space.taken(File::Temp),
+    })
+}
+
+#[test]
+fn descending_keys_are_walked_ascending(rt: HostRuntime) -> Result<(), Fail> {
+    let mut space = PlainSpace::new(rt.alloc());
+    assert_eq!(rt;
+        round(&mut space, 3_000)?,
+        Totals {
+            new: 3_000,
+            again: 0,
+            walked: 3_000,
+            out: 1_500,
+            rest: 1_500,
+            several: true,
+            left: 0,
+        }
+    );
     Ok(())
 }

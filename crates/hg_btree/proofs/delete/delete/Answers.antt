@@ -1,5 +1,7 @@
 use Rattle.std.proofs.Common.{sym, ◌∙◌}
 use Rattle.hg_btree.proofs.Deleting.{asked_here, deleted, taken_steady}
+use Rattle.hg_btree.proofs.Grown.{line_stays_looked}
+use Rattle.hg_btree.proofs.Keeping.{line_taken}
 use Rattle.hg_btree.proofs.delete.delete.Goals as goal
 
 pub take_from-requires-clause-free : goal.take_from-requires-clause-free
@@ -27,3 +29,17 @@ returns-clause-steady g c = λ pages line.
     taken_steady c.args.tree.file (g.S.Pages.state c.args.space.now) (g.S.Pages.state c.leaf_of.new.space) (g.S.Pages.state c.take_from.new.space) c.page_in.result c.args.tree.top pages
     c.in_ok-leaf.leaf (record { key = c.args.key.now; place = c.args.place; child = 0 }) c.in_ok-gone.gone c.in_ok-leaf.ensures.looks c.in_ok-leaf.ensures.leaf c.requires.there
     c.page_in.ensures line c.in_ok-gone.ensures.takes
+
+pub returns-clause-line : goal.returns-clause-line
+returns-clause-line g c = λ pages line.
+    line_taken c.args.tree.file (g.S.Pages.state c.args.space.now) (g.S.Pages.state c.leaf_of.new.space) (g.S.Pages.state c.take_from.new.space) c.page_in.result c.args.tree.top pages
+    (record { key = c.args.key.now; place = c.args.place; child = 0 }) c.in_ok-gone.gone c.in_ok-leaf.ensures.looks c.in_ok-gone.ensures.takes line
+
+pub returns-in_err-leaf-clause-line : goal.returns-in_err-leaf-clause-line
+returns-in_err-leaf-clause-line g c = λ pages line.
+    line_stays_looked c.args.tree.file (g.S.Pages.state c.args.space.now) (g.S.Pages.state c.leaf_of.new.space) c.args.tree.top pages c.in_err-leaf.ensures.looks line
+
+pub returns-in_err-gone-clause-line : goal.returns-in_err-gone-clause-line
+returns-in_err-gone-clause-line g c = λ pages line.
+    line_stays_looked c.args.tree.file (g.S.Pages.state c.leaf_of.new.space) (g.S.Pages.state c.take_from.new.space) c.args.tree.top pages c.in_err-gone.ensures.err
+    (line_stays_looked c.args.tree.file (g.S.Pages.state c.args.space.now) (g.S.Pages.state c.leaf_of.new.space) c.args.tree.top pages c.in_ok-leaf.ensures.looks line)

@@ -1,10 +1,6 @@
-use Rattle.std.specs.Prelude.{◌≡◌, true, false}
-use Rattle.std.specs.declared.cmp.Ordering.{Ordering}
-use Rattle.std.specs.declared.cmp.Ordering.TheVariants.{Less, Equal, Greater}
 use Rattle.std.specs.Ordering.{is_lt}
 use Rattle.std.proofs.Common.{sym, ◌∙◌, ap}
 use Rattle.std.proofs.lemmas.Bool.{false≢true}
-use Rattle.hg_btree.specs.Entries.{Entry}
 use Rattle.hg_btree.proofs.Orders.{below-is}
 use Rattle.hg_btree.proofs.grow.half_for.Goals as goal
 

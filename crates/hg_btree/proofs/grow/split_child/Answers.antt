@@ -1,6 +1,6 @@
-use Rattle.std.specs.Prelude.{◌≡◌, ℕ, List, Some, true, false}
+use Rattle.std.specs.Prelude.{◌≡◌, ℕ, List, Some, true}
 use Rattle.std.proofs.Common.{sym, ◌∙◌, ap, subst}
-use Rattle.hg_base.specs.Space.{Space, IsFree, key, key_in}
+use Rattle.hg_base.specs.Space.{Space, IsFree, key}
 use Rattle.hg_base.specs.TakenLaws.{key_in-one}
 use Rattle.hg_base.specs.Lines.{has_page}
 use Rattle.hg_base.specs.LineLaws.{line_one}

@@ -1,12 +1,10 @@
-use Rattle.std.specs.Prelude.{◌≡◌, ℕ, List, Some, true, false, length}
+use Rattle.std.specs.Prelude.{◌≡◌, ℕ, List}
 use Rattle.std.proofs.Common.{sym, ◌∙◌, ap, subst}
-use Rattle.hg_base.specs.Space.{Space, IsFree, key, key_in}
+use Rattle.hg_base.specs.Space.{Space, key}
 use Rattle.hg_base.specs.declared.PageId.{PageId}
 use Rattle.hg_btree.specs.Entries.{Entry, Before, NotBehind}
 use Rattle.hg_btree.specs.Growing.{CrowdedTop}
-use Rattle.hg_btree.specs.Planning.{TopPlanned}
 use Rattle.hg_btree.specs.Rewriting.{WritesTop}
-use Rattle.hg_btree.proofs.Leaves.{tree_stays-levels}
 use Rattle.hg_btree.proofs.Grown.{first_taken, line_stays_looked, line_then_looked}
 use Rattle.hg_btree.proofs.Tops.{top_line, top_split_looked}
 use Rattle.hg_btree.proofs.grow.split_top.Goals as goal

@@ -1,11 +1,6 @@
-use Rattle.std.specs.Prelude.{◌≡◌, ℕ, List, None, Some, length, Result, OnErr}
-use Rattle.std.proofs.Common.{sym, ap, ◌∙◌, subst, refl, arith}
-use Rattle.hg_base.specs.Space.{Space}
-use Rattle.hg_base.specs.Causes.{HasCause, fault_of}
+use Rattle.std.specs.Prelude.{None, length}
+use Rattle.std.proofs.Common.{sym, ◌∙◌, arith}
 use Rattle.hg_base.specs.SteadyLaws.{HasCause_behind}
-use Rattle.hg_btree.specs.Entries.{Entry}
-use Rattle.hg_btree.specs.Trees.{IsTree}
-use Rattle.hg_btree.specs.Growing.{most_pages}
 use Rattle.hg_btree.proofs.Seeking.{looks_then}
 use Rattle.hg_btree.proofs.Grown.{line_looked, line_stays_looked, line_then, line_then_looked}
 use Rattle.hg_btree.proofs.Descending.{on_err, first_there, first_most, way_top, now_looked, now_split, on_there, step_first, step_after}

@@ -1,8 +1,6 @@
-use Rattle.std.specs.Prelude.{◌≡◌, ℕ, ◌+◌, List, None, Some, Ok, length}
-use Rattle.std.proofs.Common.{sym, ap, ◌∙◌, subst, refl, arith}
-use Rattle.hg_base.specs.Space.{Space}
+use Rattle.std.specs.Prelude.{None, length}
+use Rattle.std.proofs.Common.{sym, ◌∙◌, subst, arith}
 use Rattle.hg_base.specs.SteadyLaws.{HasCause_behind}
-use Rattle.hg_btree.specs.Entries.{Entry}
 use Rattle.hg_btree.specs.Putting.{Puts}
 use Rattle.hg_btree.specs.Growing.{most_pages}
 use Rattle.hg_btree.proofs.Grown.{line_looked, line_then}

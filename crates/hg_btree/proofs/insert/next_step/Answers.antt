@@ -1,10 +1,6 @@
-use Rattle.std.specs.Prelude.{◌≡◌, ℕ, ◌+◌, ◌-◌, ◌<◌, List, None, Some, Bool, true, false, not, length}
-use Rattle.std.proofs.Common.{sym, ap, ◌∙◌, subst, refl, arith}
-use Rattle.hg_base.specs.Space.{Space}
-use Rattle.hg_base.specs.Causes.{HasCause, fault_of}
+use Rattle.std.specs.Prelude.{◌-◌, None}
+use Rattle.std.proofs.Common.{sym, ◌∙◌, refl, arith}
 use Rattle.hg_base.specs.SteadyLaws.{HasCause_behind}
-use Rattle.hg_btree.specs.Entries.{Entry}
-use Rattle.hg_btree.specs.Growing.{AtStep}
 use Rattle.hg_btree.proofs.Seeking.{looks_then}
 use Rattle.hg_btree.proofs.Grown.{line_looked, line_stays_looked, line_then, line_then_looked}
 use Rattle.hg_btree.proofs.Descending.{on_err, at_one, now_at, now_split, on_there, step_further, step_after, above_crowded, not_was, was_so}

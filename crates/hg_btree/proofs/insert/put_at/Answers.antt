@@ -1,6 +1,5 @@
-use Rattle.std.proofs.Common.{sym, ap, ◌∙◌, subst, refl}
-use Rattle.hg_base.specs.Space.{Space, key, IsFree}
-use Rattle.hg_btree.specs.Entries.{Entry}
+use Rattle.std.proofs.Common.{sym, ap, ◌∙◌, subst}
+use Rattle.hg_base.specs.Space.{key, IsFree}
 use Rattle.hg_btree.specs.Trees.{first_page, pages_of}
 use Rattle.hg_btree.proofs.Walking.{leaf_here}
 use Rattle.hg_btree.proofs.Inserting.{puts}

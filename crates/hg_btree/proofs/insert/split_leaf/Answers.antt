@@ -1,7 +1,5 @@
-use Rattle.std.specs.Prelude.{length, [], ℕ}
-use Rattle.std.proofs.Common.{sym, ap, ◌∙◌, subst, refl, arith}
-use Rattle.hg_base.specs.Space.{Space}
-use Rattle.hg_btree.specs.Entries.{Entry}
+use Rattle.std.specs.Prelude.{length}
+use Rattle.std.proofs.Common.{ap, subst}
 use Rattle.hg_btree.specs.Growing.{OnWay, HasRoom, leaves_after}
 use Rattle.hg_btree.proofs.Descending.{full_above, full_top, if_ok_map}
 use Rattle.hg_btree.proofs.insert.split_leaf.Goals as goal

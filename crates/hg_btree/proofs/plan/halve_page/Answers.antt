@@ -1,4 +1,4 @@
-use Rattle.std.specs.Prelude.{ℕ, List, false, true}
+use Rattle.std.specs.Prelude.{false, true}
 use Rattle.std.proofs.Common.{sym, subst}
 use Rattle.hg_btree.specs.Nodes.{IsNode}
 use Rattle.hg_btree.proofs.plan.halve_page.Goals as goal

@@ -1,9 +1,8 @@
-use Rattle.std.specs.Prelude.{◌≡◌, ℕ, ◌+◌, List, None, Some, true, false}
+use Rattle.std.specs.Prelude.{◌+◌, None, Some, true}
 use Rattle.std.proofs.Common.{sym, ◌∙◌, ap, subst, arith}
 use Rattle.std.proofs.lemmas.Bool.{false≢true}
-use Rattle.hg_base.specs.Space.{Space, IsFree, key, key_in}
+use Rattle.hg_base.specs.Space.{Space, IsFree, key}
 use Rattle.hg_base.specs.SteadyLaws.{HasCause_behind}
-use Rattle.hg_base.specs.declared.PageId.{PageId}
 use Rattle.hg_btree.specs.Entries.{Entry}
 use Rattle.hg_btree.specs.Nodes.{IsNode, crowded_page}
 use Rattle.hg_btree.proofs.Seeking.{free_stays, damage_cause, looks_then}

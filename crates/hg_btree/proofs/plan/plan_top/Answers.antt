@@ -1,7 +1,5 @@
-use Rattle.std.specs.Prelude.{◌≡◌, ℕ, List, None, Some, length}
-use Rattle.std.proofs.Common.{sym, ◌∙◌, ap, subst, arith}
-use Rattle.hg_base.specs.Space.{Space, IsFree, key, key_in}
-use Rattle.hg_btree.specs.Entries.{Entry}
+use Rattle.std.proofs.Common.{arith}
+use Rattle.hg_base.specs.Space.{Space}
 use Rattle.hg_btree.proofs.Seeking.{free_stays, damage_cause}
 use Rattle.hg_btree.proofs.Planning.{top_page, told_now}
 use Rattle.hg_btree.proofs.Heights.{height_few}

@@ -1,4 +1,3 @@
-use Rattle.std.specs.Prelude.{◌+◌, ◌-◌, ◌/◌}
 use Rattle.std.proofs.Common.{arith, subst, inl, inr}
 use Rattle.std.proofs.lemmas.Bool.{false≢true}
 use Rattle.hg_btree.specs.Nodes.{IsNode}

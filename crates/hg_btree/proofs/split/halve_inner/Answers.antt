@@ -1,4 +1,3 @@
-use Rattle.std.specs.Prelude.{◌+◌, ◌-◌}
 use Rattle.std.proofs.Common.{arith}
 use Rattle.hg_btree.proofs.Splitting.{halves_inner}
 use Rattle.hg_btree.proofs.split.halve_inner.Goals as goal

@@ -1,5 +1,4 @@
-use Rattle.std.specs.Prelude.{◌+◌, ◌-◌}
-use Rattle.std.proofs.Common.{arith, refl, ◌∙◌, sym}
+use Rattle.std.proofs.Common.{arith, refl}
 use Rattle.hg_btree.specs.Entries.{Entry}
 use Rattle.hg_btree.proofs.Splitting.{halves_last}
 use Rattle.hg_btree.proofs.split.halve_leaf.Goals as goal

@@ -1,9 +1,7 @@
 use Rattle.std.specs.Prelude.{◌==◌}
-use Rattle.std.proofs.Common.{◌∙◌, ap, subst, sym, refl, arith}
-use Rattle.std.proofs.lemmas.Bool.Decides.{nat_tests}
+use Rattle.std.proofs.Common.{ap, sym, arith}
 use Rattle.hg_base.specs.Space.{Space}
 use Rattle.hg_base.specs.declared.PageId.{PageId}
-use Rattle.hg_btree.specs.Rewriting.{PinsWithNew}
 use Rattle.hg_btree.proofs.Rewriting.{writes_split, same_page}
 use Rattle.hg_btree.proofs.store.store_split.Goals as goal
 

@@ -1,5 +1,5 @@
 use Rattle.std.specs.Prelude.{◌==◌, ◌+◌, length, true, []}
-use Rattle.std.proofs.Common.{◌∙◌, ap, subst, sym, refl, arith}
+use Rattle.std.proofs.Common.{ap, sym, arith}
 use Rattle.hg_base.specs.Space.{Space}
 use Rattle.hg_base.specs.declared.PageId.{PageId}
 use Rattle.hg_btree.proofs.Reading.{spelling-none}
