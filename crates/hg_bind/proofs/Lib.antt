@@ -1,0 +1,14 @@
+pub mod Creating
+pub mod Deletion
+pub mod Digits
+pub mod FromPlaces
+pub mod Indexing
+pub mod Insertion
+pub mod Lookups
+pub mod NameCauses
+pub mod NamedTables
+pub mod Naming
+pub mod NodeKinds
+pub mod SetItems
+pub mod Tuples
+pub mod Updating

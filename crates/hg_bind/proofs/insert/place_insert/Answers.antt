@@ -1,0 +1,44 @@
+use Rattle.std.proofs.Common.{sym, ◌∙◌, ap, subst, Some}
+use Rattle.std.specs.Prelude.{option_map}
+use Rattle.hg_model.specs.Statements.{insert_tree}
+use Rattle.hg_bind.specs.Bound.{error_of, tables_of, IsPlacedInsert}
+use Rattle.hg_bind.proofs.Insertion.{insert_unknown, insert_names, insert_mixes, insert_placed}
+use Rattle.hg_bind.proofs.NamedTables.{unnamed, table_is, columns_are}
+use Rattle.hg_bind.proofs.insert.place_insert.Goals as goal
+
+pub returns-in_default-clause-err : goal.returns-in_default-clause-err
+returns-in_default-clause-err c =
+    ap (option_map error_of) (insert_unknown (tables_of c.args.catalog.now) (insert_tree c.args.insert.now)
+    (unnamed c.args.insert.now.table c.args.catalog.now (sym c.table.ensures.value ∙ c.in_default.is))) ∙ ap Some (sym c.unknown_table.ensures)
+
+pub returns-in-Err-clause-err : goal.returns-in-Err-clause-err
+returns-in-Err-clause-err c =
+    let number = sym c.table.ensures.value ∙ c.in-Some.is in
+    let columns = c.columns.ensures.value ∙ ap Some (sym c.as_slice-columns.ensures.value) in
+    insert_names (tables_of c.args.catalog.now) (insert_tree c.args.insert.now) c.in-Some.table c.as_slice-columns.result.now
+    (table_is c.args.insert.now.table c.args.catalog.now c.in-Some.table c.as_slice-columns.result.now number columns)
+    (columns_are c.args.insert.now.table c.args.catalog.now c.in-Some.table c.as_slice-columns.result.now number columns)
+    c.as_slice.result.now c.in-Err.error c.as_slice.ensures.value c.in-Err.ensures.err
+
+pub returns-then-not-tuples_fit-clause-err : goal.returns-then-not-tuples_fit-clause-err
+returns-then-not-tuples_fit-clause-err c =
+    let number = sym c.table.ensures.value ∙ c.in-Some.is in
+    let columns = c.columns.ensures.value ∙ ap Some (sym c.as_slice-columns.ensures.value) in
+    ap (option_map error_of) (insert_mixes (tables_of c.args.catalog.now) (insert_tree c.args.insert.now) c.in-Some.table c.as_slice-columns.result.now
+    (table_is c.args.insert.now.table c.args.catalog.now c.in-Some.table c.as_slice-columns.result.now number columns)
+    (columns_are c.args.insert.now.table c.args.catalog.now c.in-Some.table c.as_slice-columns.result.now number columns)
+    c.as_slice.result.now c.as_slice-2.result.now c.as_slice-4.result.now c.as_slice-3.result.now
+    c.as_slice.ensures.value (c.as_slice-2.ensures.value ∙ c.in_default-list_targets.ensures.targets) c.as_slice-4.ensures.value c.as_slice-3.ensures.value
+    c.in_default-list_targets.ensures.ok (sym c.tuples_fit.ensures ∙ c.if-not-tuples_fit.true)) ∙ ap Some (sym c.type_mismatch.ensures)
+
+pub returns-clause-ok : goal.returns-clause-ok
+returns-clause-ok c =
+    let number = sym c.table.ensures.value ∙ c.in-Some.is in
+    let columns = c.columns.ensures.value ∙ ap Some (sym c.as_slice-columns.ensures.value) in
+    subst (IsPlacedInsert (tables_of c.args.catalog.now) (insert_tree c.args.insert.now) c.in-Some.table) c.as_slice-2.ensures.value
+    (insert_placed (tables_of c.args.catalog.now) (insert_tree c.args.insert.now) c.in-Some.table c.as_slice-columns.result.now
+    (table_is c.args.insert.now.table c.args.catalog.now c.in-Some.table c.as_slice-columns.result.now number columns)
+    (columns_are c.args.insert.now.table c.args.catalog.now c.in-Some.table c.as_slice-columns.result.now number columns)
+    c.as_slice.result.now c.as_slice-2.result.now c.as_slice-4.result.now c.as_slice-3.result.now
+    c.as_slice.ensures.value (c.as_slice-2.ensures.value ∙ c.in_default-list_targets.ensures.targets) c.as_slice-4.ensures.value c.as_slice-3.ensures.value
+    c.in_default-list_targets.ensures.ok (sym c.tuples_fit.ensures ∙ c.if-not-tuples_fit.false))
