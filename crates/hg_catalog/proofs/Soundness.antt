@@ -1,5 +1,5 @@
 -- What holds of every catalog stays, whatever is put into it.
-use Rattle.std.proofs.Common.{◌≡◌, ◌≤◌, ◌<◌, ℕ, zero, suc, Bool, true, false, List, [], ◌∷◌, ◌++◌, Some, None, map, refl, sym, ap, subst, ◌∙◌, ◌+◌, length, arith, ◌&&◌, ◌||◌, not, cond, length-append}
+use Rattle.std.proofs.Common.{◌≡◌, ◌≤◌, ◌<◌, ℕ, zero, suc, Bool, true, false, List, [], ◌∷◌, ◌++◌, Option, Some, None, map, refl, sym, ap, subst, ◌∙◌, ◌+◌, length, arith, ◌&&◌, ◌||◌, not, cond, length-append}
 use Rattle.std.specs.Prelude.{nat_lt, nat_le, slice_get, option_map}
 use Rattle.std.specs.List.{position, position_or_len, list_all, list_any}
 use Rattle.std.proofs.lemmas.Bool.Decides.{nat_tests}
@@ -7,9 +7,11 @@ use Rattle.std.proofs.lemmas.List.{map-append}
 use Rattle.std.proofs.lemmas.List.Folds.{list_all-append, list_any-append}
 use Rattle.hg_base.specs.declared.Index.{Index}
 use Rattle.hg_base.specs.declared.Table.{Table as TableData}
+use Rattle.std.specs.Cmp.Lexicographic.{nat_list_eq_equiv}
 use Rattle.hg_model.specs.Tables.{same_name}
+use Rattle.hg_model.specs.Creation.{is_named_so}
 use Rattle.hg_model.specs.declared.trees.Column.{Column}
-use Rattle.hg_catalog.specs.Contents.{CatalogTable, CatalogIndex, IsSound, IsNewTable, table_number, are_different_names, columns_of_table, is_new_table, is_index_of, fits_tables, with_pages, with_index}
+use Rattle.hg_catalog.specs.Contents.{CatalogTable, CatalogIndex, IsSound, IsNewTable, IsNewIndex, table_number, has_index_name, are_different_names, are_different_indexes, columns_of_table, is_new_table, is_index_of, fits_tables, with_pages, with_index}
 
 both : (a b : Bool) → a ≡ true → b ≡ true → (a && b) ≡ true
 both true true p q = refl
@@ -122,6 +124,7 @@ sound_with_table tables indexes t s few free new = record {
   few_tables = omega (arith, length-append tables (t ∷ []));
   few_indexes = s.few_indexes;
   different_names = different_more t tables s.different_names (no_table t.name tables free);
+  different_index_names = s.different_index_names;
   tables_fit = list_all-append is_new_table tables (t ∷ []) ∙ both _ _ s.tables_fit (both _ _ (new_fits t new) refl);
   indexes_fit = indexes_kept tables t indexes s.indexes_fit;
 }
@@ -162,6 +165,7 @@ sound_with_pages tables indexes k d s = record {
   few_tables = omega (arith, length_stays tables k d, s.few_tables);
   few_indexes = s.few_indexes;
   different_names = ap are_different_names (names_stay tables k d) ∙ s.different_names;
+  different_index_names = s.different_index_names;
   tables_fit = tables_stay tables k d ∙ s.tables_fit;
   indexes_fit = fits_stay tables k d indexes ∙ s.indexes_fit;
 }
@@ -181,6 +185,19 @@ indexes_stay ts (x ∷ xs) zero old new is same =
     ap (λ cs. (nat_lt x.table (length ts) && is_index_of (columns_of_table ts x.table) cs.items) && list_all (fits_tables ts) xs) columns
 indexes_stay ts (x ∷ xs) (suc i) old new is same = ap (λ b. fits_tables ts x && b) (indexes_stay ts xs i old new is same)
 
+has_name_stays : (name : Option (List ℕ)) (xs : List CatalogIndex) (i : ℕ) (new : Index) → has_index_name name (with_index xs i new) ≡ has_index_name name xs
+has_name_stays None xs i new = refl
+has_name_stays (Some name) [] i new = refl
+has_name_stays (Some name) (x ∷ xs) zero new = refl
+has_name_stays (Some name) (x ∷ xs) (suc i) new = ap (λ b. is_named_so name x.name || b) (has_name_stays (Some name) xs i new)
+
+different_stay : (xs : List CatalogIndex) (i : ℕ) (new : Index) → are_different_indexes (with_index xs i new) ≡ are_different_indexes xs
+different_stay [] i new = refl
+different_stay (x ∷ xs) zero new = refl
+different_stay (x ∷ xs) (suc i) new =
+    ap (λ b. not b && are_different_indexes (with_index xs i new)) (has_name_stays x.name xs i new)
+    ∙ ap (λ b. not (has_index_name x.name xs) && b) (different_stay xs i new)
+
 pub sound_with_index : (tables : List CatalogTable) (indexes : List CatalogIndex) (i : ℕ) (old : CatalogIndex) (new : Index)
     → IsSound (record { tables = tables; indexes = indexes }) → slice_get indexes i ≡ Some old → new.columns ≡ old.index.columns
     → IsSound (record { tables = tables; indexes = with_index indexes i new })
@@ -188,8 +205,66 @@ sound_with_index tables indexes i old new s is same = record {
   few_tables = s.few_tables;
   few_indexes = omega (arith, index_length_stays indexes i new, s.few_indexes);
   different_names = s.different_names;
+  different_index_names = different_stay indexes i new ∙ s.different_index_names;
   tables_fit = s.tables_fit;
   indexes_fit = indexes_stay tables indexes i old new is same ∙ s.indexes_fit;
+}
+
+-- one index more, of a name that is free
+abbrev shares : Option (List ℕ) → Option (List ℕ) → Bool
+shares None other = false
+shares (Some name) other = is_named_so name other
+
+shares_symm : (a b : Option (List ℕ)) → shares a b ≡ shares b a
+shares_symm None None = refl
+shares_symm None (Some b) = refl
+shares_symm (Some a) None = refl
+shares_symm (Some a) (Some b) = nat_list_eq_equiv.symm a b
+
+none_of_none : (name : Option (List ℕ)) → has_index_name name [] ≡ false
+none_of_none None = refl
+none_of_none (Some name) = refl
+
+not_first : (name : Option (List ℕ)) (y : CatalogIndex) (ys : List CatalogIndex) → has_index_name name (y ∷ ys) ≡ false → shares name y.name ≡ false
+not_first None y ys h = refl
+not_first (Some name) y ys h = neither_first (is_named_so name y.name) _ h
+
+not_behind : (name : Option (List ℕ)) (y : CatalogIndex) (ys : List CatalogIndex) → has_index_name name (y ∷ ys) ≡ false → has_index_name name ys ≡ false
+not_behind None y ys h = refl
+not_behind (Some name) y ys h = neither_second (is_named_so name y.name) _ h
+
+has_name_more : (name : Option (List ℕ)) (ys : List CatalogIndex) (x : CatalogIndex) → has_index_name name ys ≡ false → shares name x.name ≡ false
+    → has_index_name name (ys ++ x ∷ []) ≡ false
+has_name_more None ys x h e = refl
+has_name_more (Some name) ys x h e =
+    list_any-append (λ (y : CatalogIndex). is_named_so name y.name) ys (x ∷ []) ∙ neither _ _ h (neither _ _ e refl)
+
+different_with : (x : CatalogIndex) (xs : List CatalogIndex) → are_different_indexes xs ≡ true → has_index_name x.name xs ≡ false
+    → are_different_indexes (xs ++ x ∷ []) ≡ true
+different_with x [] h free = both _ _ (ap not (none_of_none x.name)) refl
+different_with x (y ∷ ys) h free =
+    let other : shares y.name x.name ≡ false = shares_symm y.name x.name ∙ not_first x.name y ys free in
+    both _ _ (ap not (has_name_more y.name ys x (not_true _ (first _ _ h)) other))
+    (different_with x ys (second _ _ h) (not_behind x.name y ys free))
+
+index_fits : (tables : List CatalogTable) (indexes : List CatalogIndex) (x : CatalogIndex)
+    → IsNewIndex (record { tables = tables; indexes = indexes }) x.table x.index.columns.items → fits_tables tables x ≡ true
+index_fits tables indexes x new =
+    both _ _ (test_of _ _ new.table_there)
+    (both _ _ (test_of _ _ (omega (arith, new.some_columns)))
+    (both _ _ (test_at_most _ _ new.few_columns) (both _ _ new.columns_there (both _ _ new.different (test_at_most _ _ new.not_long)))))
+
+pub sound_with_new_index : (tables : List CatalogTable) (indexes : List CatalogIndex) (x : CatalogIndex)
+    → IsSound (record { tables = tables; indexes = indexes }) → length indexes < 64 → has_index_name x.name indexes ≡ false
+    → IsNewIndex (record { tables = tables; indexes = indexes }) x.table x.index.columns.items
+    → IsSound (record { tables = tables; indexes = indexes ++ x ∷ [] })
+sound_with_new_index tables indexes x s few free new = record {
+  few_tables = s.few_tables;
+  few_indexes = omega (arith, length-append indexes (x ∷ []));
+  different_names = s.different_names;
+  different_index_names = different_with x indexes s.different_index_names free;
+  tables_fit = s.tables_fit;
+  indexes_fit = list_all-append (fits_tables tables) indexes (x ∷ []) ∙ both _ _ s.indexes_fit (both _ _ (index_fits tables indexes x new) refl);
 }
 
 -- the columns of a table that is there

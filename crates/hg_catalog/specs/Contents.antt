@@ -1,9 +1,9 @@
 -- What callers see of a catalog: its tables and its indexes, each in order of creation. Our own rule.
-use Rattle.std.specs.Prelude.{ℕ, suc, zero, Bool, true, List, [], ◌∷◌, Option, ◌<◌, ◌≤◌, ◌&&◌, not, map, length, nat_eq, nat_lt, nat_le, position, IsTrue}
+use Rattle.std.specs.Prelude.{ℕ, suc, zero, Bool, true, false, List, [], ◌∷◌, Option, Some, None, ◌<◌, ◌≤◌, ◌&&◌, not, map, length, nat_eq, nat_lt, nat_le, position, IsTrue}
 use Rattle.std.specs.List.{list_all, list_any}
 use Rattle.hg_base.specs.declared.Table.{Table as TableData}
 use Rattle.hg_base.specs.declared.Index.{Index}
-use Rattle.hg_model.specs.Creation.{key_length}
+use Rattle.hg_model.specs.Creation.{key_length, is_named_so}
 use Rattle.hg_model.specs.Tables.{same_name}
 use Rattle.hg_model.specs.declared.trees.Column.{Column}
 use Rattle.hg_catalog.specs.declared.entries.TableEntry.{TableEntry}
@@ -42,6 +42,15 @@ are_different_names (n ∷ ns) = not (list_any (same_name n) ns) && are_differen
 abbrev pub are_different_numbers : List ℕ → Bool
 are_different_numbers [] = true
 are_different_numbers (n ∷ ns) = not (list_any (nat_eq n) ns) && are_different_numbers ns
+
+-- an index of the name stands there; one without a name shares none
+abbrev pub has_index_name : Option (List ℕ) → List CatalogIndex → Bool
+has_index_name None xs = false
+has_index_name (Some name) xs = list_any (λ (x : CatalogIndex). is_named_so name x.name) xs
+
+abbrev pub are_different_indexes : List CatalogIndex → Bool
+are_different_indexes [] = true
+are_different_indexes (x ∷ xs) = not (has_index_name x.name xs) && are_different_indexes xs
 
 -- a table has 1 to 16 columns of different names
 pub record IsNewTable (columns : List Column) : Type 0 where
@@ -82,6 +91,7 @@ pub record IsSound (c : Contents) : Type 0 where
   pub few_tables : length c.tables ≤ 64
   pub few_indexes : length c.indexes ≤ 64
   pub different_names : IsTrue (are_different_names (map (λ (t : CatalogTable). t.name) c.tables))
+  pub different_index_names : IsTrue (are_different_indexes c.indexes)
   pub tables_fit : IsTrue (list_all is_new_table c.tables)
   pub indexes_fit : IsTrue (list_all (fits_tables c.tables) c.indexes)
 

@@ -31,9 +31,9 @@ impl Model for Catalog {
 }
 
 impl Catalog {
-    ghost use Rattle.std.specs.Prelude.{◌≡◌, ◌<◌, ◌≤◌, [], ◌∷◌, ◌++◌, Some, None, IfOk, IfSome, length, option_map, slice_get};
+    ghost use Rattle.std.specs.Prelude.{◌≡◌, ◌<◌, ◌≤◌, [], ◌∷◌, ◌++◌, Some, None, false, IfOk, IfSome, length, option_map, slice_get};
     ghost use Rattle.std.specs.Option.{option_copied};
-    ghost use Rattle.hg_catalog.specs.Contents.{Contents, IsSound, CatalogTable, CatalogIndex, IsNewTable, IsNewIndex, table_number, with_pages, with_index};
+    ghost use Rattle.hg_catalog.specs.Contents.{Contents, IsSound, CatalogTable, CatalogIndex, IsNewTable, IsNewIndex, has_index_name, table_number, with_pages, with_index};
 
     /// A catalog without tables. All the memory that it will take is taken here, and the only error is
     /// want of it.
@@ -70,9 +70,10 @@ impl Catalog {
         }
     }
 
-    /// Puts an index behind the others.
+    /// Puts an index behind the others. No index may have its name, where it has one.
     pub fn add_index(&mut self, name: Option<Name>, table: u8, index: Index)
         requires few { length self.old.indexes < 64 }
+        requires free { has_index_name name self.old.indexes ≡ false }
         requires fits { IsNewIndex self.old table index.columns.items }
         ensures change { self.new ≡ record self.old {
           indexes = self.old.indexes

@@ -9,9 +9,10 @@
 //! ```
 //!
 //! Contracts see a catalog as these two lists (`Contents`). What holds of every catalog is `IsSound`:
-//! tables have different names, each has 1 to 16 columns of different names, and the columns of an index
-//! are different columns of its table, which make a key that is not too long. Room for all of it is
-//! taken when the catalog is made, so no later call wants memory.
+//! tables have different names, as have the indexes with a name, each table has 1 to 16 columns of
+//! different names, and the columns of an index are different columns of its table, which make a key
+//! that is not too long. Room for all of it is taken when the catalog is made, so no later call wants
+//! memory.
 #![tactic(auto)]
 
 mod catalog;

@@ -18,7 +18,7 @@ use Rattle.hg_run.specs.declared.page.Found.{Found}
 use Rattle.hg_run.specs.Format.{IsPageAt}
 use Rattle.hg_run.specs.Layout.{layout}
 use Rattle.hg_run.specs.LayoutLaws.{AllSome, layout-records, layout-some}
-use Rattle.hg_run.specs.Runs.{IsChain, IsRun, IsPlace, IsAt, IsAtPage, Holds, AllHold, StandsOn, records_of}
+use Rattle.hg_run.specs.Runs.{IsChain, IsRun, IsPlace, IsAtNext, StandsAtNext, IsAt, IsAtPage, Holds, AllHold, StandsOn, records_of}
 use Rattle.hg_base.specs.declared.pages.PageFault.{PageFault}
 use Rattle.hg_run.specs.RunLaws.{one_chain}
 use Rattle.hg_run.specs.Calls.{temp_page, HasWay, ReadsOne, NamesGiven, NamesOneOf}
@@ -259,6 +259,7 @@ pub record IsRead (pages : List ℕ) (held : List (List (List ℕ))) (x after : 
   pub next : rest ≡ out ∷ behind
   pub place : IsPlace pages held x after (done ++ out ∷ []) behind
   pub none_left : is_last ≡ true → place.todo ≡ []
+  pub last_is : place.todo ≡ [] → is_last ≡ true
 
 pub place_next : (pages : List ℕ) (held : List (List (List ℕ))) (x offset after : ℕ) (done rest : List (List ℕ)) (out : List ℕ) (is_last : Bool)
     → (p : IsPlace pages held x offset done rest) → IsNext p.here p.todo after is_last out → IsRead pages held x after done rest out is_last
@@ -280,6 +281,7 @@ place_next pages held x offset after done rest out is_last p n = record {
     rest_is = refl;
   };
   none_left = n.none_left;
+  last_is = n.last_is;
 }
 
 at_place : (pages : List ℕ) (rs : List (List ℕ)) (new : RunPos) (x after : ℕ) (done rest : List (List ℕ)) → new.page ≡ Some x → new.offset ≡ after
@@ -287,6 +289,18 @@ at_place : (pages : List ℕ) (rs : List (List ℕ)) (new : RunPos) (x after : �
 at_place pages rs new x after done rest e f p =
     subst (λ o. IsAtPage pages rs o new.offset done rest) (sym e)
     (subst (λ n. IsPlace pages (layout rs) x n done rest) (sym f) p)
+
+at_next_place : (pages : List ℕ) (rs : List (List ℕ)) (new : RunPos) (x after : ℕ) (done rest : List (List ℕ)) → new.page ≡ Some x → new.offset ≡ after
+    → IsAtNext pages (layout rs) x after done rest → StandsAtNext pages rs new.page new.offset done rest
+at_next_place pages rs new x after done rest e f p =
+    subst (λ o. StandsAtNext pages rs o new.offset done rest) (sym e)
+    (subst (λ n. IsAtNext pages (layout rs) x n done rest) (sym f) p)
+
+head_is_next : (pages : List ℕ) (held : List (List (List ℕ))) (x : ℕ) (done rest : List (List ℕ)) → IsHead pages held x done rest → IsAtNext pages held x 16 done rest
+head_is_next pages held x done rest h = record {
+  place = h.place;
+  here = λ e. absurd (let z = ap length e in let s = h.some in omega arith);
+}
 
 pub reads_one : (s : Space) (run : Run) (rs : List (List ℕ)) (pages : List ℕ) (x offset : ℕ) (done rest : List (List ℕ)) (found : Found) (new : RunPos) (out : List ℕ)
     → IsRun s run rs pages → (p : IsPlace pages (layout rs) x offset done rest) → IsNext p.here p.todo found.after found.is_last out → IsBehind s x found new
@@ -300,6 +314,13 @@ reads_one s run rs pages x offset done rest found new out h p n b =
         | inl k ↦ at_place pages rs new x found.after (done ++ out ∷ []) r.behind k.page k.offset r.place
         | inr k ↦ at_place pages rs new k.next 16 (done ++ out ∷ []) r.behind k.page k.offset
             (place_moves s run rs pages x k.next found.after (done ++ out ∷ []) r.behind h r.place (r.none_left k.is_last) k.follows).place
+      ];
+      at_next = elim b [
+        | inl k ↦ at_next_place pages rs new x found.after (done ++ out ∷ []) r.behind k.page k.offset
+            (record { place = r.place; here = λ e. place_ends s run rs pages x found.after (done ++ out ∷ []) r.behind h r.place e (k.ends (r.last_is e)) })
+        | inr k ↦ at_next_place pages rs new k.next 16 (done ++ out ∷ []) r.behind k.page k.offset
+            (head_is_next pages (layout rs) k.next (done ++ out ∷ []) r.behind
+            (place_moves s run rs pages x k.next found.after (done ++ out ∷ []) r.behind h r.place (r.none_left k.is_last) k.follows))
       ];
     }
 

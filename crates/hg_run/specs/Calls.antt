@@ -13,7 +13,7 @@ use Rattle.hg_base.specs.declared.pages.PageFault.TheVariants as fault
 use Rattle.hg_run.specs.declared.Run.{Run}
 use Rattle.hg_run.specs.declared.RunPos.{RunPos}
 use Rattle.hg_run.specs.Layout.{pages_for}
-use Rattle.hg_run.specs.Runs.{IsChain, IsRun, IsAt, StandsOn}
+use Rattle.hg_run.specs.Runs.{IsChain, IsRun, IsAt, StandsAtNext, StandsOn}
 
 -- the temporary page with this number
 abbrev pub temp_page : ℕ → PageId
@@ -80,11 +80,13 @@ pub record Appends (a b : Space) (old new : Run) (pages : List ℕ) (r : List �
 pub record NeedsPage (rs : List (List ℕ)) (r : List ℕ) (pages : List ℕ) : Type 0 where
   pub more : pages_for (map length (rs ++ r ∷ [])) ≡ length pages + 1
 
--- the first record behind the position was read, and the position is behind it now
+-- the first record behind the position was read, and the position is behind it now, at the one that
+-- follows it
 pub record ReadsOne (pages : List ℕ) (rs : List (List ℕ)) (new : RunPos) (done rest : List (List ℕ)) (out : List ℕ) : Type 0 where
   pub behind : List (List ℕ)
   pub next : rest ≡ out ∷ behind
   pub place : IsAt pages rs new (done ++ out ∷ []) behind
+  pub at_next : StandsAtNext pages rs new.page new.offset (done ++ out ∷ []) behind
 
 -- Whether a record was read; none exactly where no record is behind the position.
 abbrev pub Reads : Bool → List ℕ → List (List ℕ) → RunPos → List (List ℕ) → List (List ℕ) → List ℕ → Type 0

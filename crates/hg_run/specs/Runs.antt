@@ -63,6 +63,16 @@ IsAtPage pages rs (Some x) offset done rest = IsPlace pages (layout rs) x offset
 abbrev pub IsAt : List ℕ → List (List ℕ) → RunPos → List (List ℕ) → List (List ℕ) → Type 0
 IsAt pages rs at done rest = IsAtPage pages rs at.page at.offset done rest
 
+-- Such a place is at the next record: where its page has none behind it, no page has one.
+pub record IsAtNext (pages : List ℕ) (held : List (List (List ℕ))) (x offset : ℕ) (done rest : List (List ℕ)) : Type 0 where
+  pub place : IsPlace pages held x offset done rest
+  pub here : place.todo ≡ [] → rest ≡ []
+
+-- a position that names its page, and is at the next record
+abbrev pub StandsAtNext : List ℕ → List (List ℕ) → Option ℕ → ℕ → List (List ℕ) → List (List ℕ) → Type 0
+StandsAtNext pages rs None offset done rest = ⊥
+StandsAtNext pages rs (Some x) offset done rest = IsAtNext pages (layout rs) x offset done rest
+
 -- the page that is named, if one is, is one of these
 abbrev pub StandsOn : List ℕ → Option ℕ → Type 0
 StandsOn pages None = ⊤

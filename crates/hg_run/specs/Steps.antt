@@ -99,6 +99,7 @@ pub record IsNext (done todo : List (List ℕ)) (after : ℕ) (is_last : Bool) (
   pub next : todo ≡ out ∷ rest
   pub after_is : after ≡ 16 + length (spelling (done ++ out ∷ []))
   pub none_left : is_last ≡ true → rest ≡ []
+  pub last_is : rest ≡ [] → is_last ≡ true
 
 abbrev pub TakesNext : List (List ℕ) → List (List ℕ) → Option Found → List ℕ → Type 0
 TakesNext done todo None out = todo ≡ []
@@ -121,10 +122,12 @@ PutsLast a b (Some x) r done = PutsOn a b x r done
 PutsLast a b None r true = ⊥
 PutsLast a b None r false = Looks a b
 
--- Where a position goes behind a record: behind it on its page, or to the page that follows.
-pub record IsBehindOn (x after : ℕ) (at : RunPos) : Type 0 where
+-- Where a position goes behind a record: behind it on its page, or, where it is the last one there, to
+-- the page that follows, if one does.
+pub record IsBehindOn (b : Space) (x : ℕ) (found : Found) (at : RunPos) : Type 0 where
   pub page : at.page ≡ Some x
-  pub offset : at.offset ≡ after
+  pub offset : at.offset ≡ found.after
+  pub ends : found.is_last ≡ true → b.next (key_in file.Temp x) ≡ None
 
 pub record IsBefore (b : Space) (x : ℕ) (found : Found) (at : RunPos) : Type 0 where
   pub is_last : found.is_last ≡ true
@@ -134,7 +137,7 @@ pub record IsBefore (b : Space) (x : ℕ) (found : Found) (at : RunPos) : Type 0
   pub offset : at.offset ≡ 16
 
 abbrev pub IsBehind : Space → ℕ → Found → RunPos → Type 0
-IsBehind b x found at = IsBehindOn x found.after at ⊎ IsBefore b x found at
+IsBehind b x found at = IsBehindOn b x found at ⊎ IsBefore b x found at
 
 -- the position, or the first one of the page that is named first
 abbrev pub position_from : RunPos → Option ℕ → RunPos

@@ -2,7 +2,7 @@ use Rattle.std.specs.Prelude.{◌≡◌, ℕ, ◌+◌, ◌-◌, ◌++◌, ◌∷
 use Rattle.std.proofs.lemmas.Bool.Decides.{nat_tests}
 use Rattle.hg_run.specs.Format.{spelling}
 use Rattle.std.proofs.Common.{sym, ◌∙◌, ap, arith}
-use Rattle.hg_run.proofs.Pages.{at_end, before_end, there, length-spelling-one, no_rest}
+use Rattle.hg_run.proofs.Pages.{at_end, before_end, there, length-spelling-one, spelling-none, no_rest}
 use Rattle.hg_run.proofs.page.take_at.Goals as goal
 
 pub returns-then-at-end-clause-next : goal.returns-then-at-end-clause-next
@@ -33,7 +33,11 @@ returns-clause-next c = λ done todo h.
       next = t.next ∙ ap (λ l. l ∷ t.rest) (sym text);
       after_is = let l = length-spelling-one done t.r in let k = ap (λ x. length (spelling (done ++ x ∷ []))) text in let p = h.place in let s = t.size in omega arith;
       none_left = λ z. no_rest t.rest (let i = t.inside in let q = same c.in_ok-after.after c.in_ok-end.end z in let s = t.size in omega arith);
+      last_is = λ z. equal c.in_ok-after.after c.in_ok-end.end (let i = t.inside in let n = ap length (ap spelling z ∙ spelling-none) in let s = t.size in omega arith);
     }
   where
     same : (m n : ℕ) → nat_eq m n ≡ true → m ≡ n
     same m n z = grind (arith, nat_tests)
+
+    equal : (m n : ℕ) → m ≡ n → nat_eq m n ≡ true
+    equal m n z = grind (arith, nat_tests)
