@@ -15,12 +15,12 @@ pub fn constant(input: &mut Input<'_>, room: &mut Room) -> Result<(), Syntax>
     ensures reads { constant keeper (kept room.old) (tokens input.old) ≡ told unit result room.new input.new }
     ensures moves { Moves input.old room.old input.new room.new }
 {
-    if let Some(text) = input.eat_text() {
-        room.push_text_value(&text);
-        return Ok(());
-    }
     if let Some(number) = input.eat_number() {
         room.push_positive(&number);
+        return Ok(());
+    }
+    if let Some(text) = input.eat_text() {
+        room.push_text_value(&text);
         return Ok(());
     }
     if input.eat_keyword(Keyword::Null) {

@@ -204,11 +204,11 @@ impl<'a> Input<'a> {
         ensures rest { tokens self.new ≡ past (is_some result) (tokens self.old) }
         ensures goes_on { GoesOn self.old self.new }
     {
-        let piece = self.piece;
-        match piece.kind {
+        match self.piece.kind {
             Kind::Text => {}
             _ => return None,
         }
+        let piece = self.piece;
         self.advance();
         Some(TextAt { piece })
     }
@@ -219,11 +219,11 @@ impl<'a> Input<'a> {
         ensures rest { tokens self.new ≡ past (is_some result) (tokens self.old) }
         ensures goes_on { GoesOn self.old self.new }
     {
-        let piece = self.piece;
-        match piece.kind {
+        match self.piece.kind {
             Kind::Number => {}
             _ => return None,
         }
+        let piece = self.piece;
         self.advance();
         Some(NumberAt { piece })
     }
@@ -234,11 +234,11 @@ impl<'a> Input<'a> {
         ensures rest { tokens self.new ≡ past (is_some result) (tokens self.old) }
         ensures goes_on { GoesOn self.old self.new }
     {
-        let piece = self.piece;
-        match piece.kind {
+        match self.piece.kind {
             Kind::Name => {}
             _ => return None,
         }
+        let piece = self.piece;
         self.advance();
         Some(NameAt { piece })
     }

@@ -435,6 +435,149 @@ fn bytes(rt: HostRuntime) {
     }
 }
 
+/// A statement of the grammar, or none.
+fn statement_where(is_one: bool) -> Reading {
+    if is_one {
+        Reading::Statement
+    } else {
+        Reading::Syntax
+    }
+}
+
+fn is_letter(byte: u8) -> bool {
+    (b'a' <= byte && byte <= b'z') || (b'A' <= byte && byte <= b'Z') || byte == b'_'
+}
+
+/// Whether a byte may stand alone between two operands.
+fn is_between_operands(byte: u8) -> bool {
+    match byte {
+        b'+' | b'-' | b'*' | b',' | b'=' | b'<' | b'>' => true,
+        _ => false,
+    }
+}
+
+/// Whether a line with a byte between two parts is a statement exactly where it should be one.
+fn is_statement_where(front: &[u8], byte: u8, end: &[u8], is_one: bool, room: &mut Room) -> bool {
+    let line = repeated(front, &[byte], 1, end);
+    is_read_as(line.as_slice(), statement_where(is_one), room)
+}
+
+#[test]
+fn bytes_inside(rt: HostRuntime) {
+    let mut room = Room::new();
+    for byte in 0..=255u8 {
+        let digit = b'0' <= byte && byte <= b'9';
+        let word = digit || is_letter(byte);
+        let blank = byte == b' ' || byte == b'\t';
+        let end = blank || byte == b';';
+        let joins = is_between_operands(byte);
+        let plain = 32 <= byte && byte <= 126 && byte != b'\'';
+        let column = word || joins || byte == b'.';
+        let table = word || blank || byte == b',';
+        assert!(rt;
+            is_statement_where(b"select a", byte, b"b from t", column, &mut room),
+            "column {}",
+            byte
+        );
+        assert!(rt;
+            is_statement_where(b"select a from t", byte, b"u", table, &mut room),
+            "table {}",
+            byte
+        );
+        assert!(rt;
+            is_statement_where(b"vacuum q", byte, b"", word || end, &mut room),
+            "word {}",
+            byte
+        );
+        assert!(rt;
+            is_statement_where(b"select 1", byte, b"2 from t", digit || joins, &mut room),
+            "number {}",
+            byte
+        );
+        assert!(rt;
+            is_statement_where(b"work 1", byte, b"", digit || end, &mut room),
+            "end {}",
+            byte
+        );
+        assert!(rt;
+            is_statement_where(b"insert into t values ('a", byte, b"b')", plain, &mut room),
+            "text {}",
+            byte
+        );
+    }
+}
+
+/// The words of commands that are names everywhere else.
+const COMMAND_WORDS: &str = "OPEN
+FOR
+START
+WORK
+FETCH
+CLOSE
+POOL
+MPL
+SHOW
+MEMORY
+VACUUM";
+
+/// Where a name may stand: what is before it, and what is behind it.
+const FRONTS: [&[u8]; 18] = [
+    b"select a from ",
+    b"select a from t join ",
+    b"create table ",
+    b"create index i on ",
+    b"insert into ",
+    b"update ",
+    b"delete from ",
+    b"vacuum ",
+    b"select ",
+    b"create table t (",
+    b"update t set ",
+    b"select t.",
+    b"select a from t ",
+    b"select a from t as ",
+    b"select a as ",
+    b"open ",
+    b"start ",
+    b"close ",
+];
+
+const ENDS: [&[u8]; 18] = [
+    b"",
+    b" on a = b",
+    b" (a int)",
+    b" (a)",
+    b" values (1)",
+    b" set a = 1",
+    b" where a = 1",
+    b"",
+    b" from t",
+    b" int)",
+    b" = 1",
+    b" from t",
+    b"",
+    b"",
+    b" from t",
+    b" for select a from t",
+    b" 1",
+    b"",
+];
+
+#[test]
+fn command_words_are_names(rt: HostRuntime) {
+    let mut room = Room::new();
+    for word in COMMAND_WORDS.lines() {
+        for i in 0..18usize {
+            let line = repeated(FRONTS[i], word.as_bytes(), 1, ENDS[i]);
+            assert!(rt;
+                is_read_as(line.as_slice(), Reading::Statement, &mut room),
+                "place {}",
+                i
+            );
+        }
+    }
+}
+
 /// Whether a node is an arithmetic of two nodes.
 fn is_arithmetic(room: &Room, at: usize, left: u8, right: u8) -> bool {
     match room.nodes.get(at) {
