@@ -351,15 +351,15 @@ fn primary(input: &mut Input<'_>, room: &mut Room, depth: u8) -> Result<u8, Synt
     ensures reads { prim keeper depth (inside keeper depth) (kept room.old) (tokens input.old) ≡ told same result room.new input.new }
     ensures moves { Moves input.old room.old input.new room.new }
 {
-    if let Some(text) = input.eat_text() {
-        return Ok(room.push_text(&text));
+    if let Some(name) = input.eat_name() {
+        let column = column_of(input, &name)?;
+        return Ok(room.push_column(&column));
     }
     if let Some(number) = input.eat_number() {
         return Ok(room.push_number(&number));
     }
-    if let Some(name) = input.eat_name() {
-        let column = column_of(input, &name)?;
-        return Ok(room.push_column(&column));
+    if let Some(text) = input.eat_text() {
+        return Ok(room.push_text(&text));
     }
     if input.eat_keyword(Keyword::Null) {
         return Ok(room.push_null());

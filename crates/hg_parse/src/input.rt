@@ -198,6 +198,7 @@ impl<'a> Input<'a> {
     }
 
     /// Takes a text where it comes next.
+    #[inline(always)]
     pub fn eat_text(&mut self) -> Option<TextAt<'a>>
         ensures reads { text_in (tokens self.old) ≡ option_map letters_at result }
         ensures left { IfSome result (λ t. length (letters_at t) + left self.new ≤ left self.old) }
@@ -214,6 +215,7 @@ impl<'a> Input<'a> {
     }
 
     /// Takes a number where it comes next.
+    #[inline(always)]
     pub fn eat_number(&mut self) -> Option<NumberAt<'a>>
         ensures reads { digits_in (tokens self.old) ≡ option_map number_at result }
         ensures rest { tokens self.new ≡ past (is_some result) (tokens self.old) }
@@ -229,6 +231,7 @@ impl<'a> Input<'a> {
     }
 
     /// Takes a name where it comes next.
+    #[inline(always)]
     pub fn eat_name(&mut self) -> Option<NameAt<'a>>
         ensures reads { name_in (tokens self.old) ≡ option_map word_at result }
         ensures rest { tokens self.new ≡ past (is_some result) (tokens self.old) }
