@@ -4,3 +4,4 @@ pub mod Keys
 pub mod Hashing
 pub mod Laws
 pub mod RowParts
+pub mod Looks

@@ -9,7 +9,9 @@ mod encode;
 mod hashing;
 mod keys;
 mod laws;
+mod look;
 mod order;
+mod room;
 mod row;
 #[cfg(test)]
 mod tests;
@@ -17,5 +19,6 @@ mod tests;
 pub use hashing::hash;
 pub use keys::{push_index_key, push_key};
 pub use laws::{codings_tell, index_keys_compare, keys_are_as_long, keys_compare};
+pub use look::Look;
 pub use order::compare;
 pub use row::Row;
