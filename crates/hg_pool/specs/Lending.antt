@@ -6,7 +6,7 @@ use Rattle.hg_base.specs.declared.PageId.{PageId}
 use Rattle.hg_raw.specs.Frames.{RegionId, ChainSeen, bytes_of}
 use Rattle.hg_pool.specs.Disks.{page_on}
 use Rattle.hg_pool.specs.Keeping.{IsJust}
-use Rattle.hg_pool.specs.Shown.{state_of, disks_of, frame_of, owed, max_of}
+use Rattle.hg_pool.specs.Shown.{state_of, disks_of, in_frame, frame_of, owed, max_of}
 use Rattle.hg_pool.specs.declared.parts.Parts.{Parts}
 
 -- the space after the page with that key was handed out: its bytes are not told
@@ -58,3 +58,7 @@ module _ {M T : Type 0} where
     pub lent : lent_of b ≡ lent_of a - 1
     pub max : max_of b ≡ max_of a
     pub region : region_of b ≡ region_of a
+
+  -- each page that is handed out stays in its frame
+  abbrev pub KeepsOut : Ghosts M → Ghosts T → Parts M T → Parts M T → Type 0
+  KeepsOut m t a b = (q : PageId) → (state_of m t a).of_heap (key q) ≡ true → (in_frame b q ≡ true) × (frame_of b q ≡ frame_of a q)

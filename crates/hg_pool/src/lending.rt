@@ -14,7 +14,7 @@ impl<M: PageDevice, T: PageDevice> Parts<M, T> {
     ghost use Rattle.hg_pool.specs.Shown.{state_of, IsWhole, in_frame, frame_of, page_in, clock_of, current_of, SameFrames, KeepsFrames, owed, Asked, IsRefused};
     ghost use Rattle.hg_pool.specs.Work.{evicted, owed_by};
     ghost use Rattle.hg_pool.specs.Keeping.{SameStock};
-    ghost use Rattle.hg_pool.specs.Lending.{put_back, IsHandedOut, lent_of, IsChainOf, bytes_in, IsAsOnDevice, OneMoreOut, OneLessOut};
+    ghost use Rattle.hg_pool.specs.Lending.{put_back, IsHandedOut, lent_of, IsChainOf, bytes_in, IsAsOnDevice, OneMoreOut, OneLessOut, KeepsOut};
 
     pub(crate) fn take_page(&mut self, page: PageId) -> Result<Chain, PageFault>
         requires whole { IsWhole M.PageDevice T.PageDevice self.old }
@@ -45,6 +45,7 @@ impl<M: PageDevice, T: PageDevice> Parts<M, T> {
         ensures stays_ok { in_frame self.old page ≡ true → IsOk result }
         ensures keeps_frames { OnOk result (KeepsFrames self.old self.new page (frame_of self.new page)) }
         ensures same_frames { in_frame self.old page ≡ true → SameFrames self.old self.new }
+        ensures keeps_out { KeepsOut M.PageDevice T.PageDevice self.old self.new }
         ensures keeps_counts { in_frame self.old page ≡ true → self.new.store.counts ≡ self.old.store.counts }
         ensures evicts { OnOk result (in_frame self.old page ≡ false → self.new.store.counts.evictions
             ≡ evicted (page_in self.old (frame_of self.new page)) self.old.store.counts.evictions) }

@@ -37,7 +37,7 @@ impl<M: PageDevice, T: PageDevice> Pool<M, T> {
     ghost use Rattle.hg_clock.specs.Clock.{score_of};
     ghost use Rattle.hg_pool.specs.Clocking.{ComesIn, used, back};
     ghost use Rattle.hg_pool.specs.Work.{evicted};
-    ghost use Rattle.hg_pool.specs.Lending.{put_back, IsHandedOut, lent_of, IsChainOf, bytes_in, IsAsOnDevice, OneMoreOut, OneLessOut};
+    ghost use Rattle.hg_pool.specs.Lending.{put_back, IsHandedOut, lent_of, IsChainOf, bytes_in, IsAsOnDevice, OneMoreOut, OneLessOut, KeepsOut};
     ghost use Rattle.hg_base.specs.Causes.{HasCause, PinFault, fault_of};
     ghost use Rattle.hg_pool.specs.Resizing.{NoneOut, with_current, Writes, KeepsBelow, StaysWhole};
     ghost use Rattle.hg_pool.specs.Disks.{disk_of};
@@ -76,6 +76,7 @@ impl<M: PageDevice, T: PageDevice> Pool<M, T> {
         ensures count { result ≡ current_of self.now }
         ensures at_least { 16 ≤ result }
         ensures reserved { result ≤ max_of self.now }
+        ensures most { max_of self.now ≤ 65536 }
     {
         self.parts.store.frames.count() as u32
     }
@@ -91,6 +92,8 @@ impl<M: PageDevice, T: PageDevice> Pool<M, T> {
     pub fn frame_of(&self, page: PageId) -> Option<FrameNo>
         ensures some { IfSome result (λ frame. (in_frame self.now page ≡ true) × (frame.0 ≡ frame_of self.now page)) }
         ensures none { IfNone result (in_frame self.now page ≡ false) }
+        ensures reserved { IfSome result (λ frame. frame.0 < max_of self.now) }
+        ensures most { max_of self.now ≤ 65536 }
     {
         match self.parts.store.find(page) {
             Some(at) => Some(FrameNo(at as u32)),
@@ -158,6 +161,7 @@ impl<M: PageDevice, T: PageDevice> Pool<M, T> {
         ensures stays_ok { in_frame self.old page ≡ true → IsOk result }
         ensures keeps_frames { OnOk result (KeepsFrames self.old self.new page (frame_of self.new page)) }
         ensures same_frames { in_frame self.old page ≡ true → SameFrames self.old self.new }
+        ensures keeps_out { KeepsOut M.PageDevice T.PageDevice self.old self.new }
         ensures keeps_counts { in_frame self.old page ≡ true → counts_of_pool self.new ≡ counts_of_pool self.old }
         ensures evicts { OnOk result (in_frame self.old page ≡ false → (counts_of_pool self.new).evictions
             ≡ evicted (page_in self.old (frame_of self.new page)) (counts_of_pool self.old).evictions) }

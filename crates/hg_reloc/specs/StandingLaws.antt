@@ -15,6 +15,7 @@ use Rattle.hg_base.specs.HeapPage.{IsHeapPage, AreHeapPages, Stands}
 use Rattle.hg_base.specs.Lines.{AreApart}
 use Rattle.hg_base.specs.Parts.{below, above, within, length-written}
 use Rattle.hg_reloc.specs.Moves.{Moves, frame_after, moved_word}
+use Rattle.hg_reloc.specs.Blocks.{IsMoved}
 use Rattle.hg_reloc.specs.Standing.{MovesLink, MovesLinks, MovesPages}
 
 -- the map leads each of these frames to the one beside it
@@ -33,6 +34,17 @@ abbrev pub AreRewritten : Moves → List ℕ → List (List ℕ) → List (List 
 AreRewritten m [] [] [] = ⊤
 AreRewritten m (f ∷ fs) (old ∷ olds) (new ∷ news) = IsRewritten m f old new × AreRewritten m fs olds news
 AreRewritten m fs olds news = ⊥
+
+-- Each of its addresses was moved, once, and it names its new frame; every other byte stayed.
+pub record IsRelocated (m : Moves) (frame : ℕ) (old new : List ℕ) : Type 0 where
+  pub page : List ℕ
+  pub moved : IsMoved m old page
+  pub named : new ≡ put_mid 4 4 page (to_le_bytes w32 frame)
+
+abbrev pub AreRelocated : Moves → List ℕ → List (List ℕ) → List (List ℕ) → Type 0
+AreRelocated m [] [] [] = ⊤
+AreRelocated m (f ∷ fs) (old ∷ olds) (new ∷ news) = IsRelocated m f old new × AreRelocated m fs olds news
+AreRelocated m fs olds news = ⊥
 
 -- a page that names another frame is a page of that frame
 pub named_page : (a : ℕ → ℕ) (roots : List (Option ℕ)) (os : List Object) (f g : ℕ) (page : List ℕ) → IsHeapPage a roots os f page

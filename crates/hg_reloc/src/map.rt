@@ -45,6 +45,13 @@ impl MoveMap {
         }
     }
 
+    /// The number below which all its frames are.
+    pub fn max(&self) -> u32
+        ensures { result ≡ self.now.max }
+    {
+        self.max
+    }
+
     /// The page that stood in the frame `old` stands in the frame `new` from now on.
     #[tactic(auto, using(crate::proofs::Entries::more))]
     pub fn set(&mut self, old: FrameNo, new: FrameNo)

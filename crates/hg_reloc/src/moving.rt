@@ -2,7 +2,7 @@
 ghost use Rattle.std.specs.Prelude.{◌≡◌, ◌+◌, ◌*◌, ◌≤◌, ◌<◌, ◌++◌, ◌^◌, length, take, drop};
 ghost use Rattle.hg_reloc.specs.Blocks.{IsMade, IsMoved, BeginsObject, MovesObject, moved_words};
 ghost use Rattle.hg_reloc.specs.Standing.{MovesPages};
-ghost use Rattle.hg_reloc.specs.StandingLaws.{IsRewritten};
+ghost use Rattle.hg_reloc.specs.StandingLaws.{IsRewritten, IsRelocated};
 
 use crate::object::{END, KIND, size_for, word_count};
 use crate::{FIRST, FRAME, MoveMap, ROOT_COUNT, ROOTS};
@@ -61,7 +61,8 @@ pub fn rewrite(page: &mut [u8], map: &MoveMap)
 /// heap stands in the new frames, also where its pages land in one another's old ones.
 pub fn move_page(page: &mut [u8], map: &MoveMap, frame: FrameNo)
     requires { IsMade page.old }
-    ensures { IsRewritten map.now frame.0 page.old page.new }
+    ensures stands { IsRewritten map.now frame.0 page.old page.new }
+    ensures addresses { IsRelocated map.now frame.0 page.old page.new }
 {
     rewrite(page, map);
     put_u32(page, FRAME, frame.0);

@@ -19,6 +19,7 @@ use Rattle.hg_pool.specs.declared.store.Store.{Store}
 use Rattle.hg_pool.proofs.Asking.{owed-some}
 use Rattle.hg_pool.proofs.Calling.{still-free, still-home}
 use Rattle.hg_pool.proofs.HandedOut.{hands-out, handed-behind, more-room}
+use Rattle.hg_pool.proofs.Handing.{taken-keeps, refused-keeps}
 use Rattle.hg_pool.proofs.Hands.{comes-in, used-seven}
 use Rattle.hg_pool.proofs.Moves.{one-bytes}
 use Rattle.hg_pool.proofs.Passing.{ticks, frame-set}
@@ -173,3 +174,13 @@ returns-clause-evicts g c =
 
 pub returns-clause-uncounted : goal.returns-clause-uncounted
 returns-clause-uncounted g c = λ same reads writes. c.in_ok-at.ensures.uncounted (sym (ap (λ (z : Store). z.counts) c.lend.ensures.after) ∙ same) reads writes
+
+pub returns-clause-keeps_out : goal.returns-clause-keeps_out
+returns-clause-keeps_out g c =
+    let m : Parts g.row.M.Denot g.row.T.Denot = c.bring.new.self in
+    taken-keeps g.M.PageDevice g.T.PageDevice c.args.self.now (record m { store = c.lend.new.self }) c.args.page c.requires.whole c.requires.not_out
+    (returns-clause-same_frames g c) (returns-clause-comes g c) (returns-clause-keeps_frames g c)
+
+pub returns-in_err-at-clause-keeps_out : goal.returns-in_err-at-clause-keeps_out
+returns-in_err-at-clause-keeps_out g c =
+    refused-keeps g.M.PageDevice g.T.PageDevice c.args.self.now c.bring.new.self c.args.page _ c.requires.whole c.in_err-at.ensures.refused
