@@ -1,0 +1,7 @@
+pub mod Buckets
+pub mod Chains
+pub mod Names
+pub mod Tables
+pub mod Changing
+pub mod Following
+pub mod Moving
