@@ -7,9 +7,9 @@ use denote.RawPtr.{Ptr}
 use Rattle.hg_raw.specs.declared.slots.Slots.{Slots}
 use Rattle.hg_raw.specs.declared.chain.Chain.TheInside.{Inside}
 use Rattle.hg_raw.specs.ChainParts.{IsChain, chain_seen}
-use Rattle.hg_raw.specs.Frames.{Frame, RegionId, ChainSeen, numbers, is_in, distinct, apart, bytes_of, without, with_bytes, refit}
+use Rattle.hg_raw.specs.Frames.{Frame, RegionId, ChainSeen, numbers, is_in, distinct, apart, bytes_of, without, minus, with_bytes, refit}
 use Rattle.hg_raw.specs.Links.{first_of, last_of, nil, word, linked, from, behind, before, marked, Sized, Below}
-use Rattle.hg_raw.proofs.Lists.{minus, linked-numbers, linked-sized, sized-at, linked-next, from-next, below-at, no_nil, last-in, linked-join, first-append, last-append, numbers-append, sized-append, below-append, distinct-append, linked-minus, numbers-without, sized-without, below-minus, distinct-minus, first-minus, last-minus, sized-with, numbers-with, from-first, before-next, from-in, from-behind, or_false, clash, same, by_bool, differ, with-none, before-in, or_rest, in-append, in-minus, bytes-without, bytes-append}
+use Rattle.hg_raw.proofs.Lists.{linked-numbers, linked-sized, sized-at, linked-next, from-next, below-at, no_nil, last-in, linked-join, first-append, last-append, numbers-append, sized-append, below-append, distinct-append, linked-minus, numbers-without, sized-without, below-minus, distinct-minus, first-minus, last-minus, sized-with, numbers-with, from-first, before-next, from-in, from-behind, or_false, clash, same, by_bool, differ, with-none, before-in, or_rest, in-append, in-minus, bytes-without, bytes-append}
 
 pub first-small : (N : ℕ) (ns : List ℕ) → N < 2 ^ 32 → Below N ns → first_of ns < 2 ^ 32
 first-small N [] small b = lit< tt

@@ -5,9 +5,9 @@ use Rattle.std.proofs.Math.Bool.{and-true}
 use Rattle.std.proofs.lemmas.List.{ext_get_or, get_or-set_same, get_or-set_other, get_or-replicate}
 use Rattle.std.proofs.lemmas.List.FromFn.{length-map-range_with_len, get_or-map-range_with_len}
 use Rattle.std.specs.List.{range_with_len}
-use Rattle.hg_raw.specs.Frames.{Frame, numbers, is_in, distinct, apart, bytes_of, without, put_home, fresh_home}
+use Rattle.hg_raw.specs.Frames.{Frame, numbers, is_in, distinct, apart, bytes_of, without, minus, put_home, fresh_home}
 use Rattle.hg_raw.specs.Links.{Sized, Below, zeros, home_of, at_home, flags, marked}
-use Rattle.hg_raw.proofs.Lists.{same, clash, case_eq, differ, fst_true, snd_true, not_true, or_false, minus, in-minus, numbers-without, bytes-without, bytes-append, in-append, numbers-append}
+use Rattle.hg_raw.proofs.Lists.{same, clash, case_eq, differ, fst_true, snd_true, not_true, or_false, in-minus, numbers-without, bytes-without, bytes-append, in-append, numbers-append}
 
 -- a list by number, with one of its values changed
 pub changed : {X : Type 0} → (f g : ℕ → X) (N n : ℕ) (v d : X) → n < N → g n ≡ v → ((i : ℕ) → (i ≡ n → ⊥) → g i ≡ f i) → map g (range_with_len 0 N) ≡ slice_set (map f (range_with_len 0 N)) n v

@@ -1,3 +1,4 @@
+pub mod Blank
 pub mod Blocks
 pub mod CallerLemmas
 pub mod Chains

@@ -4,13 +4,8 @@ use lib.Dec.{eqb→eq, eqb_refl}
 use Rattle.std.proofs.Math.Bool.{and-true}
 use Rattle.std.proofs.Common.{append-nil}
 use native.Mathlib.Nat.{not-suc-le-zero}
-use Rattle.hg_raw.specs.Frames.{Frame, numbers, is_in, distinct, apart, bytes_of, without, with_bytes}
+use Rattle.hg_raw.specs.Frames.{Frame, numbers, is_in, distinct, apart, bytes_of, without, minus, with_bytes}
 use Rattle.hg_raw.specs.Links.{first_of, last_of, nil, word, linked, from, behind, before, Sized, Below}
-
--- the numbers but n
-abbrev pub minus : List ℕ → ℕ → List ℕ
-minus [] n = []
-minus (m ∷ ms) n = if m == n then ms else m ∷ minus ms n
 
 -- ---- tests
 pub same : (m : ℕ) → (m == m) ≡ true

@@ -10,8 +10,8 @@ use base.Fml.{Lft, Fml}
 use types.Logic.{Logic, sem}
 use types.Kit.{‵, ◌⊛◌, ◌$◌, ◌∵◌, !, qed, by, move, keep, drop, use1, use2, split, fsplit, fjoin, frame, rewrite, done}
 use denote.RawPtr.{Ptr}
-use Rattle.hg_raw.specs.Frames.{Frame, numbers, is_in, bytes_of, without, with_bytes}
-use Rattle.hg_raw.specs.Memory.{part_own, parts_own, part_lent, parts_lent}
+use Rattle.hg_raw.specs.Frames.{Frame, numbers, is_in, bytes_of, without, minus, with_bytes}
+use Rattle.hg_raw.specs.Memory.{part_own, parts_own, part_lent, parts_lent, blank_own, blanks_own}
 use Rattle.std.proofs.Common.{◌==◌, if◌then◌else◌}
 use Rattle.hg_raw.proofs.Lists.{clash, or_rest}
 
@@ -50,6 +50,16 @@ module _ {M : Type 1} {𝓤 : Ura M} (𝓛 : Logic 𝓤) (p : Ptr) (s : ℕ) whe
       (λ e. subst Goal (sym e) (qed 𝓛 (‵ (part_own p s (n, w)) ∷ ‵ (parts_own p s fs) ∷ []) ∵ rewrite ! 0 (λ (k : ℕ). ‵ (part_own p s (k, w))) (sym (eqb→eq f.0 n (subst T (sym e) tt))) refl $ fjoin ! $ done !))
       (λ e. subst Goal (sym e) (qed 𝓛 (‵ (part_own p s (n, w)) ∷ ‵ (parts_own p s (f ∷ without fs n)) ∷ []) ∵ move ! (1 ∷ []) $ fsplit ! $ move ! (2 ∷ 1 ∷ []) $
       use2 𝓛 (‵ (parts_own p s (with_bytes fs n w))) (part_in fs n w (or_rest (f.0 == n) (is_in n (numbers fs)) h e)) $ move ! (1 ∷ 0 ∷ []) $ fjoin ! $ done !))
+
+  -- the same of parts that nothing was written to
+  pub blank_out : (ns : List ℕ) (n : ℕ) → is_in n ns ≡ true → ⟦ blanks_own p s ns ⟧ ⊢ ⟦ blank_own p s n ⟧ ∗ ⟦ blanks_own p s (minus ns n) ⟧
+  blank_out [] n h = let no : ⊥ = clash false h refl in absurd no
+  blank_out (m ∷ ms) n h =
+      let Goal : Bool → Type 1 = λ t. ⟦ blanks_own p s (m ∷ ms) ⟧ ⊢ ⟦ blank_own p s n ⟧ ∗ ⟦ blanks_own p s (if t then ms else m ∷ minus ms n) ⟧ in
+      by_test (m == n)
+      (λ e. subst Goal (sym e) (qed 𝓛 (‵ (blanks_own p s (m ∷ ms)) ∷ []) ∵ fsplit ! $ rewrite ! 0 (λ (k : ℕ). ‵ (blank_own p s k)) (eqb→eq m n (subst T (sym e) tt)) refl $ done !))
+      (λ e. subst Goal (sym e) (qed 𝓛 (‵ (blanks_own p s (m ∷ ms)) ∷ []) ∵ fsplit ! $ move ! (1 ∷ []) $
+      use1 𝓛 (‵ (blank_own p s n) ⊛ ‵ (blanks_own p s (minus ms n))) (blank_out ms n (or_rest (m == n) (is_in n ms) h e)) $ split ! $ frame ! $ move ! (1 ∷ 0 ∷ []) $ fjoin ! $ done !))
 
   pub parts_joined : (fs gs : List Frame) → ⟦ parts_own p s fs ⟧ ∗ ⟦ parts_own p s gs ⟧ ⊢ ⟦ parts_own p s (fs ++ gs) ⟧
   parts_joined [] gs = snd∗ 𝓤 (emp 𝓤) ⟦ parts_own p s gs ⟧

@@ -9,13 +9,14 @@ use Rattle.std.proofs.Math.Seq.{take-append_seam}
 use Rattle.std_alloc.specs.Vec.{with_items}
 use denote.RawPtr.{Ptr, ◌+ₚ◌}
 use Rattle.hg_raw.specs.declared.slots.Slots.{Slots}
+use Rattle.hg_raw.specs.PageParts.{PagesSeen}
 use Rattle.hg_raw.specs.declared.region.Region.TheInside.{Inside}
 use Rattle.hg_raw.specs.declared.chain.Chain.TheInside.{Inside as Parts}
 use Rattle.hg_raw.specs.RegionParts.{IsRegion, region_seen}
 use Rattle.hg_raw.specs.ChainParts.{IsChain, chain_seen}
-use Rattle.hg_raw.specs.Frames.{Frame, RegionId, RegionSeen, ChainSeen, numbers, is_in, distinct, apart, bytes_of, without, is_home, home_bytes, bytes_or_none, taken, given_back, fresh_home}
+use Rattle.hg_raw.specs.Frames.{Frame, RegionId, RegionSeen, ChainSeen, numbers, is_in, distinct, apart, bytes_of, without, minus, is_home, home_bytes, bytes_or_none, taken, given_back, fresh_home}
 use Rattle.hg_raw.specs.Links.{Sized, Below, home_of, at_home, flags, marked, zeros}
-use Rattle.hg_raw.proofs.Lists.{by_bool, clash, minus, numbers-without, sized-without, below-minus, distinct-minus, numbers-append, sized-append, below-append, distinct-append, below-at, in-append, bytes-append}
+use Rattle.hg_raw.proofs.Lists.{by_bool, clash, numbers-without, sized-without, below-minus, distinct-minus, numbers-append, sized-append, below-append, distinct-append, below-at, in-append, bytes-append}
 use Rattle.hg_raw.proofs.Homes.{home-at, home-taken, flags-minus, home-back, flags-back, zeros-numbers, zeros-sized, zeros-below, zeros-distinct, fresh, fresh-flags, length-flags, flag-at, length-marked, apart-out}
 use Rattle.hg_raw.proofs.Chains.{word_numbers, words-sized}
 
@@ -51,24 +52,24 @@ home-bytes r v e n lt h =
     ap (λ (v : RegionSeen). home_bytes v n) (sym e) ∙ ap bytes_or_none (home-at r.pages.held r.frames n lt) ∙ bytes-if (is_in n (numbers r.pages.held)) (bytes_of r.pages.held n) h
 
 pub chain-taken : (r : Inside) (v : RegionSeen) → region_seen r ≡ v → (f : ℕ) → f < r.frames → is_in f (numbers r.pages.held) ≡ true → (ws ps : Slots) → ws.base ≡ r.words.base
-    → ps ≡ record { base = r.pages.base; size = r.pages.size; held = (f, bytes_of r.pages.held f) ∷ [] }
+    → ps ≡ record { base = r.pages.base; size = 4096; held = (f, bytes_of r.pages.held f) ∷ [] }
     → chain_seen (record { words = ws; pages = ps; frames = r.frames; first = f; last = f }) ≡ record { region = v.region; frames = (f, home_bytes v f) ∷ [] }
 chain-taken r v e f lt h ws ps ew ep =
     (λ i. record { region = record { words = ew i; pages = (ep i).base; frames = r.frames }; frames = (ep i).held }) ∙
     (λ i. record { region = (e i).region; frames = (f, sym (home-bytes r v e f lt h) i) ∷ [] })
 
 pub taken-is : (r : Inside) → IsRegion r → (f : ℕ) → f < r.frames → (e : Inside) → e.words ≡ record { base = r.words.base; size = r.words.size; held = without r.words.held f }
-    → e.pages ≡ record { base = r.pages.base; size = r.pages.size; held = without r.pages.held f } → e.frames ≡ r.frames → e.home.items ≡ slice_set r.home.items f false → e.shell ≡ r.shell → IsRegion e
+    → e.pages ≡ record { base = r.pages.base; frames = r.pages.frames; held = without r.pages.held f } → e.frames ≡ r.frames → e.home.items ≡ slice_set r.home.items f false → e.shell ≡ r.shell → IsRegion e
 taken-is r is f lt e ew ep ef eh el =
     let ns : List ℕ = numbers r.pages.held in
     let wheld : e.words.held ≡ without r.words.held f = ap (λ (s : Slots). s.held) ew in
-    let held : e.pages.held ≡ without r.pages.held f = ap (λ (s : Slots). s.held) ep in
+    let held : e.pages.held ≡ without r.pages.held f = ap (λ (s : PagesSeen). s.held) ep in
     let all : numbers e.pages.held ≡ minus ns f = ap numbers held ∙ numbers-without r.pages.held f in
     let wbase : e.words.base ≡ r.words.base = ap (λ (s : Slots). s.base) ew in
-    let base : e.pages.base ≡ r.pages.base = ap (λ (s : Slots). s.base) ep in
+    let base : e.pages.base ≡ r.pages.base = ap (λ (s : PagesSeen). s.base) ep in
     record {
       word_size = ap (λ (s : Slots). s.size) ew ∙ is.word_size;
-      page_size = ap (λ (s : Slots). s.size) ep ∙ is.page_size;
+      page_count = ap (λ (s : PagesSeen). s.frames) ep ∙ is.page_count ∙ sym ef;
       words = ap numbers wheld ∙ numbers-without r.words.held f ∙ ap (λ (ms : List ℕ). minus ms f) is.words ∙ sym all;
       words_sized = subst (Sized 4) (sym wheld) (sized-without 4 r.words.held f is.words_sized);
       sized = subst (Sized 4096) (sym held) (sized-without 4096 r.pages.held f is.sized);
@@ -81,26 +82,30 @@ taken-is r is f lt e ew ep ef eh el =
     }
 
 pub seen-taken : (r : Inside) → IsRegion r → (v : RegionSeen) → region_seen r ≡ v → (f : ℕ) → f < r.frames → (e : Inside) → e.words.base ≡ r.words.base
-    → e.pages ≡ record { base = r.pages.base; size = r.pages.size; held = without r.pages.held f } → e.frames ≡ r.frames → region_seen e ≡ taken v f
+    → e.pages ≡ record { base = r.pages.base; frames = r.pages.frames; held = without r.pages.held f } → e.frames ≡ r.frames → region_seen e ≡ taken v f
 seen-taken r is v ev f lt e ew ep ef =
     (λ i. record { region = record { words = ew i; pages = (ep i).base; frames = ef i }; home = at_home (ep i).held (ef i) }) ∙
     ap (λ (home : List (Option (List ℕ))). record { region = (region_seen r).region; home = home }) (home-taken r.pages.held r.frames f lt is.distinct) ∙ ap (λ (v : RegionSeen). taken v f) ev
 
 -- ---- a chain given back
+-- no page has two owners, since no word has
+pub far-pages : (r : Inside) (c : Parts) → IsRegion r → IsChain c → apart (numbers r.words.held) (numbers c.words.held) ≡ true → apart (numbers r.pages.held) (numbers c.pages.held) ≡ true
+far-pages r c is it far = (λ i. apart (sym is.words i) (sym (word_numbers c it) i)) ∙ far
+
 pub back-is : (r : Inside) (c : Parts) → IsRegion r → IsChain c → (chain_seen c).region ≡ (region_seen r).region → apart (numbers r.pages.held) (numbers c.pages.held) ≡ true
-    → (e : Inside) → e.words ≡ record { base = r.words.base; size = r.words.size; held = r.words.held ++ c.words.held } → e.pages ≡ record { base = r.pages.base; size = r.pages.size; held = r.pages.held ++ c.pages.held }
+    → (e : Inside) → e.words ≡ record { base = r.words.base; size = r.words.size; held = r.words.held ++ c.words.held } → e.pages ≡ record { base = r.pages.base; frames = r.pages.frames; held = r.pages.held ++ c.pages.held }
     → e.frames ≡ r.frames → e.home.items ≡ marked r.home.items (numbers c.pages.held) → e.shell ≡ r.shell → IsRegion e
 back-is r c is it same_region far e ew ep ef eh el =
     let ns : List ℕ = numbers r.pages.held in let ms : List ℕ = numbers c.pages.held in
     let wheld : e.words.held ≡ r.words.held ++ c.words.held = ap (λ (s : Slots). s.held) ew in
-    let held : e.pages.held ≡ r.pages.held ++ c.pages.held = ap (λ (s : Slots). s.held) ep in
+    let held : e.pages.held ≡ r.pages.held ++ c.pages.held = ap (λ (s : PagesSeen). s.held) ep in
     let all : numbers e.pages.held ≡ ns ++ ms = ap numbers held ∙ numbers-append r.pages.held c.pages.held in
     let wbase : e.words.base ≡ r.words.base = ap (λ (s : Slots). s.base) ew in
-    let base : e.pages.base ≡ r.pages.base = ap (λ (s : Slots). s.base) ep in
+    let base : e.pages.base ≡ r.pages.base = ap (λ (s : PagesSeen). s.base) ep in
     let small : Below r.frames ms = subst (λ n. Below n ms) (ap (λ (i : RegionId). i.frames) same_region) it.below in
     record {
       word_size = ap (λ (s : Slots). s.size) ew ∙ is.word_size;
-      page_size = ap (λ (s : Slots). s.size) ep ∙ is.page_size;
+      page_count = ap (λ (s : PagesSeen). s.frames) ep ∙ is.page_count ∙ sym ef;
       words = ap numbers wheld ∙ numbers-append r.words.held c.words.held ∙ (λ i. is.words i ++ word_numbers c it i) ∙ sym all;
       words_sized = subst (Sized 4) (sym wheld) (sized-append 4 r.words.held c.words.held is.words_sized (words-sized c it));
       sized = subst (Sized 4096) (sym held) (sized-append 4096 r.pages.held c.pages.held is.sized it.sized);
@@ -113,22 +118,22 @@ back-is r c is it same_region far e ew ep ef eh el =
     }
 
 pub seen-back : (r : Inside) (c : Parts) → IsChain c → (v : RegionSeen) (w : ChainSeen) → region_seen r ≡ v → chain_seen c ≡ w → (chain_seen c).region ≡ (region_seen r).region → apart (numbers r.pages.held) (numbers c.pages.held) ≡ true
-    → (e : Inside) → e.words.base ≡ r.words.base → e.pages ≡ record { base = r.pages.base; size = r.pages.size; held = r.pages.held ++ c.pages.held } → e.frames ≡ r.frames → region_seen e ≡ given_back v w.frames
+    → (e : Inside) → e.words.base ≡ r.words.base → e.pages ≡ record { base = r.pages.base; frames = r.pages.frames; held = r.pages.held ++ c.pages.held } → e.frames ≡ r.frames → region_seen e ≡ given_back v w.frames
 seen-back r c it v w ev ew' same_region far e ew ep ef =
     let small : Below r.frames (numbers c.pages.held) = subst (λ n. Below n (numbers c.pages.held)) (ap (λ (i : RegionId). i.frames) same_region) it.below in
     (λ i. record { region = record { words = ew i; pages = (ep i).base; frames = ef i }; home = at_home (ep i).held (ef i) }) ∙
     ap (λ (home : List (Option (List ℕ))). record { region = (region_seen r).region; home = home }) (home-back r.pages.held c.pages.held r.frames small it.distinct far) ∙ (λ i. given_back (ev i) (ew' i).frames)
 
 -- ---- a new region
-pub new-is : (e : Inside) → (p : Ptr) → e.words ≡ record { base = p; size = 4; held = zeros 4 e.frames } → e.pages ≡ record { base = p +ₚ (4 * e.frames); size = 4096; held = zeros 4096 e.frames } → e.frames < 2 ^ 32
+pub new-is : (e : Inside) → (p : Ptr) → e.words ≡ record { base = p; size = 4; held = zeros 4 e.frames } → e.pages ≡ record { base = p +ₚ (4 * e.frames); frames = e.frames; held = zeros 4096 e.frames } → e.frames < 2 ^ 32
     → e.home.items ≡ replicate e.frames true → e.shell ≡ record { base = p; frames = e.frames } → IsRegion e
 new-is e p ew ep few eh es =
     let wheld : e.words.held ≡ zeros 4 e.frames = ap (λ (s : Slots). s.held) ew in
-    let held : e.pages.held ≡ zeros 4096 e.frames = ap (λ (s : Slots). s.held) ep in
+    let held : e.pages.held ≡ zeros 4096 e.frames = ap (λ (s : PagesSeen). s.held) ep in
     let wbase : e.words.base ≡ p = ap (λ (s : Slots). s.base) ew in
     record {
       word_size = ap (λ (s : Slots). s.size) ew;
-      page_size = ap (λ (s : Slots). s.size) ep;
+      page_count = ap (λ (s : PagesSeen). s.frames) ep;
       words = ap numbers wheld ∙ zeros-numbers 4 4096 e.frames ∙ sym (ap numbers held);
       words_sized = subst (Sized 4) (sym wheld) (zeros-sized 4 e.frames);
       sized = subst (Sized 4096) (sym held) (zeros-sized 4096 e.frames);
@@ -137,11 +142,11 @@ new-is e p ew ep few eh es =
       distinct = ap (λ (fs : List Frame). distinct (numbers fs)) held ∙ zeros-distinct 4096 e.frames;
       home = eh ∙ sym (fresh-flags e.frames) ∙ ap (λ (fs : List Frame). flags (numbers fs) e.frames) (sym held);
       shell = es ∙ ap (λ (q : Ptr). record { base = q; frames = e.frames }) (sym wbase);
-      pages = ap (λ (s : Slots). s.base) ep ∙ ap (λ (q : Ptr). q +ₚ (4 * e.frames)) (sym wbase);
+      pages = ap (λ (s : PagesSeen). s.base) ep ∙ ap (λ (q : Ptr). q +ₚ (4 * e.frames)) (sym wbase);
     }
 
-pub new-home : (ps : Slots) (q : Ptr) (n : ℕ) → ps ≡ record { base = q; size = 4096; held = zeros 4096 n } → at_home ps.held n ≡ fresh_home n
-new-home ps q n e = ap (λ (s : Slots). at_home s.held n) e ∙ fresh n
+pub new-home : (ps : PagesSeen) (q : Ptr) (n : ℕ) → ps ≡ record { base = q; frames = n; held = zeros 4096 n } → at_home ps.held n ≡ fresh_home n
+new-home ps q n e = ap (λ (s : PagesSeen). at_home s.held n) e ∙ fresh n
 
 pub not-home : (r : Inside) (v : RegionSeen) → region_seen r ≡ v → (n : ℕ) → r.frames ≤ n → is_home v n ≡ false
 not-home r v e n le = subst (λ (v : RegionSeen). is_home v n ≡ false) e (ap is_some (none-outside r.pages.held r.frames n le))
@@ -179,17 +184,17 @@ home-is r is v e k =
     (λ t. sym (is-home r is v e k false (ltb-true k r.frames t)) ∙ ap (λ (hs : List Bool). get_or hs k false) is.home ∙ flag-at (numbers r.pages.held) r.frames k false (ltb-true k r.frames t))
     (λ t. let le : r.frames ≤ k = ltb-false k r.frames t in not-home r v e k le ∙ sym (below-out r.frames (numbers r.pages.held) k is.below le))
 
-pub back-home : (r : Inside) (c : Parts) → IsRegion r → (v : RegionSeen) (w : ChainSeen) → region_seen r ≡ v → chain_seen c ≡ w → (e : Inside) → IsRegion e → e.pages ≡ record { base = r.pages.base; size = r.pages.size; held = r.pages.held ++ c.pages.held }
+pub back-home : (r : Inside) (c : Parts) → IsRegion r → (v : RegionSeen) (w : ChainSeen) → region_seen r ≡ v → chain_seen c ≡ w → (e : Inside) → IsRegion e → e.pages ≡ record { base = r.pages.base; frames = r.pages.frames; held = r.pages.held ++ c.pages.held }
     → (k : ℕ) → is_home (region_seen e) k ≡ (is_home v k || is_in k (numbers w.frames))
 back-home r c is v w ev ew e it ep k =
-    home-is e it (region_seen e) refl k ∙ ap (λ (s : Slots). is_in k (numbers s.held)) ep ∙ ap (is_in k) (numbers-append r.pages.held c.pages.held) ∙ in-append k (numbers r.pages.held) (numbers c.pages.held)
+    home-is e it (region_seen e) refl k ∙ ap (λ (s : PagesSeen). is_in k (numbers s.held)) ep ∙ ap (is_in k) (numbers-append r.pages.held c.pages.held) ∙ in-append k (numbers r.pages.held) (numbers c.pages.held)
     ∙ (λ i. sym (home-is r is v ev k) i || is_in k (numbers (ew i).frames))
 
-pub back-bytes : (r : Inside) (c : Parts) (w : ChainSeen) → chain_seen c ≡ w → apart (numbers r.pages.held) (numbers c.pages.held) ≡ true → (e : Inside) → IsRegion e → e.pages ≡ record { base = r.pages.base; size = r.pages.size; held = r.pages.held ++ c.pages.held }
+pub back-bytes : (r : Inside) (c : Parts) (w : ChainSeen) → chain_seen c ≡ w → apart (numbers r.pages.held) (numbers c.pages.held) ≡ true → (e : Inside) → IsRegion e → e.pages ≡ record { base = r.pages.base; frames = r.pages.frames; held = r.pages.held ++ c.pages.held }
     → (k : ℕ) → is_in k (numbers w.frames) ≡ true → home_bytes (region_seen e) k ≡ bytes_of w.frames k
 back-bytes r c w ew far e it ep k h =
     let h' : is_in k (numbers c.pages.held) ≡ true = subst (λ (w : ChainSeen). is_in k (numbers w.frames) ≡ true) (sym ew) h in
     let out : is_in k (numbers r.pages.held) ≡ false = apart-out (numbers r.pages.held) (numbers c.pages.held) k far h' in
-    let in_ : is_in k (numbers e.pages.held) ≡ true = ap (λ (s : Slots). is_in k (numbers s.held)) ep ∙ ap (is_in k) (numbers-append r.pages.held c.pages.held) ∙ in-append k (numbers r.pages.held) (numbers c.pages.held) ∙ (λ i. out i || h' i) in
-    home-bytes e (region_seen e) refl k (below-at e.frames (numbers e.pages.held) k it.below in_) in_ ∙ ap (λ (s : Slots). bytes_of s.held k) ep ∙ bytes-append r.pages.held c.pages.held k ∙ ap (λ t. if t then bytes_of r.pages.held k else bytes_of c.pages.held k) out
+    let in_ : is_in k (numbers e.pages.held) ≡ true = ap (λ (s : PagesSeen). is_in k (numbers s.held)) ep ∙ ap (is_in k) (numbers-append r.pages.held c.pages.held) ∙ in-append k (numbers r.pages.held) (numbers c.pages.held) ∙ (λ i. out i || h' i) in
+    home-bytes e (region_seen e) refl k (below-at e.frames (numbers e.pages.held) k it.below in_) in_ ∙ ap (λ (s : PagesSeen). bytes_of s.held k) ep ∙ bytes-append r.pages.held c.pages.held k ∙ ap (λ t. if t then bytes_of r.pages.held k else bytes_of c.pages.held k) out
     ∙ ap (λ (w : ChainSeen). bytes_of w.frames k) ew

@@ -54,6 +54,11 @@ abbrev pub without : List Frame → ℕ → List Frame
 without [] n = []
 without (f ∷ fs) n = if f.0 == n then fs else f ∷ without fs n
 
+-- the numbers but n
+abbrev pub minus : List ℕ → ℕ → List ℕ
+minus [] n = []
+minus (m ∷ ms) n = if m == n then ms else m ∷ minus ms n
+
 abbrev pub with_bytes : List Frame → ℕ → List ℕ → List Frame
 with_bytes [] n w = []
 with_bytes (f ∷ fs) n w = if f.0 == n then (f.0, w) ∷ fs else f ∷ with_bytes fs n w

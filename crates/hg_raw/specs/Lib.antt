@@ -3,5 +3,6 @@ pub mod Frames
 pub mod Lending
 pub mod Links
 pub mod Memory
+pub mod PageParts
 pub mod RegionParts
 pub mod Shells

@@ -54,6 +54,16 @@ abbrev pub zeros : ℕ → ℕ → List Frame
 zeros s zero = []
 zeros s (suc n) = (n, replicate s 0) ∷ zeros s n
 
+-- the numbers n - 1 to 0
+abbrev pub down : ℕ → List ℕ
+down zero = []
+down (suc n) = n ∷ down n
+
+-- parts that were never written to read as s zero bytes each
+abbrev pub blanks : ℕ → List ℕ → List Frame
+blanks s [] = []
+blanks s (n ∷ ns) = (n, replicate s 0) ∷ blanks s ns
+
 -- what is at home, by number
 abbrev pub home_of : List Frame → ℕ → Option (List ℕ)
 home_of fs n = if is_in n (numbers fs) then Some (bytes_of fs n) else None

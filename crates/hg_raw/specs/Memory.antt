@@ -34,6 +34,18 @@ parts_lent p s (f ∷ fs) = beside (part_lent p s f) (parts_lent p s fs)
 abbrev pub slots_lent : Ptr → ℕ → List Frame → Lft → Fml
 slots_lent p s fs = beside (said (in_block p ftrue)) (parts_lent p s fs)
 
+-- room for part n of parts of s bytes each, to which nothing was written yet
+abbrev pub blank_own : Ptr → ℕ → ℕ → Fml
+blank_own p s n = room_for (array_of u8 s) (p +ₚ n * s)
+
+abbrev pub blanks_own : Ptr → ℕ → List ℕ → Fml
+blanks_own p s [] = ftrue
+blanks_own p s (n ∷ ns) = fsep (blank_own p s n) (blanks_own p s ns)
+
+-- what a `Blanks` owns: its base is not null, and room for its parts
+abbrev pub room_own : Ptr → List ℕ → Fml
+room_own p ns = in_block p (blanks_own p 4096 ns)
+
 -- what is left of a block of c bytes at p when its first n bytes are given out: the room behind them, and the right, t's, to free it
 abbrev pub lease_own : (Ty → Ptr → Fml) → Ptr → ℕ → ℕ → Fml
 lease_own t p n c = fsep (room_for (array_of u8 (c - n)) (p +ₚ n * 1)) (t (array_of u8 c) p)

@@ -10,7 +10,7 @@ region_seen r = record { region = record { words = r.words.base; pages = r.pages
 
 pub record IsRegion (r : Inside) : Type 0 where
   pub word_size : r.words.size ≡ 4
-  pub page_size : r.pages.size ≡ 4096
+  pub page_count : r.pages.frames ≡ r.frames
   pub words : numbers r.words.held ≡ numbers r.pages.held
   pub words_sized : Sized 4 r.words.held
   pub sized : Sized 4096 r.pages.held

@@ -3,8 +3,9 @@ ghost use Rattle.std.specs.Prelude.{◌≡◌, ℕ, ◌||◌, IfOk, IsTrue, fals
 ghost use Rattle.hg_raw.specs.Frames.{Frame, Has, numbers, is_in, bytes_of, is_home, home_bytes, taken, given_back, fresh_home, AllHome};
 
 use crate::chain::{Chain, NIL, set_word};
-use crate::shell::{Shell, open};
-use crate::slots::Slots;
+use crate::pages::Pages;
+use crate::shell::{Shell, WORD, open};
+use crate::slots::{PAGE, Slots};
 use hg_base::{FrameNo, NoMemory};
 use std::alloc::Global;
 use std::marker::Model;
@@ -13,7 +14,7 @@ use std::marker::Model;
 /// `free`.
 pub struct Region {
     words: Slots,
-    pages: Slots,
+    pages: Pages,
     frames: u32,
     home: Vec<bool>,
     shell: Shell,
@@ -41,18 +42,24 @@ impl Region {
         let Ok(home) = Vec::from_elem(alloc, true, count) else {
             return Err(NoMemory);
         };
-        let bytes = 4100 * count;
-        let Ok(mut block) = Vec::with_capacity(alloc, bytes + 1) else {
+        let Ok(blank) = Vec::from_elem(alloc, true, count) else {
             return Err(NoMemory);
         };
-        if block.resize(bytes, 0).is_err() {
+        let Ok(mut block) = Vec::with_capacity(alloc, (WORD + PAGE) * count + 1) else {
+            return Err(NoMemory);
+        };
+        if block.resize(WORD * count, 0).is_err() {
             return Err(NoMemory);
         }
         let base = block.as_mut_ptr();
-        let (words, (pages, shell)) = open(block, base, count);
+        let (words, (written, (blanks, shell))) = open(block, base, count);
         Ok(Region {
             words,
-            pages,
+            pages: Pages {
+                written,
+                blanks,
+                blank,
+            },
             frames,
             home,
             shell,
@@ -121,6 +128,11 @@ impl Region {
             home: _,
             shell,
         } = self;
-        drop(shell.close(words, pages));
+        let Pages {
+            written,
+            blanks,
+            blank: _,
+        } = pages;
+        drop(shell.close(words, written, blanks));
     }
 }

@@ -1,13 +1,15 @@
 // Parts of one raw block, all of the same size and counted from a base. Only this file and `shell`
 // have functions with a pointer, and none of these has a loop.
-ghost use Rattle.std.specs.Prelude.{◌≡◌, ◌*◌, ◌^◌, ◌<◌, ◌++◌, List, [], ◌∷◌, length, true, IsTrue};
+ghost use Rattle.std.specs.Prelude.{◌≡◌, ◌*◌, ◌^◌, ◌<◌, ◌++◌, ℕ, List, [], ◌∷◌, length, true, IsTrue};
 ghost use Rattle.std.specs.Borrow.{sem};
-ghost use Rattle.hg_raw.specs.Frames.{Frame, bytes_of, numbers, is_in, without, with_bytes, apart};
+ghost use Rattle.hg_raw.specs.Frames.{Frame, bytes_of, numbers, is_in, without, minus, with_bytes, apart};
 ghost use Rattle.hg_raw.specs.Links.{Sized, word};
-ghost use Rattle.hg_raw.specs.Memory.{slots_own, slots_lent};
+ghost use Rattle.hg_raw.specs.Memory.{slots_own, slots_lent, room_own};
 
 use std::marker::Model;
 use std::slice::{from_raw_parts, from_raw_parts_mut};
+
+pub(crate) const PAGE: usize = 4096;
 
 pub(crate) struct Slots {
     pub(crate) base: *mut u8,
@@ -72,5 +74,33 @@ impl Slots {
         ensures apart { apart (numbers self.old.held) (numbers other.held) ≡ true }
     {
         let Slots { base: _, size: _ } = other;
+    }
+}
+
+/// Parts of 4,096 bytes that nothing was written to yet: they are memory that no one may read.
+pub(crate) struct Blanks {
+    pub(crate) base: *mut u8,
+    pub(crate) ghost left: { List ℕ },
+}
+
+impl Model for Blanks {
+    ghost also_owns = { λ b. room_own b.base b.left };
+}
+
+impl Blanks {
+    /// Takes part `n` out, and writes its first bytes.
+    pub(crate) fn begin(&mut self, n: usize, page: [u8; PAGE]) -> Slots
+        requires there { IsTrue (is_in n self.old.left) }
+        requires near { n * 4096 < 2 ^ 63 }
+        ensures part { result ≡ record { base = self.old.base; size = 4096; held = (n, page) ∷ [] } }
+        ensures others { self.new ≡ record { base = self.old.base; left = minus self.old.left n } }
+    {
+        unsafe {
+            self.base.add(n * PAGE).cast::<[u8; PAGE]>().write(page);
+        }
+        Slots {
+            base: self.base,
+            size: PAGE,
+        }
     }
 }

@@ -1,4 +1,4 @@
-use Rattle.std.proofs.Common.{ℕ, List, [], ◌∷◌, ◌∙◌, refl, sym, ap}
+use Rattle.std.proofs.Common.{ℕ, ◌<◌, ◌^◌, List, ◌∙◌, refl, sym, ap, subst}
 use Rattle.hg_raw.specs.declared.slots.Slots.{Slots}
 use Rattle.hg_raw.specs.Frames.{bytes_of, is_in, with_bytes}
 use Rattle.hg_raw.specs.Links.{nil, word}
@@ -15,8 +15,14 @@ set_word-requires-clause-there c =
     cut-there c.self.inside.words c.cut-words.result 4 c.args.f.0 c.cut-words.ensures.part
     (sized-at 4 c.self.inside.words.held c.args.f.0 c.self.invariant.words_sized (ap (is_in c.args.f.0) c.self.invariant.words ∙ (home-in c.self.inside c.args.self.now c.self.view_is c.args.f.0 c.requires).1))
 
-pub cut-pages-requires : goal.cut-pages-requires
-cut-pages-requires c = (home-in c.self.inside c.args.self.now c.self.view_is c.args.f.0 c.requires).1
+pub cut-pages-requires-clause-there : goal.cut-pages-requires-clause-there
+cut-pages-requires-clause-there c = (home-in c.self.inside c.args.self.now c.self.view_is c.args.f.0 c.requires).1
+
+pub cut-pages-requires-clause-inside : goal.cut-pages-requires-clause-inside
+cut-pages-requires-clause-inside c = subst (λ (n : ℕ). c.args.f.0 < n) (sym c.self.invariant.page_count) (home-in c.self.inside c.args.self.now c.self.view_is c.args.f.0 c.requires).0
+
+pub cut-pages-requires-clause-few : goal.cut-pages-requires-clause-few
+cut-pages-requires-clause-few c = subst (λ (n : ℕ). n < 2 ^ 32) (sym c.self.invariant.page_count) c.self.invariant.few
 
 pub invariant_of-self : goal.invariant_of-self
 invariant_of-self c = taken-is c.self.inside c.self.invariant c.args.f.0 (home-in c.self.inside c.args.self.now c.self.view_is c.args.f.0 c.requires).0 _ c.cut-words.ensures.others c.cut-pages.ensures.others refl refl refl
@@ -27,7 +33,7 @@ invariant_of-result c =
     single c.cut-words.result.base c.self.inside.pages.base c.self.inside.frames c.args.f.0 (bytes_of c.self.inside.pages.held c.args.f.0) (bytes_of c.self.inside.words.held c.args.f.0) c.set_word.new.words c.cut-pages.result
     h.0 c.self.invariant.few (sized-at 4096 c.self.inside.pages.held c.args.f.0 c.self.invariant.sized h.1)
     (c.set_word.ensures ∙ ap (λ (s : Slots). record { base = c.cut-words.result.base; size = 4; held = with_bytes s.held c.args.f.0 (word nil) }) c.cut-words.ensures.part)
-    (c.cut-pages.ensures.part ∙ ap (λ (n : ℕ). record { base = c.self.inside.pages.base; size = n; held = (c.args.f.0, bytes_of c.self.inside.pages.held c.args.f.0) ∷ [] }) c.self.invariant.page_size)
+    c.cut-pages.ensures.part
 
 pub returns-clause-chain : goal.returns-clause-chain
 returns-clause-chain c =
@@ -49,5 +55,5 @@ returns-clause-out c =
 pub returns-clause-has : goal.returns-clause-has
 returns-clause-has c =
     let h = home-in c.self.inside c.args.self.now c.self.view_is c.args.f.0 c.requires in
-    let one = one-has c.cut-pages.result c.self.inside.pages.base c.self.inside.pages.size c.args.f.0 (bytes_of c.self.inside.pages.held c.args.f.0) c.cut-pages.ensures.part in
+    let one = one-has c.cut-pages.result c.self.inside.pages.base 4096 c.args.f.0 (bytes_of c.self.inside.pages.held c.args.f.0) c.cut-pages.ensures.part in
     (one.0, one.1 ∙ sym (home-bytes c.self.inside c.args.self.now c.self.view_is c.args.f.0 h.0 h.1))
