@@ -5,3 +5,4 @@ pub mod Hashing
 pub mod Laws
 pub mod RowParts
 pub mod Looks
+pub mod Choosing

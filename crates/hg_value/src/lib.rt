@@ -4,6 +4,7 @@
 //! by byte as values do ([`index_keys_compare`], [`keys_compare`]). Nothing here takes memory.
 #![tactic(auto)]
 
+mod columns;
 mod decode;
 mod encode;
 mod hashing;
@@ -16,6 +17,7 @@ mod row;
 #[cfg(test)]
 mod tests;
 
+pub use columns::Unread;
 pub use hashing::hash;
 pub use keys::{push_index_key, push_key};
 pub use laws::{codings_tell, index_keys_compare, keys_are_as_long, keys_compare};

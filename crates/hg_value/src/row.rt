@@ -11,9 +11,9 @@ use hg_model::Value;
 use std::marker::Model;
 
 /// The most bytes and the most values of a row.
-const MAX_BYTES: usize = 3900;
+pub(crate) const MAX_BYTES: usize = 3900;
 
-const MAX_VALUES: usize = 64;
+pub(crate) const MAX_VALUES: usize = 64;
 
 /// A row of at most 64 values, which have at most 3,900 bytes in their coding.
 #[derive(Drop)]
