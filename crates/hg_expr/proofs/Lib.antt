@@ -1,0 +1,7 @@
+mod Nodes
+mod Bounds
+mod Fitting
+mod Holding
+mod Telling
+mod Marking
+mod TableRows

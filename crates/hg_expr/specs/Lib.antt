@@ -1,0 +1,4 @@
+pub mod Over
+pub mod Slots
+pub mod Marks
+pub mod Laws
