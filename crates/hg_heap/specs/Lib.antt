@@ -1,0 +1,4 @@
+pub mod Resting
+pub mod Handing
+pub mod Relocating
+pub mod Locking
