@@ -1,15 +1,16 @@
 -- What a chain's fields say of its frames.
-use Rattle.std.proofs.Common.{◌≡◌, ℕ, ◌<◌, ◌^◌, Bool, true, false, ◌||◌, ◌&&◌, not, ◌==◌, if◌then◌else◌, List, [], ◌∷◌, ◌++◌, length, slice_set, refl, sym, ap, subst, ◌∙◌, arith, w32, lit<}
+use Rattle.std.proofs.Common.{◌≡◌, ℕ, ◌+◌, ◌-◌, ◌<◌, ◌≤◌, ◌^◌, Bool, true, false, ◌||◌, ◌&&◌, not, ◌==◌, if◌then◌else◌, List, [], ◌∷◌, ◌++◌, length, take, drop, slice_set, refl, sym, ap, subst, ◌∙◌, arith, w32, lit<}
 use Rattle.std.specs.Int.{from_le_bytes}
 use Rattle.std.proofs.lemmas.Nat.{from_le_bytes-to_le_bytes_4}
 use Rattle.core.specs.List.{length_refill}
+use borrow.Rule.Slice.PartMut.{put_mid, mid_of, mid_len, same_len_mid}
 use denote.RawPtr.{Ptr}
 use Rattle.hg_raw.specs.declared.slots.Slots.{Slots}
 use Rattle.hg_raw.specs.declared.chain.Chain.TheInside.{Inside}
 use Rattle.hg_raw.specs.ChainParts.{IsChain, chain_seen}
 use Rattle.hg_raw.specs.Frames.{Frame, RegionId, ChainSeen, numbers, is_in, distinct, apart, bytes_of, without, minus, with_bytes, refit}
-use Rattle.hg_raw.specs.Links.{first_of, last_of, nil, word, linked, from, behind, before, marked, Sized, Below}
-use Rattle.hg_raw.proofs.Lists.{linked-numbers, linked-sized, sized-at, linked-next, from-next, below-at, no_nil, last-in, linked-join, first-append, last-append, numbers-append, sized-append, below-append, distinct-append, linked-minus, numbers-without, sized-without, below-minus, distinct-minus, first-minus, last-minus, sized-with, numbers-with, from-first, before-next, from-in, from-behind, or_false, clash, same, by_bool, differ, with-none, before-in, or_rest, in-append, in-minus, bytes-without, bytes-append}
+use Rattle.hg_raw.specs.Links.{first_of, last_of, nil, half, word, linked, relinked, from, behind, before, marked, Sized, Below}
+use Rattle.hg_raw.proofs.Lists.{linked-numbers, linked-sized, sized-at, linked-word, from-next, below-at, no_nil, last-in, linked-join, first-append, last-append, numbers-append, sized-append, below-append, distinct-append, linked-minus, numbers-without, sized-without, below-minus, distinct-minus, first-minus, last-minus, sized-with, numbers-with, from-first, from-behind, or_false, or_right, clash, same, by_bool, with-none, before-in, or_rest, in-append, in-minus, bytes-without, bytes-append}
 
 pub first-small : (N : ℕ) (ns : List ℕ) → N < 2 ^ 32 → Below N ns → first_of ns < 2 ^ 32
 first-small N [] small b = lit< tt
@@ -19,18 +20,53 @@ pub behind-below : (N : ℕ) (ns : List ℕ) (n : ℕ) → Below N ns → Below 
 behind-below N [] n b = tt
 behind-below N (m ∷ ms) n b = elim (m == n) as (λ t. Below N (if t then ms else behind n ms)) [ true ↦ b.1 | false ↦ behind-below N ms n b.1 ]
 
-pub word-is : (m n : ℕ) → m < 2 ^ 32 → n < 2 ^ 32 → word m ≡ word n → m ≡ n
-word-is m n a b e = sym (from_le_bytes-to_le_bytes_4 m a) ∙ ap (from_le_bytes w32) e ∙ from_le_bytes-to_le_bytes_4 n b
+pub before-small : (N p : ℕ) (ns : List ℕ) (f : ℕ) → N < 2 ^ 32 → p < 2 ^ 32 → Below N ns → before p ns f < 2 ^ 32
+before-small N p [] f small q b = lit< tt
+before-small N p (m ∷ ms) f small q b = elim (m == f) as (λ t. (if t then p else before m ms f) < 2 ^ 32) [ true ↦ q | false ↦ before-small N m ms f small (omega (arith, b.0, small)) b.1 ]
+
+half-is : (m n : ℕ) → m < 2 ^ 32 → n < 2 ^ 32 → half m ≡ half n → m ≡ n
+half-is m n a b e = sym (from_le_bytes-to_le_bytes_4 m a) ∙ ap (from_le_bytes w32) e ∙ from_le_bytes-to_le_bytes_4 n b
+
+-- ---- the words of frames
+pub record Worded (s : Slots) (ns : List ℕ) : Type 0 where
+  pub size : s.size ≡ 8
+  pub sized : Sized 8 s.held
+  pub all : numbers s.held ≡ ns
+
+pub same-length : (at to : ℕ) (b : List ℕ) → at + 4 ≤ length b → length (put_mid at 4 b (half to)) ≡ length b
+same-length at to b h =
+    let e : at + 4 - at ≡ 4 = omega arith in
+    same_len_mid at 4 b (half to) (sym (subst (λ (k : ℕ). length (mid_of at k b) ≡ k) e (mid_len at (at + 4) b h)))
+
+pub worded-there : (s : Slots) (ns : List ℕ) → Worded s ns → (n : ℕ) → is_in n ns ≡ true → length (bytes_of s.held n) ≡ 8
+worded-there s ns w n h = sized-at 8 s.held n w.sized (ap (is_in n) w.all ∙ h)
+
+pub worded-in : (s : Slots) (ns : List ℕ) → Worded s ns → (n : ℕ) (t : Bool) → is_in n ns ≡ t → is_in n (numbers s.held) ≡ t
+worded-in s ns w n t h = ap (is_in n) w.all ∙ h
+
+pub worded-link : (s t : Slots) (ns : List ℕ) → Worded s ns → (n at to : ℕ) → at + 4 ≤ 8 → t ≡ record { base = s.base; size = 8; held = relinked s.held n at to } → Worded t ns
+worded-link s t ns w n at to inside e =
+    let b : List ℕ = bytes_of s.held n in
+    let fits : is_in n (numbers s.held) ≡ true → length (put_mid at 4 b (half to)) ≡ 8
+    = λ h. let l : length b ≡ 8 = sized-at 8 s.held n w.sized h in same-length at to b (subst (λ (k : ℕ). at + 4 ≤ k) (sym l) inside) ∙ l in
+    record {
+      size = ap (λ (t : Slots). t.size) e;
+      sized = subst (λ (t : Slots). Sized 8 t.held) (sym e) (sized-with 8 s.held n (put_mid at 4 b (half to)) fits w.sized);
+      all = ap (λ (t : Slots). numbers t.held) e ∙ numbers-with s.held n (put_mid at 4 b (half to)) ∙ w.all;
+    }
 
 module _ (c : Inside) (is : IsChain c) where
   abbrev ns : List ℕ
   ns = numbers c.pages.held
 
   pub word_numbers : numbers c.words.held ≡ ns
-  word_numbers = ap numbers is.words ∙ linked-numbers ns
+  word_numbers = ap numbers is.words ∙ linked-numbers nil ns
 
-  pub words-sized : Sized 4 c.words.held
-  words-sized = subst (Sized 4) (sym is.words) (linked-sized ns)
+  pub words-sized : Sized 8 c.words.held
+  words-sized = subst (Sized 8) (sym is.words) (linked-sized nil ns)
+
+  pub worded : Worded c.words ns
+  worded = record { size = is.word_size; sized = words-sized; all = word_numbers }
 
   pub no-nil : is_in nil ns ≡ false
   no-nil = no_nil c.frames ns is.few is.below
@@ -38,15 +74,21 @@ module _ (c : Inside) (is : IsChain c) where
   pub words-no-nil : is_in nil (numbers c.words.held) ≡ false
   words-no-nil = ap (is_in nil) word_numbers ∙ no-nil
 
-  pub word-there : (n : ℕ) → is_in n ns ≡ true → length (bytes_of c.words.held n) ≡ 4
-  word-there n h = sized-at 4 c.words.held n words-sized (ap (is_in n) word_numbers ∙ h)
+  pub word-there : (n : ℕ) → is_in n ns ≡ true → length (bytes_of c.words.held n) ≡ 8
+  word-there n h = worded-there c.words ns worded n h
 
   pub page-there : (n : ℕ) → is_in n ns ≡ true → length (bytes_of c.pages.held n) ≡ 4096
   page-there n h = sized-at 4096 c.pages.held n is.sized h
 
-  pub next-is : (n r : ℕ) → is_in n ns ≡ true → r < 2 ^ 32 → word r ≡ bytes_of c.words.held n → r ≡ first_of (behind n ns)
+  pub next-is : (n r : ℕ) → is_in n ns ≡ true → r < 2 ^ 32 → half r ≡ take 4 (drop 4 (bytes_of c.words.held n)) → r ≡ first_of (behind n ns)
   next-is n r h small e =
-      word-is r (first_of (behind n ns)) small (first-small c.frames (behind n ns) is.few (behind-below c.frames ns n is.below)) (e ∙ ap (λ (fs : List Frame). bytes_of fs n) is.words ∙ linked-next ns n h)
+      half-is r (first_of (behind n ns)) small (first-small c.frames (behind n ns) is.few (behind-below c.frames ns n is.below))
+      (e ∙ ap (λ (fs : List Frame). take 4 (drop 4 (bytes_of fs n))) is.words ∙ ap (λ (b : List ℕ). take 4 (drop 4 b)) (linked-word nil ns n h))
+
+  pub previous-is : (n r : ℕ) → is_in n ns ≡ true → r < 2 ^ 32 → half r ≡ take 4 (drop 0 (bytes_of c.words.held n)) → r ≡ before nil ns n
+  previous-is n r h small e =
+      half-is r (before nil ns n) small (before-small c.frames nil ns n is.few (lit< tt) is.below)
+      (e ∙ ap (λ (fs : List Frame). take 4 (drop 0 (bytes_of fs n))) is.words ∙ ap (λ (b : List ℕ). take 4 (drop 0 b)) (linked-word nil ns n h))
 
   pub rest-is : (n r : ℕ) → is_in n ns ≡ true → r ≡ first_of (behind n ns) → from r ns ≡ behind n ns
   rest-is n r h e = ap (λ k. from k ns) e ∙ from-next c.frames n ns is.few is.below is.distinct h
@@ -63,7 +105,7 @@ page-lent c is n w h =
     record {
       word_size = is.word_size;
       page_size = is.page_size;
-      words = is.words ∙ ap linked (sym e);
+      words = is.words ∙ ap (linked nil) (sym e);
       sized = sized-with 4096 c.pages.held n (refit b w) (λ _. sym (length_refill (length b) b w refl) ∙ page-there c is n h) is.sized;
       below = subst (Below c.frames) (sym e) is.below;
       few = is.few;
@@ -74,7 +116,7 @@ page-lent c is n w h =
 
 -- two chains joined
 pub joined : (c d : Inside) → IsChain c → IsChain d → (chain_seen d).region ≡ (chain_seen c).region → apart (numbers c.pages.held) (numbers d.pages.held) ≡ true
-    → (e : Inside) → e.words ≡ record { base = c.words.base; size = 4; held = with_bytes c.words.held c.last (word d.first) ++ d.words.held }
+    → (e : Inside) → e.words ≡ record { base = c.words.base; size = 8; held = relinked c.words.held c.last 4 d.first ++ relinked d.words.held d.first 0 c.last }
     → e.pages ≡ record { base = c.pages.base; size = c.pages.size; held = c.pages.held ++ d.pages.held }
     → e.frames ≡ c.frames → e.first ≡ (if c.first == nil then d.first else c.first) → e.last ≡ (if d.last == nil then c.last else d.last) → IsChain e
 joined c d is it same_region far e ew ep ef first last =
@@ -85,9 +127,7 @@ joined c d is it same_region far e ew ep ef first last =
     record {
       word_size = ap (λ (s : Slots). s.size) ew;
       page_size = ap (λ (s : Slots). s.size) ep ∙ is.page_size;
-      words = ap (λ (s : Slots). s.held) ew ∙ ap (λ (fs : List Frame). with_bytes fs c.last (word d.first) ++ d.words.held) is.words ∙ ap (λ (n : ℕ). with_bytes (linked ns) n (word d.first) ++ d.words.held) is.last
-          ∙ ap (λ (n : ℕ). with_bytes (linked ns) (last_of ns) (word n) ++ d.words.held) it.first ∙ ap (λ (fs : List Frame). with_bytes (linked ns) (last_of ns) (word (first_of ms)) ++ fs) it.words
-          ∙ linked-join ns ms is.distinct ∙ ap linked (sym all);
+      words = ap (λ (s : Slots). s.held) ew ∙ (λ i. relinked (is.words i) (is.last i) 4 (it.first i) ++ relinked (it.words i) (it.first i) 0 (is.last i)) ∙ linked-join ns ms is.distinct ∙ ap (linked nil) (sym all);
       sized = subst (Sized 4096) (sym held) (sized-append 4096 c.pages.held d.pages.held is.sized it.sized);
       below = subst (λ n. Below n (numbers e.pages.held)) (sym ef) (subst (Below c.frames) (sym all) (below-append c.frames ns ms is.below (subst (λ n. Below n ms) few it.below)));
       few = subst (λ n. n < 2 ^ 32) (sym ef) is.few;
@@ -98,7 +138,7 @@ joined c d is it same_region far e ew ep ef first last =
 
 -- a frame taken out
 pub splits : (c : Inside) → IsChain c → (f next prev : ℕ) → is_in f (numbers c.pages.held) ≡ true → next ≡ first_of (behind f (numbers c.pages.held)) → prev ≡ before nil (numbers c.pages.held) f
-    → (e : Inside) → e.words ≡ record { base = c.words.base; size = 4; held = without (with_bytes c.words.held prev (word next)) f }
+    → (e : Inside) → e.words ≡ record { base = c.words.base; size = 8; held = without (relinked (relinked c.words.held prev 4 next) next 0 prev) f }
     → e.pages ≡ record { base = c.pages.base; size = c.pages.size; held = without c.pages.held f }
     → e.frames ≡ c.frames → e.first ≡ (if c.first == f then next else c.first) → e.last ≡ (if c.last == f then prev else c.last) → IsChain e
 splits c is f next prev h en epr e ew ep ef first last =
@@ -108,7 +148,7 @@ splits c is f next prev h en epr e ew ep ef first last =
     record {
       word_size = ap (λ (s : Slots). s.size) ew;
       page_size = ap (λ (s : Slots). s.size) ep ∙ is.page_size;
-      words = ap (λ (s : Slots). s.held) ew ∙ (λ i. without (with_bytes (is.words i) (epr i) (word (en i))) f) ∙ linked-minus ns f (no-nil c is) is.distinct h ∙ ap linked (sym all);
+      words = ap (λ (s : Slots). s.held) ew ∙ (λ i. without (relinked (relinked (is.words i) (epr i) 4 (en i)) (en i) 0 (epr i)) f) ∙ linked-minus nil ns f (no-nil c is) (no-nil c is) is.distinct h ∙ ap (linked nil) (sym all);
       sized = subst (Sized 4096) (sym held) (sized-without 4096 c.pages.held f is.sized);
       below = subst (λ n. Below n (numbers e.pages.held)) (sym ef) (subst (Below c.frames) (sym all) (below-minus c.frames ns f is.below));
       few = subst (λ n. n < 2 ^ 32) (sym ef) is.few;
@@ -119,11 +159,11 @@ splits c is f next prev h en epr e ew ep ef first last =
 
 -- one frame
 pub alone : (p q : Ptr) (N f : ℕ) (b w : List ℕ) → f < N → N < 2 ^ 32 → length b ≡ 4096
-    → IsChain (record { words = record { base = p; size = 4; held = with_bytes ((f, w) ∷ []) f (word nil) }; pages = record { base = q; size = 4096; held = (f, b) ∷ [] }; frames = N; first = f; last = f })
+    → IsChain (record { words = record { base = p; size = 8; held = with_bytes ((f, w) ∷ []) f (word nil nil) }; pages = record { base = q; size = 4096; held = (f, b) ∷ [] }; frames = N; first = f; last = f })
 alone p q N f b w small few l = record {
   word_size = refl;
   page_size = refl;
-  words = ap (λ t. if t then (f, word nil) ∷ [] else (f, w) ∷ []) (same f);
+  words = ap (λ t. if t then (f, word nil nil) ∷ [] else (f, w) ∷ []) (same f);
   sized = (l, tt);
   below = (small, tt);
   few = few;
@@ -132,43 +172,47 @@ alone p q N f b w small few l = record {
   last = refl;
 }
 
--- ---- the walk to the frame before f
 pub rest-smaller : (ns : List ℕ) (n r : ℕ) → is_in n ns ≡ true → from r ns ≡ behind n ns → length (from r ns) < length (from n ns)
 rest-smaller ns n r h e = subst (λ (xs : List ℕ). length xs < length (from n ns)) (sym e) (subst (λ (xs : List ℕ). length (behind n ns) < length xs) (sym (from-behind n ns h)) (omega arith))
 
 pub seen-no-nil : (c : Inside) → IsChain c → (v : ChainSeen) → chain_seen c ≡ v → is_in nil (numbers v.frames) ≡ false
 seen-no-nil c is v e = subst (λ (v : ChainSeen). is_in nil (numbers v.frames) ≡ false) e (no-nil c is)
 
-pub step-ahead : (ns : List ℕ) (f n r : ℕ) → (n ≡ f → ⊥) → is_in f (from n ns) ≡ true → from r ns ≡ behind n ns → is_in f (from r ns) ≡ true
-step-ahead ns f n r ne ahead rest =
-    ap (is_in f) rest ∙ or_rest (n == f) (is_in f (behind n ns)) (ap (is_in f) (sym (from-behind n ns (from-in f n ns ahead))) ∙ ahead) (differ n f ne)
-
-pub step-behind : (c : Inside) → IsChain c → (v : ChainSeen) → chain_seen c ≡ v → (f n r : ℕ) → (n ≡ f → ⊥) → is_in f (from n (numbers v.frames)) ≡ true → from r (numbers v.frames) ≡ behind n (numbers v.frames)
-    → r ≡ first_of (behind n (numbers v.frames)) → n ≡ before nil (numbers v.frames) r
-step-behind c is v e f n r ne ahead rest next =
-    let ns : List ℕ = numbers v.frames in
-    let d : distinct ns ≡ true = subst (λ (v : ChainSeen). distinct (numbers v.frames) ≡ true) e is.distinct in
-    sym (ap (before nil ns) next ∙ before-next f nil n ns (seen-no-nil c is v e) d (from-in f n ns ahead) (ap (is_in f) (sym rest) ∙ step-ahead ns f n r ne ahead rest))
-
 pub in-seen : (c : Inside) (v : ChainSeen) → chain_seen c ≡ v → (n : ℕ) → is_in n (numbers v.frames) ≡ true → is_in n (numbers c.pages.held) ≡ true
 in-seen c v e n h = subst (λ (v : ChainSeen). is_in n (numbers v.frames) ≡ true) (sym e) h
 
 -- ---- what the calls ask for
-pub unlinked : (s : Slots) → s.size ≡ 4 → (n : ℕ) (w : List ℕ) → is_in nil (numbers s.held) ≡ false → n ≡ nil → s ≡ record { base = s.base; size = 4; held = with_bytes s.held n w }
-unlinked s size n w out e =
-    let held : s.held ≡ with_bytes s.held n w = sym (with-none s.held n w (ap (λ k. is_in k (numbers s.held)) e ∙ out)) in
+pub unlinked : (s : Slots) → s.size ≡ 8 → (n at to : ℕ) → is_in nil (numbers s.held) ≡ false → n ≡ nil → s ≡ record { base = s.base; size = 8; held = relinked s.held n at to }
+unlinked s size n at to out e =
+    let held : s.held ≡ relinked s.held n at to = sym (with-none s.held n (put_mid at 4 (bytes_of s.held n) (half to)) (ap (λ k. is_in k (numbers s.held)) e ∙ out)) in
     λ i. record { base = s.base; size = size i; held = held i }
 
 last-is-in : (ns : List ℕ) → (last_of ns ≡ nil → ⊥) → is_in (last_of ns) ns ≡ true
 last-is-in [] ne = absurd (ne refl)
 last-is-in (n ∷ ns) ne = last-in n ns
 
-pub last-there : (c : Inside) → IsChain c → (c.last ≡ nil → ⊥) → length (bytes_of c.words.held c.last) ≡ 4
+pub last-there : (c : Inside) → IsChain c → (c.last ≡ nil → ⊥) → length (bytes_of c.words.held c.last) ≡ 8
 last-there c is ne =
     word-there c is c.last (subst (λ k. is_in k (numbers c.pages.held) ≡ true) (sym is.last) (last-is-in (numbers c.pages.held) (λ e. ne (is.last ∙ e))))
 
-pub linked-now : (c : Inside) → IsChain c → (n to : ℕ) (s : Slots) → s ≡ record { base = c.words.base; size = 4; held = with_bytes c.words.held n (word to) } → Sized s.size s.held × (s.size ≡ 4)
-linked-now c is n to s e = (subst (λ (s : Slots). Sized s.size s.held) (sym e) (sized-with 4 c.words.held n (word to) (λ _. refl) (words-sized c is)), ap (λ (s : Slots). s.size) e)
+first-is-in : (ns : List ℕ) → (first_of ns ≡ nil → ⊥) → is_in (first_of ns) ns ≡ true
+first-is-in [] ne = absurd (ne refl)
+first-is-in (n ∷ ns) ne = ap (λ t. t || is_in n ns) (same n)
+
+pub first-there : (c : Inside) → IsChain c → (c.first ≡ nil → ⊥) → length (bytes_of c.words.held c.first) ≡ 8
+first-there c is ne =
+    word-there c is c.first (subst (λ k. is_in k (numbers c.pages.held) ≡ true) (sym is.first) (first-is-in (numbers c.pages.held) (λ e. ne (is.first ∙ e))))
+
+next-is-in : (ns : List ℕ) (f : ℕ) → (first_of (behind f ns) ≡ nil → ⊥) → is_in (first_of (behind f ns)) ns ≡ true
+next-is-in [] f ne = absurd (ne refl)
+next-is-in (m ∷ ms) f ne =
+    elim (m == f) as (λ t. (first_of (if t then ms else behind f ms) ≡ nil → ⊥) → is_in (first_of (if t then ms else behind f ms)) (m ∷ ms) ≡ true) [
+      | true ↦ λ ne. or_right (m == first_of ms) (is_in (first_of ms) ms) (first-is-in ms ne)
+      | false ↦ λ ne. or_right (m == first_of (behind f ms)) (is_in (first_of (behind f ms)) ms) (next-is-in ms f ne)
+    ] ne
+
+pub next-in : (c : Inside) (f next : ℕ) → next ≡ first_of (behind f (numbers c.pages.held)) → (next ≡ nil → ⊥) → is_in next (numbers c.pages.held) ≡ true
+next-in c f next e ne = subst (λ k. is_in k (numbers c.pages.held) ≡ true) (sym e) (next-is-in (numbers c.pages.held) f (λ k. ne (e ∙ k)))
 
 before-is-in : (ns : List ℕ) (f : ℕ) → is_in f ns ≡ true → (before nil ns f ≡ nil → ⊥) → is_in (before nil ns f) ns ≡ true
 before-is-in [] f h ne = clash false h refl
@@ -177,18 +221,14 @@ before-is-in (m ∷ ms) f h ne =
     (λ t. absurd (ne (ap (λ u. if u then nil else before m ms f) t)))
     (λ t. before-in nil m ms f t (or_rest (m == f) (is_in f ms) h t))
 
-pub before-there : (c : Inside) → IsChain c → (f prev : ℕ) → is_in f (numbers c.pages.held) ≡ true → prev ≡ before nil (numbers c.pages.held) f → (prev ≡ nil → ⊥) → length (bytes_of c.words.held prev) ≡ 4
+pub before-there : (c : Inside) → IsChain c → (f prev : ℕ) → is_in f (numbers c.pages.held) ≡ true → prev ≡ before nil (numbers c.pages.held) f → (prev ≡ nil → ⊥) → length (bytes_of c.words.held prev) ≡ 8
 before-there c is f prev h e ne =
     word-there c is prev (subst (λ k. is_in k (numbers c.pages.held) ≡ true) (sym e) (before-is-in (numbers c.pages.held) f h (λ k. ne (e ∙ k))))
-
-pub still-in : (c : Inside) → IsChain c → (n to f : ℕ) (s : Slots) → s ≡ record { base = c.words.base; size = 4; held = with_bytes c.words.held n (word to) } → is_in f (numbers c.pages.held) ≡ true → is_in f (numbers s.held) ≡ true
-still-in c is n to f s e h =
-    ap (λ (s : Slots). is_in f (numbers s.held)) e ∙ ap (is_in f) (numbers-with c.words.held n (word to)) ∙ ap (is_in f) (word_numbers c is) ∙ h
 
 pub cut-there : (s t : Slots) (n f : ℕ) → t ≡ record { base = s.base; size = s.size; held = (f, bytes_of s.held f) ∷ [] } → length (bytes_of s.held f) ≡ n → length (bytes_of t.held f) ≡ n
 cut-there s t n f e l = ap (λ (t : Slots). length (bytes_of t.held f)) e ∙ ap (λ u. length (if u then bytes_of s.held f else [])) (same f) ∙ l
 
-pub single : (p q : Ptr) (N f : ℕ) (b w : List ℕ) (ws ps : Slots) → f < N → N < 2 ^ 32 → length b ≡ 4096 → ws ≡ record { base = p; size = 4; held = with_bytes ((f, w) ∷ []) f (word nil) } → ps ≡ record { base = q; size = 4096; held = (f, b) ∷ [] }
+pub single : (p q : Ptr) (N f : ℕ) (b w : List ℕ) (ws ps : Slots) → f < N → N < 2 ^ 32 → length b ≡ 4096 → ws ≡ record { base = p; size = 8; held = with_bytes ((f, w) ∷ []) f (word nil nil) } → ps ≡ record { base = q; size = 4096; held = (f, b) ∷ [] }
     → IsChain (record { words = ws; pages = ps; frames = N; first = f; last = f })
 single p q N f b w ws ps small few l ew ep =
     subst (λ (u : Slots × Slots). IsChain (record { words = u.0; pages = u.1; frames = N; first = f; last = f })) (λ i. (sym ew i, sym ep i)) (alone p q N f b w small few l)

@@ -4,8 +4,9 @@ use lib.Dec.{eqb→eq, eqb_refl}
 use Rattle.std.proofs.Math.Bool.{and-true}
 use Rattle.std.proofs.Common.{append-nil}
 use native.Mathlib.Nat.{not-suc-le-zero}
+use borrow.Rule.Slice.PartMut.{put_mid}
 use Rattle.hg_raw.specs.Frames.{Frame, numbers, is_in, distinct, apart, bytes_of, without, minus, with_bytes}
-use Rattle.hg_raw.specs.Links.{first_of, last_of, nil, word, linked, from, behind, before, Sized, Below}
+use Rattle.hg_raw.specs.Links.{first_of, last_of, nil, half, word, linked, relinked, from, behind, before, Sized, Below}
 
 -- ---- tests
 pub same : (m : ℕ) → (m == m) ≡ true
@@ -37,10 +38,6 @@ pub not_true : (a : Bool) → not a ≡ true → a ≡ false
 not_true true h = clash false h refl
 not_true false h = refl
 
-pub true_not : (a : Bool) → a ≡ false → not a ≡ true
-true_not true h = clash true refl h
-true_not false h = refl
-
 pub or_false : (a b : Bool) → (a || b) ≡ false → (a ≡ false) × (b ≡ false)
 or_false true b h = clash true refl h
 or_false false b h = (refl, h)
@@ -58,9 +55,6 @@ or_rest true b h k = clash true refl k
 or_rest false b h k = h
 
 -- ---- what is in a list
-pub out_differs : (n m : ℕ) (ms : List ℕ) → is_in n ms ≡ false → is_in m ms ≡ true → m ≡ n → ⊥
-out_differs n m ms out in_ e = clash (is_in n ms) (subst (λ k. is_in k ms ≡ true) e in_) out
-
 pub below-at : (N : ℕ) (ns : List ℕ) (n : ℕ) → Below N ns → is_in n ns ≡ true → n < N
 below-at N [] n b h = clash false h refl
 below-at N (m ∷ ms) n b h = case_eq m n (λ t. (t || is_in n ms) ≡ true → n < N) (λ e _. subst (λ k. k < N) e b.0) (λ _ i. below-at N ms n b.1 i) h
@@ -69,13 +63,13 @@ pub sized-at : (s : ℕ) (fs : List Frame) (n : ℕ) → Sized s fs → is_in n 
 sized-at s [] n z h = clash false h refl
 sized-at s (f ∷ fs) n z h = case_eq f.0 n (λ t. (t || is_in n (numbers fs)) ≡ true → length (if t then f.1 else bytes_of fs n) ≡ s) (λ e _. z.0) (λ _ i. sized-at s fs n z.1 i) h
 
-pub linked-numbers : (ns : List ℕ) → numbers (linked ns) ≡ ns
-linked-numbers [] = refl
-linked-numbers (n ∷ ns) = ap (λ (ms : List ℕ). n ∷ ms) (linked-numbers ns)
+pub linked-numbers : (p : ℕ) (ns : List ℕ) → numbers (linked p ns) ≡ ns
+linked-numbers p [] = refl
+linked-numbers p (n ∷ ns) = ap (λ (ms : List ℕ). n ∷ ms) (linked-numbers n ns)
 
-pub linked-sized : (ns : List ℕ) → Sized 4 (linked ns)
-linked-sized [] = tt
-linked-sized (n ∷ ns) = (refl, linked-sized ns)
+pub linked-sized : (p : ℕ) (ns : List ℕ) → Sized 8 (linked p ns)
+linked-sized p [] = tt
+linked-sized p (n ∷ ns) = (refl, linked-sized n ns)
 
 pub numbers-append : (xs ys : List Frame) → numbers (xs ++ ys) ≡ numbers xs ++ numbers ys
 numbers-append [] ys = refl
@@ -103,22 +97,18 @@ pub no_nil : (N : ℕ) (ns : List ℕ) → N < 2 ^ 32 → Below N ns → is_in n
 no_nil N [] small b = refl
 no_nil N (n ∷ ns) small b = ap (λ t. t || is_in nil ns) (differ n nil (λ e. absurd (subst (λ k. k < N → ⊥) (sym e) (λ h. omega (arith, h, small)) b.0))) ∙ no_nil N ns small b.1
 
-pub first-nil : (N : ℕ) (ns : List ℕ) → N < 2 ^ 32 → Below N ns → first_of ns ≡ nil → ns ≡ []
-first-nil N [] small b e = refl
-first-nil N (n ∷ ns) small b e = absurd (clash (n == nil) (subst (λ k. (n == k) ≡ true) e (same n)) (or_false _ _ (no_nil N (n ∷ ns) small b)).0)
-
 -- ---- links
-pub linked-next : (ns : List ℕ) (n : ℕ) → is_in n ns ≡ true → bytes_of (linked ns) n ≡ word (first_of (behind n ns))
-linked-next [] n h = clash false h refl
-linked-next (m ∷ ms) n h = elim (m == n) as (λ t. (t || is_in n ms) ≡ true → (if t then word (first_of ms) else bytes_of (linked ms) n) ≡ word (first_of (if t then ms else behind n ms))) [ true ↦ λ _. refl | false ↦ λ i. linked-next ms n i ] h
+pub linked-word : (p : ℕ) (ns : List ℕ) (n : ℕ) → is_in n ns ≡ true → bytes_of (linked p ns) n ≡ word (before p ns n) (first_of (behind n ns))
+linked-word p [] n h = clash false h refl
+linked-word p (m ∷ ms) n h =
+    elim (m == n) as (λ t. (t || is_in n ms) ≡ true → (if t then word p (first_of ms) else bytes_of (linked m ms) n) ≡ word (if t then p else before m ms n) (first_of (if t then ms else behind n ms))) [
+      | true ↦ λ _. refl
+      | false ↦ λ i. linked-word m ms n i
+    ] h
 
 pub from-first : (ns : List ℕ) → from (first_of ns) ns ≡ ns
 from-first [] = refl
 from-first (n ∷ ns) = ap (λ t. if t then n ∷ ns else from n ns) (same n)
-
-pub from-in : (f n : ℕ) (ns : List ℕ) → is_in f (from n ns) ≡ true → is_in n ns ≡ true
-from-in f n [] h = h
-from-in f n (m ∷ ms) h = elim (m == n) as (λ t. is_in f (if t then m ∷ ms else from n ms) ≡ true → (t || is_in n ms) ≡ true) [ true ↦ λ _. refl | false ↦ λ i. from-in f n ms i ] h
 
 pub from-behind : (n : ℕ) (ns : List ℕ) → is_in n ns ≡ true → from n ns ≡ n ∷ behind n ns
 from-behind n [] h = clash false h refl
@@ -147,20 +137,6 @@ from-next N n (m ∷ ms) small b d h =
       | true ↦ λ _. ap (λ t. if t then m ∷ ms else from (first_of ms) ms) (first-other m ms out real) ∙ from-first ms
       | false ↦ λ i. ap (λ t. if t then m ∷ ms else from (first_of (behind n ms)) ms) (next-other m n ms out real) ∙ from-next N n ms small b.1 (snd_true _ _ d) i
     ] h
-
-pub before-first : (f p : ℕ) (ns : List ℕ) → is_in f ns ≡ true → before p ns (first_of ns) ≡ p
-before-first f p [] h = clash false h refl
-before-first f p (m ∷ ms) h = ap (λ t. if t then p else before m ms m) (same m)
-
--- the frame before the one behind n is n
-pub before-next : (f p n : ℕ) (ns : List ℕ) → (is_in nil ns ≡ false) → distinct ns ≡ true → is_in n ns ≡ true → is_in f (behind n ns) ≡ true → before p ns (first_of (behind n ns)) ≡ n
-before-next f p n [] no_nil d h k = clash false h refl
-before-next f p n (m ∷ ms) no_nil d h k =
-    let real : m ≡ nil → ⊥ = λ e. clash (m == nil) (subst (λ k. (m == k) ≡ true) e (same m)) (or_false _ _ no_nil).0 in
-    let out : is_in m ms ≡ false = not_true _ (fst_true _ _ d) in
-    case_eq m n (λ t. (t || is_in n ms) ≡ true → is_in f (if t then ms else behind n ms) ≡ true → before p (m ∷ ms) (first_of (if t then ms else behind n ms)) ≡ n)
-    (λ e _ k. ap (λ t. if t then p else before m ms (first_of ms)) (first-other m ms out real) ∙ before-first f m ms k ∙ e)
-    (λ _ i k. ap (λ t. if t then p else before m ms (first_of (behind n ms))) (next-other m n ms out real) ∙ before-next f m n ms (or_false _ _ no_nil).1 (snd_true _ _ d) i k) h k
 
 -- ---- a frame taken out
 pub numbers-without : (fs : List Frame) (n : ℕ) → numbers (without fs n) ≡ minus (numbers fs) n
@@ -295,59 +271,92 @@ pub last-append : (ns ms : List ℕ) → is_in nil ms ≡ false → last_of (ns 
 last-append ns [] h = ap last_of (append-nil ns)
 last-append ns (m ∷ ms) h = last-behind ns m ms ∙ sym (ap (λ t. if t then last_of ns else last_of (m ∷ ms)) (last-not-nil m ms h))
 
-pub linked-join : (ns ms : List ℕ) → distinct ns ≡ true → with_bytes (linked ns) (last_of ns) (word (first_of ms)) ++ linked ms ≡ linked (ns ++ ms)
-linked-join [] ms d = refl
-linked-join (n ∷ []) ms d = ap (λ t. (if t then (n, word (first_of ms)) ∷ [] else (n, word nil) ∷ []) ++ linked ms) (same n)
-linked-join (n ∷ k ∷ ns) ms d =
-    let ne : (n == last_of (k ∷ ns)) ≡ false = differ n (last_of (k ∷ ns)) (λ e. clash (is_in n (k ∷ ns)) (subst (λ j. is_in j (k ∷ ns) ≡ true) (sym e) (last-in k ns)) (not_true _ (fst_true _ _ d))) in
-    ap (λ t. (if t then (n, word (first_of ms)) ∷ linked (k ∷ ns) else (n, word k) ∷ with_bytes (linked (k ∷ ns)) (last_of (k ∷ ns)) (word (first_of ms))) ++ linked ms) ne ∙
-    ap (λ (fs : List Frame). (n, word k) ∷ fs) (linked-join (k ∷ ns) ms (snd_true _ _ d))
+-- ---- a word written
+set-here : (m n at to : ℕ) (w : List ℕ) (fs : List Frame) → (m == n) ≡ true → relinked ((m, w) ∷ fs) n at to ≡ (m, put_mid at 4 w (half to)) ∷ fs
+set-here m n at to w fs e = ap (λ t. if t then (m, put_mid at 4 (if t then w else bytes_of fs n) (half to)) ∷ fs else (m, w) ∷ with_bytes fs n (put_mid at 4 (if t then w else bytes_of fs n) (half to))) e
 
--- the word of the frame before f is set to what is behind f, and f is taken out
-abbrev pub relinked : List ℕ → ℕ → ℕ → List Frame
-relinked ns f b = without (with_bytes (linked ns) b (word (first_of (behind f ns)))) f
+set-past : (m n at to : ℕ) (w : List ℕ) (fs : List Frame) → (m == n) ≡ false → relinked ((m, w) ∷ fs) n at to ≡ (m, w) ∷ relinked fs n at to
+set-past m n at to w fs e = ap (λ t. if t then (m, put_mid at 4 (if t then w else bytes_of fs n) (half to)) ∷ fs else (m, w) ∷ with_bytes fs n (put_mid at 4 (if t then w else bytes_of fs n) (half to))) e
 
-pub linked-minus : (ns : List ℕ) (f : ℕ) → is_in nil ns ≡ false → distinct ns ≡ true → is_in f ns ≡ true → relinked ns f (before nil ns f) ≡ linked (minus ns f)
-linked-minus [] f free d h = clash false h refl
-linked-minus (m ∷ []) f free d h =
+set-none : (fs : List Frame) (n at to : ℕ) → is_in n (numbers fs) ≡ false → relinked fs n at to ≡ fs
+set-none fs n at to out = with-none fs n (put_mid at 4 (bytes_of fs n) (half to)) out
+
+-- another frame before the first
+first-set : (q p : ℕ) (ms : List ℕ) → relinked (linked q ms) (first_of ms) 0 p ≡ linked p ms
+first-set q p [] = refl
+first-set q p (m ∷ ms) = set-here m m 0 p (word q (first_of ms)) (linked m ms) (same m)
+
+-- others behind the last
+last-set : (p n : ℕ) (ns ms : List ℕ) → distinct (n ∷ ns) ≡ true → relinked (linked p (n ∷ ns)) (last_of (n ∷ ns)) 4 (first_of ms) ++ linked (last_of (n ∷ ns)) ms ≡ linked p (n ∷ ns ++ ms)
+last-set p n [] ms d = ap (λ (fs : List Frame). fs ++ linked n ms) (set-here n n 4 (first_of ms) (word p nil) [] (same n))
+last-set p n (k ∷ ns) ms d =
+    let last : ℕ = last_of (k ∷ ns) in
+    let ne : (n == last) ≡ false = differ n last (λ e. clash (is_in n (k ∷ ns)) (subst (λ j. is_in j (k ∷ ns) ≡ true) (sym e) (last-in k ns)) (not_true _ (fst_true _ _ d))) in
+    ap (λ (fs : List Frame). fs ++ linked last ms) (set-past n last 4 (first_of ms) (word p k) (linked n (k ∷ ns)) ne) ∙
+    ap (λ (fs : List Frame). (n, word p k) ∷ fs) (last-set n k ns ms (snd_true _ _ d))
+
+-- the last of the first list and the first of the other one are linked
+pub linked-join : (ns ms : List ℕ) → distinct ns ≡ true → relinked (linked nil ns) (last_of ns) 4 (first_of ms) ++ relinked (linked nil ms) (first_of ms) 0 (last_of ns) ≡ linked nil (ns ++ ms)
+linked-join [] ms d = first-set nil nil ms
+linked-join (n ∷ ns) ms d =
+    let last : ℕ = last_of (n ∷ ns) in
+    ap (λ (fs : List Frame). relinked (linked nil (n ∷ ns)) last 4 (first_of ms) ++ fs) (first-set nil last ms) ∙ last-set nil n ns ms d
+
+-- the frames before f and behind it are linked, and f is taken out
+abbrev taken_out : List ℕ → ℕ → ℕ → ℕ → ℕ → List Frame
+taken_out ns p f b x = without (relinked (relinked (linked p ns) b 4 x) x 0 b) f
+
+taken-first : (p m : ℕ) (ms : List ℕ) (f : ℕ) → is_in p (m ∷ ms) ≡ false → is_in m ms ≡ false → (m ≡ nil → ⊥) → (m == f) ≡ true
+    → taken_out (m ∷ ms) p f (before p (m ∷ ms) f) (first_of (behind f (m ∷ ms))) ≡ linked p (minus (m ∷ ms) f)
+taken-first p m ms f out own real t =
+    let x : ℕ = first_of ms in
+    let L : List Frame = linked m ms in
+    let w : List ℕ = word p x in
+    ap (λ u. taken_out (m ∷ ms) p f (if u then p else before m ms f) (first_of (if u then ms else behind f ms))) t
+    ∙ ap (λ (fs : List Frame). without (relinked fs x 0 p) f) (set-none (linked p (m ∷ ms)) p 4 x (ap (is_in p) (linked-numbers p (m ∷ ms)) ∙ out))
+    ∙ ap (λ (fs : List Frame). without fs f) (set-past m x 0 p w L (first-other m ms own real))
+    ∙ ap (λ (fs : List Frame). without ((m, w) ∷ fs) f) (first-set m p ms)
+    ∙ ap (λ u. if u then linked p ms else (m, w) ∷ without (linked p ms) f) t
+    ∙ sym (ap (λ u. linked p (if u then ms else m ∷ minus ms f)) t)
+
+pub linked-minus : (p : ℕ) (ns : List ℕ) (f : ℕ) → is_in p ns ≡ false → is_in nil ns ≡ false → distinct ns ≡ true → is_in f ns ≡ true → taken_out ns p f (before p ns f) (first_of (behind f ns)) ≡ linked p (minus ns f)
+linked-minus p [] f out free d h = clash false h refl
+linked-minus p (m ∷ []) f out free d h =
     by_bool (m == f)
-    (λ t. ap (λ (fs : List Frame). without fs f) (with-none (linked (m ∷ [])) (before nil (m ∷ []) f) (word (first_of (behind f (m ∷ [])))) (ap (λ (b : ℕ). is_in b (m ∷ [])) (ap (λ u. if u then nil else nil) t) ∙ free)) ∙
-    ap (λ u. if u then [] else (m, word nil) ∷ []) t ∙ sym (ap (λ u. linked (if u then [] else m ∷ [])) t))
+    (λ t. taken-first p m [] f out refl (λ e. clash (m == nil) (subst (λ k. (m == k) ≡ true) e (same m)) (or_false _ _ free).0) t)
     (λ t. clash (m == f || false) h (ap (λ u. u || false) t))
-linked-minus (m ∷ k ∷ ks) f free d h =
-    let out : is_in m (k ∷ ks) ≡ false = not_true _ (fst_true _ _ d) in
-    let nm : (m == nil) ≡ false = (or_false _ _ free).0 in
-    let no' : is_in nil (k ∷ ks) ≡ false = (or_false _ _ free).1 in
-    let d' : distinct (k ∷ ks) ≡ true = snd_true _ _ d in
+linked-minus p (m ∷ k ∷ ks) f out free d h =
+    let ms : List ℕ = k ∷ ks in
+    let own : is_in m ms ≡ false = not_true _ (fst_true _ _ d) in
+    let real : m ≡ nil → ⊥ = λ e. clash (m == nil) (subst (λ k. (m == k) ≡ true) e (same m)) (or_false _ _ free).0 in
     by_bool (m == f)
-    (λ t. ap (λ (b : ℕ). relinked (m ∷ k ∷ ks) f b) (ap (λ u. if u then nil else before m (k ∷ ks) f) t) ∙
-    ap (λ (fs : List Frame). without fs f) (with-none (linked (m ∷ k ∷ ks)) nil (word (first_of (behind f (m ∷ k ∷ ks)))) (ap (λ (ns : List ℕ). is_in nil (m ∷ ns)) (linked-numbers (k ∷ ks)) ∙ free)) ∙
-    ap (λ u. if u then linked (k ∷ ks) else (m, word k) ∷ without (linked (k ∷ ks)) f) t ∙ sym (ap (λ u. linked (if u then k ∷ ks else m ∷ minus (k ∷ ks) f)) t))
-    (λ t. let i : is_in f (k ∷ ks) ≡ true = subst (λ (u : Bool). (u || is_in f (k ∷ ks)) ≡ true) t h in
-    let w : List ℕ = word (first_of (behind f (k ∷ ks))) in
-    let start : relinked (m ∷ k ∷ ks) f (before nil (m ∷ k ∷ ks) f) ≡ without (with_bytes (linked (m ∷ k ∷ ks)) (before m (k ∷ ks) f) w) f
-    = ap (λ (b : ℕ). relinked (m ∷ k ∷ ks) f b) (ap (λ u. if u then nil else before m (k ∷ ks) f) t) ∙ ap (λ u. without (with_bytes (linked (m ∷ k ∷ ks)) (before m (k ∷ ks) f) (word (first_of (if u then k ∷ ks else behind f (k ∷ ks))))) f) t in
-    start ∙
+    (λ t. taken-first p m ms f out own real t)
+    (λ t. let i : is_in f ms ≡ true = subst (λ (u : Bool). (u || is_in f ms) ≡ true) t h in
+    let b : ℕ = before m ms f in
+    let x : ℕ = first_of (behind f ms) in
+    let L : List Frame = linked m ms in
+    let far : (m == x) ≡ false = next-other m f ms own real in
+    let rest : taken_out ms m f b x ≡ linked m (minus ms f) = linked-minus m (k ∷ ks) f own (or_false _ _ free).1 (snd_true _ _ d) i in
+    ap (λ u. taken_out (m ∷ ms) p f (if u then p else b) (first_of (if u then ms else behind f ms))) t ∙
     by_bool (k == f)
     (λ u.
-    let w' : List ℕ = word (first_of ks) in
-    let L : List Frame = linked (k ∷ ks) in
-    ap (λ (b : ℕ). without (with_bytes (linked (m ∷ k ∷ ks)) b w) f) (ap (λ v. if v then m else before k ks f) u) ∙
-    ap (λ v. without (with_bytes (linked (m ∷ k ∷ ks)) m (word (first_of (if v then ks else behind f ks)))) f) u ∙
-    ap (λ v. without (if v then (m, w') ∷ L else (m, word k) ∷ with_bytes L m w') f) (same m) ∙
-    ap (λ v. if v then L else (m, w') ∷ without L f) t ∙
-    ap (λ v. (m, w') ∷ (if v then linked ks else (k, word (first_of ks)) ∷ without (linked ks) f)) u ∙
-    sym (ap (λ v. linked (m ∷ (if v then ks else k ∷ minus ks f))) u))
+    let is_m : b ≡ m = ap (λ v. if v then m else before k ks f) u in
+    let w : List ℕ = word p x in
+    ap (λ (fs : List Frame). without (relinked fs x 0 b) f) (set-here m b 4 x (word p k) L (ap (λ (c : ℕ). m == c) is_m ∙ same m)) ∙
+    ap (λ (fs : List Frame). without fs f) (set-past m x 0 b w L far) ∙
+    ap (λ v. if v then relinked L x 0 b else (m, w) ∷ without (relinked L x 0 b) f) t ∙
+    ap (λ (fs : List Frame). (m, w) ∷ without (relinked fs x 0 b) f) (sym (set-none L b 4 x (ap (is_in b) (linked-numbers m ms) ∙ ap (λ (c : ℕ). is_in c ms) is_m ∙ own))) ∙
+    ap (λ (fs : List Frame). (m, w) ∷ fs) rest ∙
+    ap (λ (n : ℕ). (m, word p n) ∷ linked m (minus ms f)) (ap (λ v. first_of (if v then ks else behind f ks)) u ∙ sym (ap (λ v. first_of (if v then ks else k ∷ minus ks f)) u)))
     (λ u.
-    let L : List Frame = linked (k ∷ ks) in
-    let b : ℕ = before nil (k ∷ ks) f in
-    let far : (m == b) ≡ false = differ m b (λ e. clash (is_in m (k ∷ ks)) (subst (λ j. is_in j (k ∷ ks) ≡ true) (sym e) (before-in nil k ks f u (subst (λ (v : Bool). (v || is_in f ks) ≡ true) u i))) out) in
-    ap (λ (c : ℕ). without (with_bytes (linked (m ∷ k ∷ ks)) c w) f) (before-skips m nil k ks f u) ∙
-    ap (λ v. without (if v then (m, w) ∷ L else (m, word k) ∷ with_bytes L b w) f) far ∙
-    ap (λ v. if v then with_bytes L b w else (m, word k) ∷ without (with_bytes L b w) f) t ∙
-    ap (λ (fs : List Frame). (m, word k) ∷ fs) (linked-minus (k ∷ ks) f no' d' i) ∙
-    ap (λ (n : ℕ). (m, word n) ∷ linked (minus (k ∷ ks) f)) (sym (ap (λ v. first_of (if v then ks else k ∷ minus ks f)) u))) ∙
-    sym (ap (λ u. linked (if u then k ∷ ks else m ∷ minus (k ∷ ks) f)) t))
+    let w : List ℕ = word p k in
+    let off : (m == b) ≡ false = differ m b (λ e. clash (is_in m ms) (subst (λ j. is_in j ms ≡ true) (sym e) (before-in m k ks f u (subst (λ (v : Bool). (v || is_in f ks) ≡ true) u i))) own) in
+    ap (λ (fs : List Frame). without (relinked fs x 0 b) f) (set-past m b 4 x w L off) ∙
+    ap (λ (fs : List Frame). without fs f) (set-past m x 0 b w (relinked L b 4 x) far) ∙
+    ap (λ v. if v then relinked (relinked L b 4 x) x 0 b else (m, w) ∷ without (relinked (relinked L b 4 x) x 0 b) f) t ∙
+    ap (λ (fs : List Frame). (m, w) ∷ fs) rest ∙
+    ap (λ (n : ℕ). (m, word p n) ∷ linked m (minus ms f)) (sym (ap (λ v. first_of (if v then ks else k ∷ minus ks f)) u))) ∙
+    sym (ap (λ u. linked p (if u then ms else m ∷ minus ms f)) t))
 
 pub held-in : (fs : List Frame) (n s : ℕ) → length (bytes_of fs n) ≡ s → 0 < s → is_in n (numbers fs) ≡ true
 held-in [] n s l pos = absurd (not-suc-le-zero (subst (λ k. 0 < k) (sym l) pos))

@@ -71,14 +71,14 @@ taken-is r is f lt e ew ep ef eh el =
       word_size = ap (λ (s : Slots). s.size) ew ∙ is.word_size;
       page_count = ap (λ (s : PagesSeen). s.frames) ep ∙ is.page_count ∙ sym ef;
       words = ap numbers wheld ∙ numbers-without r.words.held f ∙ ap (λ (ms : List ℕ). minus ms f) is.words ∙ sym all;
-      words_sized = subst (Sized 4) (sym wheld) (sized-without 4 r.words.held f is.words_sized);
+      words_sized = subst (Sized 8) (sym wheld) (sized-without 8 r.words.held f is.words_sized);
       sized = subst (Sized 4096) (sym held) (sized-without 4096 r.pages.held f is.sized);
       below = subst (λ n. Below n (numbers e.pages.held)) (sym ef) (subst (Below r.frames) (sym all) (below-minus r.frames ns f is.below));
       few = subst (λ n. n < 2 ^ 32) (sym ef) is.few;
       distinct = ap distinct all ∙ distinct-minus ns f is.distinct;
       home = eh ∙ ap (λ (hs : List Bool). slice_set hs f false) is.home ∙ sym (flags-minus ns r.frames f lt is.distinct) ∙ (λ i. flags (sym all i) (sym ef i));
       shell = el ∙ is.shell ∙ (λ i. record { base = sym wbase i; frames = sym ef i });
-      pages = base ∙ is.pages ∙ (λ i. sym wbase i +ₚ (4 * sym ef i));
+      pages = base ∙ is.pages ∙ (λ i. sym wbase i +ₚ (8 * sym ef i));
     }
 
 pub seen-taken : (r : Inside) → IsRegion r → (v : RegionSeen) → region_seen r ≡ v → (f : ℕ) → f < r.frames → (e : Inside) → e.words.base ≡ r.words.base
@@ -107,14 +107,14 @@ back-is r c is it same_region far e ew ep ef eh el =
       word_size = ap (λ (s : Slots). s.size) ew ∙ is.word_size;
       page_count = ap (λ (s : PagesSeen). s.frames) ep ∙ is.page_count ∙ sym ef;
       words = ap numbers wheld ∙ numbers-append r.words.held c.words.held ∙ (λ i. is.words i ++ word_numbers c it i) ∙ sym all;
-      words_sized = subst (Sized 4) (sym wheld) (sized-append 4 r.words.held c.words.held is.words_sized (words-sized c it));
+      words_sized = subst (Sized 8) (sym wheld) (sized-append 8 r.words.held c.words.held is.words_sized (words-sized c it));
       sized = subst (Sized 4096) (sym held) (sized-append 4096 r.pages.held c.pages.held is.sized it.sized);
       below = subst (λ n. Below n (numbers e.pages.held)) (sym ef) (subst (Below r.frames) (sym all) (below-append r.frames ns ms is.below small));
       few = subst (λ n. n < 2 ^ 32) (sym ef) is.few;
       distinct = ap distinct all ∙ distinct-append ns ms is.distinct it.distinct far;
       home = eh ∙ ap (λ (hs : List Bool). marked hs ms) is.home ∙ sym (flags-back ns ms r.frames small) ∙ (λ i. flags (sym all i) (sym ef i));
       shell = el ∙ is.shell ∙ (λ i. record { base = sym wbase i; frames = sym ef i });
-      pages = base ∙ is.pages ∙ (λ i. sym wbase i +ₚ (4 * sym ef i));
+      pages = base ∙ is.pages ∙ (λ i. sym wbase i +ₚ (8 * sym ef i));
     }
 
 pub seen-back : (r : Inside) (c : Parts) → IsChain c → (v : RegionSeen) (w : ChainSeen) → region_seen r ≡ v → chain_seen c ≡ w → (chain_seen c).region ≡ (region_seen r).region → apart (numbers r.pages.held) (numbers c.pages.held) ≡ true
@@ -125,24 +125,24 @@ seen-back r c it v w ev ew' same_region far e ew ep ef =
     ap (λ (home : List (Option (List ℕ))). record { region = (region_seen r).region; home = home }) (home-back r.pages.held c.pages.held r.frames small it.distinct far) ∙ (λ i. given_back (ev i) (ew' i).frames)
 
 -- ---- a new region
-pub new-is : (e : Inside) → (p : Ptr) → e.words ≡ record { base = p; size = 4; held = zeros 4 e.frames } → e.pages ≡ record { base = p +ₚ (4 * e.frames); frames = e.frames; held = zeros 4096 e.frames } → e.frames < 2 ^ 32
+pub new-is : (e : Inside) → (p : Ptr) → e.words ≡ record { base = p; size = 8; held = zeros 8 e.frames } → e.pages ≡ record { base = p +ₚ (8 * e.frames); frames = e.frames; held = zeros 4096 e.frames } → e.frames < 2 ^ 32
     → e.home.items ≡ replicate e.frames true → e.shell ≡ record { base = p; frames = e.frames } → IsRegion e
 new-is e p ew ep few eh es =
-    let wheld : e.words.held ≡ zeros 4 e.frames = ap (λ (s : Slots). s.held) ew in
+    let wheld : e.words.held ≡ zeros 8 e.frames = ap (λ (s : Slots). s.held) ew in
     let held : e.pages.held ≡ zeros 4096 e.frames = ap (λ (s : PagesSeen). s.held) ep in
     let wbase : e.words.base ≡ p = ap (λ (s : Slots). s.base) ew in
     record {
       word_size = ap (λ (s : Slots). s.size) ew;
       page_count = ap (λ (s : PagesSeen). s.frames) ep;
-      words = ap numbers wheld ∙ zeros-numbers 4 4096 e.frames ∙ sym (ap numbers held);
-      words_sized = subst (Sized 4) (sym wheld) (zeros-sized 4 e.frames);
+      words = ap numbers wheld ∙ zeros-numbers 8 4096 e.frames ∙ sym (ap numbers held);
+      words_sized = subst (Sized 8) (sym wheld) (zeros-sized 8 e.frames);
       sized = subst (Sized 4096) (sym held) (zeros-sized 4096 e.frames);
       below = subst (λ (fs : List Frame). Below e.frames (numbers fs)) (sym held) (zeros-below 4096 e.frames);
       few = few;
       distinct = ap (λ (fs : List Frame). distinct (numbers fs)) held ∙ zeros-distinct 4096 e.frames;
       home = eh ∙ sym (fresh-flags e.frames) ∙ ap (λ (fs : List Frame). flags (numbers fs) e.frames) (sym held);
       shell = es ∙ ap (λ (q : Ptr). record { base = q; frames = e.frames }) (sym wbase);
-      pages = ap (λ (s : PagesSeen). s.base) ep ∙ ap (λ (q : Ptr). q +ₚ (4 * e.frames)) (sym wbase);
+      pages = ap (λ (s : PagesSeen). s.base) ep ∙ ap (λ (q : Ptr). q +ₚ (8 * e.frames)) (sym wbase);
     }
 
 pub new-home : (ps : PagesSeen) (q : Ptr) (n : ℕ) → ps ≡ record { base = q; frames = n; held = zeros 4096 n } → at_home ps.held n ≡ fresh_home n

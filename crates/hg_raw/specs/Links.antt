@@ -1,11 +1,13 @@
 -- How chains and regions lie in memory, and what their flags say. Our own rules.
-use Rattle.std.specs.Prelude.{◌≡◌, ℕ, zero, suc, ◌<◌, Bool, ◌==◌, true, if◌then◌else◌, List, [], ◌∷◌, length, slice_set, replicate, map, Option, None, Some}
+use Rattle.std.specs.Prelude.{◌≡◌, ℕ, zero, suc, ◌<◌, Bool, ◌==◌, true, if◌then◌else◌, List, [], ◌∷◌, ◌++◌, length, slice_set, replicate, map, Option, None, Some}
 use Rattle.std.specs.Int.{to_le_bytes}
 use Rattle.std.specs.List.{range_with_len}
 use mir.Syntax.{w32}
-use Rattle.hg_raw.specs.Frames.{Frame, numbers, is_in, bytes_of}
+use borrow.Rule.Slice.PartMut.{put_mid}
+use Rattle.hg_raw.specs.Frames.{Frame, numbers, is_in, bytes_of, with_bytes}
 
--- The word of each frame of a chain holds the number of the next one, or `nil` where there is none.
+-- The word of each frame of a chain holds the number of the frame before it, and then that of the one behind it. `nil` stands
+-- where there is none.
 abbrev pub nil : ℕ
 nil = 4294967295
 
@@ -18,12 +20,20 @@ last_of [] = nil
 last_of (n ∷ []) = n
 last_of (n ∷ m ∷ ns) = last_of (m ∷ ns)
 
-abbrev pub word : ℕ → List ℕ
-word n = to_le_bytes w32 n
+abbrev pub half : ℕ → List ℕ
+half n = to_le_bytes w32 n
 
-abbrev pub linked : List ℕ → List Frame
-linked [] = []
-linked (n ∷ ns) = (n, word (first_of ns)) ∷ linked ns
+abbrev pub word : ℕ → ℕ → List ℕ
+word previous next = half previous ++ half next
+
+-- the words of frames before which p stands
+abbrev pub linked : ℕ → List ℕ → List Frame
+linked p [] = []
+linked p (n ∷ ns) = (n, word p (first_of ns)) ∷ linked n ns
+
+-- the words with `to` in that of frame n, in the half that begins at its byte `at`
+abbrev pub relinked : List Frame → ℕ → ℕ → ℕ → List Frame
+relinked fs n at to = with_bytes fs n (put_mid at 4 (bytes_of fs n) (half to))
 
 -- from n on
 abbrev pub from : ℕ → List ℕ → List ℕ

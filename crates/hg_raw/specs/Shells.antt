@@ -28,13 +28,13 @@ words_own v vs = VecWords.own_val (v.ptr, (v.len, (v.cap, (v.alloc, tt)))) vs
 
 -- a vector of that block: its own bytes are the words of the frames, and its spare room begins with their pages
 abbrev pub IsShell : ShellSeen → Vec ℕ Global → Type 0
-IsShell d v = (v.ptr ≡ d.base) × (v.len ≡ 4 * d.frames) × (4100 * d.frames ≤ v.cap) × (0 < v.cap)
+IsShell d v = (v.ptr ≡ d.base) × (v.len ≡ 8 * d.frames) × (4104 * d.frames ≤ v.cap) × (0 < v.cap)
 
 abbrev pub shell_val : Val → Val
 shell_val w = vstruct (vcons w vnil)
 
 abbrev pub left_own : ShellSeen → Vec ℕ Global → Val → Fml
-left_own d v w = fsep (words_own v (w ∷ [])) (fsep (flt (v.cap * 1) (2 ^ 63)) (lease_own (ghosts.dealloc_token v.alloc) v.ptr (4100 * d.frames) v.cap))
+left_own d v w = fsep (words_own v (w ∷ [])) (fsep (flt (v.cap * 1) (2 ^ 63)) (lease_own (ghosts.dealloc_token v.alloc) v.ptr (4104 * d.frames) v.cap))
 
 abbrev pub shell_own : ShellSeen → List Val → Fml
 shell_own d vs = fex (Vec ℕ Global) (λ v. fex (IsShell d v) (λ _. fex Val (λ w. fsep (feq (List Val) vs (shell_val w ∷ [])) (left_own d v w))))

@@ -1,20 +1,26 @@
 // Frames that are out of their region, in an order of their own.
-ghost use Rattle.std.specs.Prelude.{◌≡◌, ℕ, ◌<◌, ◌++◌, ◌==◌, ◌&&◌, ◌||◌, not, if◌then◌else◌, List, [], ◌∷◌, length, true, false, IsTrue};
+ghost use Rattle.std.specs.Prelude.{◌≡◌, ℕ, ◌+◌, ◌<◌, ◌≤◌, ◌++◌, ◌==◌, ◌&&◌, ◌||◌, not, if◌then◌else◌, List, [], ◌∷◌, length, take, drop, true, false, IsTrue};
 ghost use Rattle.std.specs.Borrow.{sem};
 ghost use Rattle.hg_raw.specs.Frames.{ChainSeen, Has, bytes_of, numbers, is_in, distinct, without, with_bytes};
-ghost use Rattle.hg_raw.specs.Links.{first_of, from, behind, before, nil, word, marked, Sized};
+ghost use Rattle.hg_raw.specs.Links.{first_of, from, behind, before, nil, half, word, relinked, marked};
 
+use crate::shell::WORD;
 use crate::slots::Slots;
-use hg_base::FrameNo;
+use hg_base::{FrameNo, get_u32, put_u32};
 use std::marker::Model;
 
-// In place of a next frame where there is none. No frame has this number.
+// Where the number of the frame before, and that of the frame behind, stand in a word.
+const BEFORE: usize = 0;
+
+const BEHIND: usize = 4;
+
+// In place of a frame before or behind where there is none. No frame has this number.
 pub(crate) const NIL: u32 = u32::MAX;
 
 /// A list of frames of one region, with their bytes, 4,096 each. It is spent by
 /// `Region::give_back` or by a `join`, also where it has no frame.
 pub struct Chain {
-    // One word a frame: the number of the next one, or `NIL`.
+    // One word a frame: the number of the one before it, and that of the one behind it, or `NIL`.
     pub(crate) words: Slots,
     pub(crate) pages: Slots,
     // How many frames its region has.
@@ -67,20 +73,22 @@ impl Chain {
         ensures bytes { (k : ℕ) → bytes_of self.new.frames k ≡ (if is_in k (numbers self.old.frames) then bytes_of self.old.frames k else bytes_of other.frames k) }
     {
         let Chain {
-            words,
+            mut words,
             pages,
             frames: _,
             first,
             last,
         } = other;
-        link(&mut self.words, self.last, first);
+        link(&mut self.words, self.last, BEHIND, first);
+        link(&mut words, first, BEFORE, self.last);
         self.first = replaced(self.first, NIL, first);
         self.last = replaced(last, NIL, self.last);
         self.words.append(words);
         self.pages.append(pages);
     }
 
-    /// Takes frame `f` out. The others stay in their order.
+    /// Takes frame `f` out. The others stay in their order, and none of them but its neighbours is
+    /// touched.
     pub fn split(&mut self, f: FrameNo) -> Chain
         requires { Has self.old f.0 }
         ensures one { result ≡ record { region = self.old.region; frames = (f.0, bytes_of self.old.frames f.0) ∷ [] } }
@@ -89,13 +97,14 @@ impl Chain {
         ensures has_others { (k : ℕ) → is_in k (numbers self.new.frames) ≡ (is_in k (numbers self.old.frames) && not (k == f.0)) }
         ensures bytes { (k : ℕ) → (k ≡ f.0 → ⊥) → bytes_of self.new.frames k ≡ bytes_of self.old.frames k }
     {
-        let before = self.before(f.0);
+        let before = self.previous(f.0);
         let next = self.next(f.0);
-        link(&mut self.words, before, next);
+        link(&mut self.words, before, BEHIND, next);
+        link(&mut self.words, next, BEFORE, before);
         self.first = replaced(self.first, f.0, next);
         self.last = replaced(self.last, f.0, before);
         let mut words = self.words.cut(f.0 as usize);
-        set_word(&mut words, f.0, NIL);
+        clear_word(&mut words, f.0);
         let pages = self.pages.cut(f.0 as usize);
         Chain {
             words,
@@ -113,7 +122,7 @@ impl Chain {
         ensures rest { from result (numbers self.now.frames) ≡ behind at (numbers self.now.frames) }
         ensures below { at < self.now.region.frames }
     {
-        get_word(&self.words, at)
+        get_half(&self.words, at, BEHIND)
     }
 
     /// Sets the flag of each frame.
@@ -130,39 +139,34 @@ impl Chain {
     }
 
     // The frame before `f`, or `NIL`.
-    fn before(&self, f: u32) -> u32
+    fn previous(&self, f: u32) -> u32
         requires { Has self.now f }
         ensures { result ≡ before nil (numbers self.now.frames) f }
     {
-        let mut before = NIL;
-        let mut at = self.first;
-        while at != f {
-            before = at;
-            at = self.next(at);
-        }
-        before
+        get_half(&self.words, f, BEFORE)
     }
 }
 
-// The word of frame `n`.
-fn get_word(words: &Slots, n: u32) -> u32
-    requires there { length (bytes_of words.now.held n) ≡ 4 }
-    requires size { words.now.size ≡ 4 }
-    ensures { word result ≡ bytes_of words.now.held n }
+// One of the two numbers in the word of frame `n`.
+fn get_half(words: &Slots, n: u32, at: usize) -> u32
+    requires there { length (bytes_of words.now.held n) ≡ 8 }
+    requires size { words.now.size ≡ 8 }
+    requires inside { at + 4 ≤ 8 }
+    ensures { half result ≡ take 4 (drop at (bytes_of words.now.held n)) }
 {
-    let bytes = words.get(n as usize);
-    u32::from_le_bytes([bytes[0], bytes[1], bytes[2], bytes[3]])
+    get_u32(words.get(n as usize), at)
 }
 
-// Writes `to` to the word of frame `from`, where `from` is a frame.
-fn link(words: &mut Slots, from: u32, to: u32)
-    requires there { (from ≡ nil → ⊥) → length (bytes_of words.old.held from) ≡ 4 }
+// Writes one of the two numbers in the word of frame `from`, where `from` is a frame.
+fn link(words: &mut Slots, from: u32, at: usize, to: u32)
+    requires there { (from ≡ nil → ⊥) → length (bytes_of words.old.held from) ≡ 8 }
     requires no_nil { is_in nil (numbers words.old.held) ≡ false }
-    requires size { words.old.size ≡ 4 }
-    ensures { words.new ≡ record { base = words.old.base; size = 4; held = with_bytes words.old.held from (word to) } }
+    requires size { words.old.size ≡ 8 }
+    requires inside { at + 4 ≤ 8 }
+    ensures { words.new ≡ record { base = words.old.base; size = 8; held = relinked words.old.held from at to } }
 {
     if from != NIL {
-        set_word(words, from, to);
+        put_u32(words.get_mut(from as usize), at, to);
     }
 }
 
@@ -172,11 +176,12 @@ fn replaced(number: u32, old: u32, new: u32) -> u32
     if number == old { new } else { number }
 }
 
-pub(crate) fn set_word(words: &mut Slots, n: u32, to: u32)
-    requires there { length (bytes_of words.old.held n) ≡ 4 }
-    requires size { words.old.size ≡ 4 }
-    ensures { words.new ≡ record { base = words.old.base; size = 4; held = with_bytes words.old.held n (word to) } }
+// Writes the word of a frame that has none before it and none behind it.
+pub(crate) fn clear_word(words: &mut Slots, n: u32)
+    requires there { length (bytes_of words.old.held n) ≡ 8 }
+    requires size { words.old.size ≡ 8 }
+    ensures { words.new ≡ record { base = words.old.base; size = 8; held = with_bytes words.old.held n (word nil nil) } }
 {
     let bytes = words.get_mut(n as usize);
-    bytes.copy_from_slice(&to.to_le_bytes());
+    bytes.copy_from_slice(&[255; WORD]);
 }

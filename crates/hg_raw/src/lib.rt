@@ -3,8 +3,8 @@
 //! chain that has it, and through no other value. It stands on the base crate.
 //!
 //! ```text
-//!   block    | 0: behind | 1: behind | ..   | page 0 | page 1 | ..
-//!              4 bytes a frame, zeros          4,096 bytes a frame
+//!   block    | 0: before, behind | 1: before, behind | ..   | page 0 | page 1 | ..
+//!              8 bytes a frame, zeros at opening              4,096 bytes a frame
 //!   home     | 0: out | 1: home | ..          a byte a frame
 //!   blank    | 0: no  | 1: yes  | ..          a byte a frame: nothing was written to its page yet
 //! ```
@@ -14,6 +14,8 @@
 //!
 //! The layer above uses this: a chain is a list of frames with their bytes. Taking, joining,
 //! splitting and giving back move frames, and change no byte.
+//! Each of them takes the same time however long the chain is; a chain given back takes a step a
+//! frame.
 #![tactic(auto)]
 
 mod chain;

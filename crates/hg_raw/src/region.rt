@@ -2,7 +2,7 @@
 ghost use Rattle.std.specs.Prelude.{◌≡◌, ℕ, ◌||◌, IfOk, IsTrue, false, [], ◌∷◌, length};
 ghost use Rattle.hg_raw.specs.Frames.{Frame, Has, numbers, is_in, bytes_of, is_home, home_bytes, taken, given_back, fresh_home, AllHome};
 
-use crate::chain::{Chain, NIL, set_word};
+use crate::chain::{Chain, NIL, clear_word};
 use crate::pages::Pages;
 use crate::shell::{Shell, WORD, open};
 use crate::slots::{PAGE, Slots};
@@ -33,7 +33,8 @@ impl Model for Region {
 }
 
 impl Region {
-    /// Reserves a region of `frames` frames: all at home, with zero bytes.
+    /// Reserves a region of `frames` frames: all at home, with zero bytes. A page's are written when
+    /// its frame is taken for the first time.
     pub fn new(alloc: Global, frames: u32) -> Result<Region, NoMemory>
         ensures frames { IfOk result (λ r. r.region.frames ≡ frames) }
         ensures home { IfOk result (λ r. r.home ≡ fresh_home frames) }
@@ -76,7 +77,7 @@ impl Region {
     {
         self.home[f.0 as usize] = false;
         let mut words = self.words.cut(f.0 as usize);
-        set_word(&mut words, f.0, NIL);
+        clear_word(&mut words, f.0);
         let pages = self.pages.cut(f.0 as usize);
         Chain {
             words,

@@ -10,7 +10,7 @@ ghost use Rattle.hg_raw.specs.Shells.{ShellSeen, shell_own};
 use crate::slots::{Blanks, PAGE, Slots};
 use std::marker::{Move, Owns};
 
-pub(crate) const WORD: usize = 4;
+pub(crate) const WORD: usize = 8;
 
 // What is left of the vector meanwhile: its words, its spare room and the right to free it. Its bytes
 // are not owned, so it is no `Vec` to anyone.
@@ -38,11 +38,11 @@ pub(crate) fn open(
     requires base { base ≡ vec_ptr block }
     requires some { 0 < vec_capacity block }
     requires few { frames < 2 ^ 32 }
-    requires words { block.items ≡ replicate (4 * frames) 0 }
-    requires room { 4100 * frames ≤ vec_capacity block }
-    ensures words { result.0 ≡ record { base = base; size = 4; held = zeros 4 frames } }
-    ensures pages { result.1.0 ≡ record { base = base +ₚ (4 * frames); size = 4096; held = [] } }
-    ensures blanks { result.1.1.0 ≡ record { base = base +ₚ (4 * frames); left = down frames } }
+    requires words { block.items ≡ replicate (8 * frames) 0 }
+    requires room { 4104 * frames ≤ vec_capacity block }
+    ensures words { result.0 ≡ record { base = base; size = 8; held = zeros 8 frames } }
+    ensures pages { result.1.0 ≡ record { base = base +ₚ (8 * frames); size = 4096; held = [] } }
+    ensures blanks { result.1.1.0 ≡ record { base = base +ₚ (8 * frames); left = down frames } }
     ensures shell { result.1.1.1 ≡ record { base = base; frames = frames } }
 {
     let pages = unsafe { base.add(WORD * frames) };
@@ -62,12 +62,12 @@ impl Shell {
     /// The block again, once all its words and pages are there.
     pub(crate) fn close(self, words: Slots, pages: Slots, blanks: Blanks) -> Vec<u8>
         requires words_base { words.base ≡ self.base }
-        requires words_size { words.size ≡ 4 }
-        requires words_sized { Sized 4 words.held }
-        requires pages_base { pages.base ≡ self.base +ₚ (4 * self.frames) }
+        requires words_size { words.size ≡ 8 }
+        requires words_sized { Sized 8 words.held }
+        requires pages_base { pages.base ≡ self.base +ₚ (8 * self.frames) }
         requires pages_size { pages.size ≡ 4096 }
         requires pages_sized { Sized 4096 pages.held }
-        requires blanks_base { blanks.base ≡ self.base +ₚ (4 * self.frames) }
+        requires blanks_base { blanks.base ≡ self.base +ₚ (8 * self.frames) }
         requires all_words { (n : ℕ) → n < self.frames → is_in n (numbers words.held) ≡ true }
         requires all_pages { (n : ℕ) → n < self.frames → (is_in n blanks.left || is_in n (numbers pages.held)) ≡ true }
     {

@@ -63,7 +63,7 @@ open_spec 𝓤 𝓛 𝓜 𝓡 wired =
     let d : ShellSeen = record { base = p; frames = N } in
     let told₀ = vec_told v vss.0 are.0.0 in
     let is_vec : vss.0 ≡ vec_val v.ptr v.len v.cap ∷ [] = told₀.0 in let fl : v.len < 2 ^ 64 = told₀.1 in let fc : v.cap < 2 ^ 64 = told₀.2 in let fN : N < 2 ^ 64 = are.1.1.0.1 in
-    let A : Type 0 = p ≡ v.ptr in let B : Type 0 = 0 < v.cap in let C : Type 0 = N < 2 ^ 32 in let D : Type 0 = v.items ≡ replicate (4 * N) 0 in let E : Type 0 = 4100 * N ≤ v.cap in
+    let A : Type 0 = p ≡ v.ptr in let B : Type 0 = 0 < v.cap in let C : Type 0 = N < 2 ^ 32 in let D : Type 0 = v.items ≡ replicate (8 * N) 0 in let E : Type 0 = 4104 * N ≤ v.cap in
     let tok = ghosts.dealloc_token v.alloc in
     qed 𝓛 ((raw (alive 𝓛 f.signature z.0.0 z.0.1) ⊛ ‵ (owns (types_at f.signature.params z.0.0) a vss)) ∷ (raw (fact 𝓤 A) ⊛ (raw (fact 𝓤 B) ⊛ (raw (fact 𝓤 C) ⊛ (raw (fact 𝓤 D) ⊛ raw (fact 𝓤 E))))) ∷ []) ∵
     move ! (1 ∷ []) $ split ! $ heard ! A (λ same. split ! $ heard ! B (λ some. split ! $ heard ! C (λ few. split ! $ heard ! D (λ zero. heard ! E (λ roomy.
@@ -73,21 +73,21 @@ open_spec 𝓤 𝓛 𝓜 𝓡 wired =
     let q : Ptr = block_ptr b o in let w : Val = vec_val q v.len v.cap in
     let told : vss.0 ≡ w ∷ [] = is_vec ∙ ap (λ (r : Ptr). vec_val r v.len v.cap ∷ []) at_b in
     let at_p : p ≡ q = same ∙ at_b in
-    let turned : v.items ≡ replicate (N * 4) 0 = zero ∙ ap (λ (n : ℕ). replicate n 0) (omega arith) in
+    let turned : v.items ≡ replicate (N * 8) 0 = zero ∙ ap (λ (n : ℕ). replicate n 0) (omega arith) in
     rewrite ! 0 (λ (t : Bool). ‵ (owns_if t (block_with_items tok u8 q v.len v.cap v.items))) (is_live v.cap some) refl $ fsplit ! $
     use1 𝓛 (‵ (fsep (feq ℕ (length v.items) v.len) (bytes full_share v.items b o))) (bytes_apart 𝓛 full_share v.len v.items b o) $ fsplit ! $ feq_l ! (λ lens.
-    let len : v.len ≡ 4 * N = sym lens ∙ ap (λ (xs : List ℕ). length xs) zero ∙ length-replicate (4 * N) 0 in
-    let spare : v.cap - v.len ≡ N * 4096 + (v.cap - 4100 * N) = omega (arith, roomy, len) in
-    let far : o + v.len * 1 ≡ o + 4 * N = omega (arith, len) in
-    let behind : past (ty_int w8) (N * 4096) (o + 4 * N) ≡ o + 4100 * N * 1 = past_bytes (N * 4096) (o + 4 * N) ∙ omega arith in
-    rewrite ! 0 (λ (xs : List ℕ). ‵ (bytes full_share xs b o)) turned refl $ use1 𝓛 (‵ (parts_own q 4 (zeros 4 N))) (cut_up 𝓛 b o 4 N) $ move ! (1 ∷ []) $ fsplit ! $
-    rewrite ! 0 (λ (n : ℕ). ‵ (froom (ty_array (ty_int w8) n) b (o + v.len * 1))) spare refl $ rewrite ! 0 (λ (x : ℕ). ‵ (froom (ty_array (ty_int w8) (N * 4096 + (v.cap - 4100 * N))) b x)) far refl $
-    use1 𝓛 (‵ (froom (ty_array (ty_int w8) (N * 4096)) b (o + 4 * N)) ⊛ ‵ (froom (ty_array (ty_int w8) (v.cap - 4100 * N)) b (past (ty_int w8) (N * 4096) (o + 4 * N)))) (room_cut 𝓛 (ty_int w8) (N * 4096) (v.cap - 4100 * N) b (o + 4 * N)) $ split ! $
-    use1 𝓛 (‵ (blanks_own (block_ptr b (o + 4 * N)) 4096 (down N))) (cut_room 𝓛 b (o + 4 * N) 4096 N) $
-    rewrite ! 1 (λ (x : ℕ). ‵ (froom (ty_array (ty_int w8) (v.cap - 4100 * N)) b x)) behind refl $ move ! (1 ∷ 2 ∷ []) $ fjoin ! $
+    let len : v.len ≡ 8 * N = sym lens ∙ ap (λ (xs : List ℕ). length xs) zero ∙ length-replicate (8 * N) 0 in
+    let spare : v.cap - v.len ≡ N * 4096 + (v.cap - 4104 * N) = omega (arith, roomy, len) in
+    let far : o + v.len * 1 ≡ o + 8 * N = omega (arith, len) in
+    let behind : past (ty_int w8) (N * 4096) (o + 8 * N) ≡ o + 4104 * N * 1 = past_bytes (N * 4096) (o + 8 * N) ∙ omega arith in
+    rewrite ! 0 (λ (xs : List ℕ). ‵ (bytes full_share xs b o)) turned refl $ use1 𝓛 (‵ (parts_own q 8 (zeros 8 N))) (cut_up 𝓛 b o 8 N) $ move ! (1 ∷ []) $ fsplit ! $
+    rewrite ! 0 (λ (n : ℕ). ‵ (froom (ty_array (ty_int w8) n) b (o + v.len * 1))) spare refl $ rewrite ! 0 (λ (x : ℕ). ‵ (froom (ty_array (ty_int w8) (N * 4096 + (v.cap - 4104 * N))) b x)) far refl $
+    use1 𝓛 (‵ (froom (ty_array (ty_int w8) (N * 4096)) b (o + 8 * N)) ⊛ ‵ (froom (ty_array (ty_int w8) (v.cap - 4104 * N)) b (past (ty_int w8) (N * 4096) (o + 8 * N)))) (room_cut 𝓛 (ty_int w8) (N * 4096) (v.cap - 4104 * N) b (o + 8 * N)) $ split ! $
+    use1 𝓛 (‵ (blanks_own (block_ptr b (o + 8 * N)) 4096 (down N))) (cut_room 𝓛 b (o + 8 * N) 4096 N) $
+    rewrite ! 1 (λ (x : ℕ). ‵ (froom (ty_array (ty_int w8) (v.cap - 4104 * N)) b x)) behind refl $ move ! (1 ∷ 2 ∷ []) $ fjoin ! $
     -- [the spare room and the right to free; the pages; the words of the frames; the vector's words; the other parameters; alive]
     keep ! (2 ∷ 1 ∷ 0 ∷ 3 ∷ 5 ∷ []) $ rewrite ! 3 (λ (r : Ptr). ‵ (words_own v (vec_val r v.len v.cap ∷ []))) at_b refl $
-    let f4 : 4 * N < 2 ^ 64 = omega (arith, few) in
+    let f4 : 8 * N < 2 ^ 64 = omega (arith, few) in
     regoal ! (λ (us : List Val). prop (WpFn 𝓤 𝓛.H 𝓣.C 𝓣.Λ code.function us Post)) (λ i. told i ++ ((are.1.0 ∙ ap (λ (r : Ptr). ptr_val r ∷ []) at_p) i ++ (are.1.1.0.0 i ++ []))) refl $
     enter ! 𝓣.C 𝓣.Λ code.function (w ∷ vptr b o ∷ vint w64 N ∷ []) Post $ alloc_all ! (λ l. pass_all ! refl ((tt, vec_WT b o v.len v.cap fl fc), ((tt, tt), ((tt, record { fits = fN }), tt))) $ let En : Env 𝓤 𝓛.H = env code.function.locals l in
     first ! $ blocks ! $
@@ -104,12 +104,12 @@ open_spec 𝓤 𝓛 𝓜 𝓡 wired =
     sets ! (agg ! (and_then ! (get ! refl) (and_then ! (get ! refl) (no_more !)))) refl (tt, ((tt, (record { fits = lit< tt }, tt)), (((tt, tt), ((vec_WT b o v.len v.cap fl fc, tt), tt)), tt))) $
     sets ! (agg ! (and_then ! (get ! refl) (and_then ! (get ! refl) (no_more !)))) refl (tt, ((tt, (record { fits = lit< tt }, tt)), (((tt, (record { fits = lit< tt }, tt)), (((tt, tt), ((vec_WT b o v.len v.cap fl fc, tt), tt)), tt)), tt))) $
     returns ! (look_at ! 0 refl) $ free_all ! refl $
-    let d₁ : Slots = record { base = p; size = 4; held = zeros 4 N } in let d₂ : Slots = record { base = p +ₚ (4 * N); size = 4096; held = [] } in let d₃ : Blanks = record { base = p +ₚ (4 * N); left = down N } in
-    let u₁ : Val = slots_val b o 4 in let u₂ : Val = slots_val b (o + 4 * N) 4096 in let u₃ : Val = blanks_val b (o + 4 * N) in let sv : Val = shell_val w in
-    let at_pages : p +ₚ (4 * N) ≡ block_ptr b (o + 4 * N) = ap (λ (r : Ptr). r +ₚ (4 * N)) at_p in
-    slots_made ! d₁ b o at_p (lit< tt) $ move ! (1 ∷ []) $ blanks_made ! d₃ b (o + 4 * N) at_pages $ nothing ! $ slots_made ! d₂ b (o + 4 * N) at_pages (lit< tt) $
+    let d₁ : Slots = record { base = p; size = 8; held = zeros 8 N } in let d₂ : Slots = record { base = p +ₚ (8 * N); size = 4096; held = [] } in let d₃ : Blanks = record { base = p +ₚ (8 * N); left = down N } in
+    let u₁ : Val = slots_val b o 8 in let u₂ : Val = slots_val b (o + 8 * N) 4096 in let u₃ : Val = blanks_val b (o + 8 * N) in let sv : Val = shell_val w in
+    let at_pages : p +ₚ (8 * N) ≡ block_ptr b (o + 8 * N) = ap (λ (r : Ptr). r +ₚ (8 * N)) at_p in
+    slots_made ! d₁ b o at_p (lit< tt) $ move ! (1 ∷ []) $ blanks_made ! d₃ b (o + 8 * N) at_pages $ nothing ! $ slots_made ! d₂ b (o + 8 * N) at_pages (lit< tt) $
     -- [no page; the pages; the words of the frames; the spare room and the right to free; the vector's words; alive]
-    move ! (3 ∷ []) $ rewrite ! 0 (λ (r : Ptr). ‵ (lease_own tok r (4100 * N) v.cap)) (sym at_b) refl $ flt_i ! (v.cap * 1) (2 ^ 63) fit $ fjoin ! $ move ! (4 ∷ 0 ∷ []) $ fjoin ! $
+    move ! (3 ∷ []) $ rewrite ! 0 (λ (r : Ptr). ‵ (lease_own tok r (4104 * N) v.cap)) (sym at_b) refl $ flt_i ! (v.cap * 1) (2 ^ 63) fit $ fjoin ! $ move ! (4 ∷ 0 ∷ []) $ fjoin ! $
     feq_i ! (List Val) (sv ∷ []) (sv ∷ []) refl $ fjoin ! $ fpack ! Val (λ u. fsep (feq (List Val) (sv ∷ []) (shell_val u ∷ [])) (left_own d v u)) w $
     let is_shell : IsShell d v = (sym same, len, roomy, some) in
     fpack ! (IsShell d v) (λ _. fex Val (λ u. fsep (feq (List Val) (sv ∷ []) (shell_val u ∷ [])) (left_own d v u))) is_shell $

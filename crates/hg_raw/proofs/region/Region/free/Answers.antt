@@ -17,8 +17,8 @@ close-requires-clause-all_pages c = λ n lt.
 
 pub close-requires-clause-pages_base : goal.close-requires-clause-pages_base
 close-requires-clause-pages_base c =
-    ap (λ (v : PagesSeen). v.base) c.pages.view_is ∙ c.self.invariant.pages ∙ (λ i. (sym c.self.invariant.shell i).base +ₚ (4 * (sym c.self.invariant.shell i).frames))
+    ap (λ (v : PagesSeen). v.base) c.pages.view_is ∙ c.self.invariant.pages ∙ (λ i. (sym c.self.invariant.shell i).base +ₚ (8 * (sym c.self.invariant.shell i).frames))
 
 pub close-requires-clause-blanks_base : goal.close-requires-clause-blanks_base
 close-requires-clause-blanks_base c =
-    c.pages.invariant.base ∙ ap (λ (v : PagesSeen). v.base) c.pages.view_is ∙ c.self.invariant.pages ∙ (λ i. (sym c.self.invariant.shell i).base +ₚ (4 * (sym c.self.invariant.shell i).frames))
+    c.pages.invariant.base ∙ ap (λ (v : PagesSeen). v.base) c.pages.view_is ∙ c.self.invariant.pages ∙ (λ i. (sym c.self.invariant.shell i).base +ₚ (8 * (sym c.self.invariant.shell i).frames))

@@ -10,10 +10,10 @@ use Rattle.hg_raw.proofs.region.Region.take.Goals as goal
 pub cut-words-requires : goal.cut-words-requires
 cut-words-requires c = ap (is_in c.args.f.0) c.self.invariant.words ∙ (home-in c.self.inside c.args.self.now c.self.view_is c.args.f.0 c.requires).1
 
-pub set_word-requires-clause-there : goal.set_word-requires-clause-there
-set_word-requires-clause-there c =
-    cut-there c.self.inside.words c.cut-words.result 4 c.args.f.0 c.cut-words.ensures.part
-    (sized-at 4 c.self.inside.words.held c.args.f.0 c.self.invariant.words_sized (ap (is_in c.args.f.0) c.self.invariant.words ∙ (home-in c.self.inside c.args.self.now c.self.view_is c.args.f.0 c.requires).1))
+pub clear_word-requires-clause-there : goal.clear_word-requires-clause-there
+clear_word-requires-clause-there c =
+    cut-there c.self.inside.words c.cut-words.result 8 c.args.f.0 c.cut-words.ensures.part
+    (sized-at 8 c.self.inside.words.held c.args.f.0 c.self.invariant.words_sized (ap (is_in c.args.f.0) c.self.invariant.words ∙ (home-in c.self.inside c.args.self.now c.self.view_is c.args.f.0 c.requires).1))
 
 pub cut-pages-requires-clause-there : goal.cut-pages-requires-clause-there
 cut-pages-requires-clause-there c = (home-in c.self.inside c.args.self.now c.self.view_is c.args.f.0 c.requires).1
@@ -30,16 +30,16 @@ invariant_of-self c = taken-is c.self.inside c.self.invariant c.args.f.0 (home-i
 pub invariant_of-result : goal.invariant_of-result
 invariant_of-result c =
     let h = home-in c.self.inside c.args.self.now c.self.view_is c.args.f.0 c.requires in
-    single c.cut-words.result.base c.self.inside.pages.base c.self.inside.frames c.args.f.0 (bytes_of c.self.inside.pages.held c.args.f.0) (bytes_of c.self.inside.words.held c.args.f.0) c.set_word.new.words c.cut-pages.result
+    single c.cut-words.result.base c.self.inside.pages.base c.self.inside.frames c.args.f.0 (bytes_of c.self.inside.pages.held c.args.f.0) (bytes_of c.self.inside.words.held c.args.f.0) c.clear_word.new.words c.cut-pages.result
     h.0 c.self.invariant.few (sized-at 4096 c.self.inside.pages.held c.args.f.0 c.self.invariant.sized h.1)
-    (c.set_word.ensures ∙ ap (λ (s : Slots). record { base = c.cut-words.result.base; size = 4; held = with_bytes s.held c.args.f.0 (word nil) }) c.cut-words.ensures.part)
+    (c.clear_word.ensures ∙ ap (λ (s : Slots). record { base = c.cut-words.result.base; size = 8; held = with_bytes s.held c.args.f.0 (word nil nil) }) c.cut-words.ensures.part)
     c.cut-pages.ensures.part
 
 pub returns-clause-chain : goal.returns-clause-chain
 returns-clause-chain c =
     let h = home-in c.self.inside c.args.self.now c.self.view_is c.args.f.0 c.requires in
-    chain-taken c.self.inside c.args.self.now c.self.view_is c.args.f.0 h.0 h.1 c.set_word.new.words c.cut-pages.result
-    (ap (λ (s : Slots). s.base) c.set_word.ensures ∙ ap (λ (s : Slots). s.base) c.cut-words.ensures.part) c.cut-pages.ensures.part
+    chain-taken c.self.inside c.args.self.now c.self.view_is c.args.f.0 h.0 h.1 c.clear_word.new.words c.cut-pages.result
+    (ap (λ (s : Slots). s.base) c.clear_word.ensures ∙ ap (λ (s : Slots). s.base) c.cut-words.ensures.part) c.cut-pages.ensures.part
 
 pub returns-clause-len : goal.returns-clause-len
 returns-clause-len c =

@@ -58,9 +58,9 @@ close_spec 𝓤 𝓛 𝓜 𝓡 wired =
     let a = z.0.3 in let vss = z.0.4 in
     let d : ShellSeen = a.0 in let ws : Slots = a.1.0 in let ps : Slots = a.1.1.0 in let bs : Blanks = a.1.1.1.0 in let N : ℕ = d.frames in
     let Post : Val → SProp 𝓤 = W.post z in
-    let A : Type 0 = ws.base ≡ d.base in let B : Type 0 = ws.size ≡ 4 in let C : Type 0 = Sized 4 ws.held in
-    let D : Type 0 = ps.base ≡ d.base +ₚ (4 * N) in let E : Type 0 = ps.size ≡ 4096 in let F : Type 0 = Sized 4096 ps.held in
-    let G : Type 0 = bs.base ≡ d.base +ₚ (4 * N) in
+    let A : Type 0 = ws.base ≡ d.base in let B : Type 0 = ws.size ≡ 8 in let C : Type 0 = Sized 8 ws.held in
+    let D : Type 0 = ps.base ≡ d.base +ₚ (8 * N) in let E : Type 0 = ps.size ≡ 4096 in let F : Type 0 = Sized 4096 ps.held in
+    let G : Type 0 = bs.base ≡ d.base +ₚ (8 * N) in
     let H : Type 0 = (n : ℕ) → n < N → is_in n (numbers ws.held) ≡ true in let I : Type 0 = (n : ℕ) → n < N → (is_in n bs.left || is_in n (numbers ps.held)) ≡ true in
     qed 𝓛 ((raw (alive 𝓛 f.signature z.0.0 z.0.1) ⊛ ‵ (owns (types_at f.signature.params z.0.0) a vss)) ∷ (raw (fact 𝓤 A) ⊛ (raw (fact 𝓤 B) ⊛ (raw (fact 𝓤 C) ⊛ (raw (fact 𝓤 D) ⊛ (raw (fact 𝓤 E) ⊛ (raw (fact 𝓤 F) ⊛ (raw (fact 𝓤 G) ⊛ (raw (fact 𝓤 H) ⊛ raw (fact 𝓤 I))))))))) ∷ []) ∵
     move ! (1 ∷ []) $ split ! $ heard ! A (λ words_base. split ! $ heard ! B (λ words_size. split ! $ heard ! C (λ words_sized. split ! $ heard ! D (λ pages_base. split ! $ heard ! E (λ pages_size. split ! $ heard ! F (λ pages_sized. split ! $ heard ! G (λ blanks_base. split ! $ heard ! H (λ all_words. heard ! I (λ all_pages.
@@ -76,21 +76,21 @@ close_spec 𝓤 𝓛 𝓜 𝓡 wired =
     -- [the blank pages; the other pages; the words of the frames; the spare room and the right to free; the vector's words; alive]
     let q : Ptr = block_ptr b o in
     let at_v : v.ptr ≡ q = is_shell.0 ∙ sym words_base ∙ at_b in
-    let at_pages : block_ptr b' o' ≡ block_ptr b (o + 4 * N) = sym at_b' ∙ pages_base ∙ ap (λ (r : Ptr). r +ₚ (4 * N)) (sym words_base ∙ at_b) in
-    let at_blanks : block_ptr b₃ o₃ ≡ block_ptr b (o + 4 * N) = sym at_b₃ ∙ blanks_base ∙ ap (λ (r : Ptr). r +ₚ (4 * N)) (sym words_base ∙ at_b) in
+    let at_pages : block_ptr b' o' ≡ block_ptr b (o + 8 * N) = sym at_b' ∙ pages_base ∙ ap (λ (r : Ptr). r +ₚ (8 * N)) (sym words_base ∙ at_b) in
+    let at_blanks : block_ptr b₃ o₃ ≡ block_ptr b (o + 8 * N) = sym at_b₃ ∙ blanks_base ∙ ap (λ (r : Ptr). r +ₚ (8 * N)) (sym words_base ∙ at_b) in
     let xs : List ℕ = gathered ws.held N in
-    let lens : v.len ≡ length xs = let e : 4 * N ≡ N * 4 = omega arith in is_shell.1 ∙ e ∙ sym (length-gathered 4 ws.held N words_sized all_words) in
-    let len : v.len ≡ 4 * N = is_shell.1 in let roomy = is_shell.2 in
-    let spare : N * 4096 + (v.cap - 4100 * N) ≡ v.cap - v.len = omega (arith, roomy, len) in
-    let near : o + 4 * N ≡ o + v.len * 1 = omega (arith, len) in
-    let behind : o + 4100 * N * 1 ≡ past (ty_int w8) (N * 4096) (o + 4 * N) = let e : o + 4100 * N * 1 ≡ o + 4 * N + N * 4096 = omega arith in e ∙ sym (past_bytes (N * 4096) (o + 4 * N)) in
+    let lens : v.len ≡ length xs = let e : 8 * N ≡ N * 8 = omega arith in is_shell.1 ∙ e ∙ sym (length-gathered 8 ws.held N words_sized all_words) in
+    let len : v.len ≡ 8 * N = is_shell.1 in let roomy = is_shell.2 in
+    let spare : N * 4096 + (v.cap - 4104 * N) ≡ v.cap - v.len = omega (arith, roomy, len) in
+    let near : o + 8 * N ≡ o + v.len * 1 = omega (arith, len) in
+    let behind : o + 4104 * N * 1 ≡ past (ty_int w8) (N * 4096) (o + 8 * N) = let e : o + 4104 * N * 1 ≡ o + 8 * N + N * 4096 = omega arith in e ∙ sym (past_bytes (N * 4096) (o + 8 * N)) in
     rewrite ! 0 (λ (r : Ptr). ‵ (blanks_own r 4096 bs.left)) at_blanks refl $ rewrite ! 1 (λ (r : Ptr × ℕ). ‵ (parts_own r.0 r.1 ps.held)) (λ i. (at_pages i, pages_size i)) refl $ rewrite ! 2 (λ (n : ℕ). ‵ (parts_own q n ws.held)) words_size refl $
-    use2 𝓛 (‵ (froom (ty_array (ty_int w8) (N * 4096)) b (o + 4 * N))) (all_room 𝓛 b (o + 4 * N) 4096 N bs.left ps.held pages_sized all_pages) $
+    use2 𝓛 (‵ (froom (ty_array (ty_int w8) (N * 4096)) b (o + 8 * N))) (all_room 𝓛 b (o + 8 * N) 4096 N bs.left ps.held pages_sized all_pages) $
     -- [the room of the pages; the words of the frames; the spare room and the right to free; the vector's words; alive]
-    move ! (2 ∷ []) $ rewrite ! 0 (λ (r : Ptr). ‵ (lease_own tok r (4100 * N) v.cap)) at_v refl $ fsplit ! $ rewrite ! 0 (λ (x : ℕ). ‵ (froom (ty_array (ty_int w8) (v.cap - 4100 * N)) b x)) behind refl $ move ! (2 ∷ 0 ∷ []) $
-    use2 𝓛 (‵ (froom (ty_array (ty_int w8) (N * 4096 + (v.cap - 4100 * N))) b (o + 4 * N))) (room_glue 𝓛 (ty_int w8) (N * 4096) (v.cap - 4100 * N) b (o + 4 * N)) $
-    rewrite ! 0 (λ (n : ℕ). ‵ (froom (ty_array (ty_int w8) n) b (o + 4 * N))) spare refl $ rewrite ! 0 (λ (x : ℕ). ‵ (froom (ty_array (ty_int w8) (v.cap - v.len)) b x)) near refl $ fjoin ! $ move ! (1 ∷ []) $
-    use1 𝓛 (‵ (bytes full_share xs b o)) (put_together 𝓛 b o 4 N ws.held words_sized all_words) $
+    move ! (2 ∷ []) $ rewrite ! 0 (λ (r : Ptr). ‵ (lease_own tok r (4104 * N) v.cap)) at_v refl $ fsplit ! $ rewrite ! 0 (λ (x : ℕ). ‵ (froom (ty_array (ty_int w8) (v.cap - 4104 * N)) b x)) behind refl $ move ! (2 ∷ 0 ∷ []) $
+    use2 𝓛 (‵ (froom (ty_array (ty_int w8) (N * 4096 + (v.cap - 4104 * N))) b (o + 8 * N))) (room_glue 𝓛 (ty_int w8) (N * 4096) (v.cap - 4104 * N) b (o + 8 * N)) $
+    rewrite ! 0 (λ (n : ℕ). ‵ (froom (ty_array (ty_int w8) n) b (o + 8 * N))) spare refl $ rewrite ! 0 (λ (x : ℕ). ‵ (froom (ty_array (ty_int w8) (v.cap - v.len)) b x)) near refl $ fjoin ! $ move ! (1 ∷ []) $
+    use1 𝓛 (‵ (bytes full_share xs b o)) (put_together 𝓛 b o 8 N ws.held words_sized all_words) $
     feq_i ! ℕ (length xs) v.len (sym lens) $ fjoin ! $ use1 𝓛 (‵ (part_at (Array u8 v.len) full_share xs b o)) (bytes_whole 𝓛 full_share v.len xs b o) $ fjoin ! $
     -- [the block; the vector's words; alive]
     rewrite ! 0 (λ (t : Bool). ‵ (owns_if t (block_with_items tok u8 q v.len v.cap xs))) (sym (is_live v.cap is_shell.3)) refl $
