@@ -1,12 +1,12 @@
 -- The frames of a chain one by one.
-use Rattle.std.specs.Prelude.{◌≡◌, ◌≢◌, ℕ, ◌<◌, ◌==◌, ◌&&◌, ◌||◌, not, Bool, true, false, List, [], ◌∷◌, ◌++◌, length, if◌then◌else◌, ⊤}
+use Rattle.std.specs.Prelude.{◌≡◌, ◌≢◌, ℕ, ◌&&◌, ◌||◌, not, Bool, true, false, List, [], ◌∷◌, ◌++◌, length, if◌then◌else◌}
 use Rattle.std.specs.List.{AllByRecursion}
 use Rattle.std.proofs.Common.{◌∙◌, sym, ap, refl, inl, inr, arith}
 use Rattle.std.proofs.lemmas.Bool.{false≢true}
 use Rattle.std.proofs.lemmas.Bool.Decides.{nat_tests, eqb_tells}
 use Rattle.std.proofs.lemmas.Grind.{common_steps}
 use Rattle.hg_base.specs.Lines.{AreApart}
-use Rattle.hg_raw.specs.Frames.{Frame, numbers, is_in, distinct, bytes_of, with_bytes, without, refit}
+use Rattle.hg_raw.specs.Frames.{Frame, numbers, is_in, distinct, bytes_of, with_bytes, refit}
 
 pub numbers-join : (xs ys : List Frame) → numbers (xs ++ ys) ≡ numbers xs ++ numbers ys
 numbers-join [] ys = refl

@@ -1,27 +1,26 @@
 -- A heap that was locked, or was not.
-use Rattle.std.specs.Prelude.{◌≡◌, ◌≢◌, ℕ, ◌<◌, ◌≤◌, ◌==◌, ◌&&◌, ◌||◌, ◌⊎◌, not, Bool, true, false, List, [], ◌∷◌, map, Option, Some, None, ⊤}
+use Rattle.std.specs.Prelude.{◌≡◌, ℕ, ◌<◌, ◌||◌, not, Bool, true, false, List, [], ◌∷◌, map, Option, Some, None}
 use Rattle.std.specs.List.{AllByRecursion}
 use Rattle.std.proofs.Common.{◌∙◌, sym, ap, subst, refl, inl, inr, arith}
 use Rattle.std.proofs.lemmas.Bool.{false≢true}
 use Rattle.std.proofs.lemmas.Bool.Decides.{nat_tests, eqb_tells}
 use Rattle.hg_io.specs.declared.device.PageDevice.{Ghosts}
-use Rattle.hg_base.specs.Causes.{HasCause, PinFault, Later, counts_after}
+use Rattle.hg_base.specs.Causes.{HasCause, PinFault, Later}
 use Rattle.hg_base.specs.Content.{Objects}
-use Rattle.hg_base.specs.HeapFacts.{AreWellPlaced}
 use Rattle.hg_base.specs.HeapPage.{Stands}
 use Rattle.hg_base.specs.HeapStates.{NamesHeapPage, ReadFault}
 use Rattle.hg_base.specs.Lines.{AreApart, has_page}
-use Rattle.hg_base.specs.Space.{Space, Counts, key, unpinned_bytes, with_counts, IsSame}
+use Rattle.hg_base.specs.Space.{Space, Counts, key, unpinned_bytes, with_counts}
 use Rattle.hg_base.specs.declared.PageId.{PageId}
 use Rattle.hg_base.specs.declared.pages.PageFault.{PageFault}
 use Rattle.hg_base.specs.declared.pages.PageFault.TheVariants as fault
-use Rattle.hg_raw.specs.Frames.{Frame, ChainSeen, numbers, distinct}
+use Rattle.hg_raw.specs.Frames.{Frame, ChainSeen, numbers}
 use Rattle.hg_pool.specs.Shown.{state_of, max_of}
 use Rattle.hg_pool.specs.declared.parts.Parts.{Parts}
 use Rattle.hg_reloc.specs.Blocks.{frame}
 use Rattle.hg_reloc.specs.Moves.{Moves}
 use Rattle.hg_reloc.specs.StandingLaws.{LeadsTo, AreRewritten, AreRelocated}
-use Rattle.hg_heap.specs.Resting.{temp_page, temp_key, Rests, AreTold, Keeps}
+use Rattle.hg_heap.specs.Resting.{temp_key, Rests, AreTold, Keeps}
 use Rattle.hg_heap.specs.Handing.{contents, out_of, all_back, HadBytes, AreOut, HandsOut}
 use Rattle.hg_heap.specs.Relocating.{AreMapped, IsDamageOf, NothingStands, all_stay}
 use Rattle.hg_heap.specs.Locking.{IsLockedIn, KeepsObjects, MovesAddresses, KeepsBytes}

@@ -1,9 +1,8 @@
 -- The pages of a heap read and rewritten, one after the other.
-use Rattle.std.specs.Prelude.{◌≡◌, ◌≢◌, ℕ, ◌<◌, ◌≤◌, ◌==◌, ◌&&◌, ◌||◌, ◌⊎◌, not, zero, suc, Bool, true, false, IsTrue, List, [], ◌∷◌, ◌++◌, length, map, Option, Some, None, ⊤}
+use Rattle.std.specs.Prelude.{◌≡◌, ◌≢◌, ℕ, ◌<◌, ◌≤◌, ◌==◌, ◌||◌, not, suc, Bool, true, false, List, [], ◌∷◌, ◌++◌, None}
 use Rattle.std.specs.List.{AllByRecursion}
-use Rattle.std.proofs.Common.{◌∙◌, sym, ap, subst, refl, inl, inr, arith, append_assoc, append-nil}
-use Rattle.std.proofs.lemmas.Bool.{false≢true}
-use Rattle.std.proofs.lemmas.Bool.Decides.{nat_tests, eqb_tells}
+use Rattle.std.proofs.Common.{◌∙◌, sym, ap, subst, refl, inl, inr, arith, append-nil}
+use Rattle.std.proofs.lemmas.Bool.Decides.{nat_tests}
 use Rattle.hg_io.specs.declared.device.PageDevice.{Ghosts}
 use Rattle.hg_base.specs.HeapStates.{IsHeapCheck}
 use Rattle.hg_base.specs.Lines.{has_page}
@@ -11,14 +10,14 @@ use Rattle.hg_base.specs.declared.Check.{Check}
 use Rattle.hg_base.specs.declared.Check.TheVariants.{Kind, Size, Frame as FrameCheck, Link, Level, Order, RowBytes}
 use Rattle.hg_base.specs.declared.pages.PageFault.{PageFault}
 use Rattle.hg_base.specs.declared.pages.PageFault.TheVariants as fault
-use Rattle.hg_raw.specs.Frames.{Frame, ChainSeen, RegionId, numbers, is_in, distinct, bytes_of, with_bytes, with_page, refit}
-use Rattle.hg_pool.specs.Shown.{state_of, in_frame, frame_of, max_of}
+use Rattle.hg_raw.specs.Frames.{Frame, ChainSeen, numbers, is_in, distinct, bytes_of, with_bytes}
+use Rattle.hg_pool.specs.Shown.{state_of, frame_of, max_of}
 use Rattle.hg_pool.specs.declared.parts.Parts.{Parts}
 use Rattle.hg_reloc.specs.Blocks.{frame, IsMade}
-use Rattle.hg_reloc.specs.Checks.{IsWrong, IsRight, right_made}
+use Rattle.hg_reloc.specs.Checks.{IsWrong, right_made}
 use Rattle.hg_reloc.specs.Moves.{Moves, entry, leads_to}
 use Rattle.hg_reloc.specs.StandingLaws.{IsRewritten, IsRelocated, AreRewritten, AreRelocated}
-use Rattle.hg_heap.specs.Resting.{temp_page, temp_key, page_behind, pages_from}
+use Rattle.hg_heap.specs.Resting.{temp_page, page_behind, pages_from}
 use Rattle.hg_heap.specs.Handing.{contents, IsOut, AreOut}
 use Rattle.hg_heap.specs.Relocating.{AreMapped, FindsIn, IsDamageOf, NothingStands, NoObjectsFit, Reading, Moving, ReadsPage, has_named, all_stay}
 use Rattle.hg_heap.proofs.Frames.{numbers-join, is-there, not-before, bytes-there, written-behind}

@@ -1,7 +1,7 @@
 -- The map of a heap's frames, made page by page.
-use Rattle.std.specs.Prelude.{◌≡◌, ◌≢◌, ℕ, ◌<◌, ◌==◌, ◌&&◌, ◌||◌, ◌^◌, ◌⊎◌, not, Bool, true, false, List, [], ◌∷◌, ◌++◌, take, drop, map, length, Option, None, Some, if◌then◌else◌, ⊤}
+use Rattle.std.specs.Prelude.{◌≡◌, ◌≢◌, ℕ, ◌<◌, ◌==◌, ◌&&◌, ◌||◌, ◌^◌, not, Bool, true, false, List, [], ◌∷◌, ◌++◌, take, drop, map, Option, None, Some, if◌then◌else◌}
 use Rattle.std.specs.Int.{w32, from_le_bytes, to_le_bytes}
-use Rattle.std.specs.List.{AllByRecursion, list_any}
+use Rattle.std.specs.List.{AllByRecursion}
 use Rattle.std.proofs.Common.{◌∙◌, sym, ap, subst, refl, inl, inr, arith}
 use Rattle.std.proofs.lemmas.Bool.{false≢true}
 use Rattle.std.proofs.lemmas.Bool.Decides.{nat_tests, eqb_tells}
@@ -9,18 +9,16 @@ use Rattle.std.proofs.lemmas.Nat.{from_le_bytes-to_le_bytes_4}
 use Rattle.std.proofs.lemmas.Option.{none-some}
 use Rattle.hg_base.specs.Content.{Object, Objects, address_of}
 use Rattle.hg_base.specs.HeapFacts.{AreWellPlaced}
-use Rattle.hg_base.specs.HeapPage.{IsHeapPage, AreHeapPages, Stands}
+use Rattle.hg_base.specs.HeapPage.{AreHeapPages, Stands}
 use Rattle.hg_base.specs.Lines.{AreApart}
 use Rattle.hg_raw.specs.Frames.{Frame, numbers, is_in}
 use Rattle.hg_reloc.specs.Blocks.{frame, frame_number}
 use Rattle.hg_reloc.specs.Checks.{IsRight}
 use Rattle.hg_reloc.specs.FittingLaws.{ArePagesFit, stands_fits}
-use Rattle.hg_reloc.specs.Moves.{Moves, entry, leads_to, frame_after, or_itself}
-use Rattle.hg_reloc.specs.Standing.{FitsPage}
+use Rattle.hg_reloc.specs.Moves.{Moves, entry, leads_to, or_itself}
 use Rattle.hg_reloc.specs.StandingLaws.{LeadsTo, AreRewritten, stands_moved}
 use Rattle.hg_heap.specs.Handing.{contents}
 use Rattle.hg_heap.specs.Relocating.{has_named, AreMapped, all_stay, ReadsPage, NoObjectsFit, NothingStands}
-use Rattle.hg_heap.proofs.Outs.{contents-join}
 
 -- One page more.
 

@@ -1,19 +1,19 @@
 -- Pages handed out one after the other, and put back.
-use Rattle.std.specs.Prelude.{◌≡◌, ◌≢◌, ℕ, ◌+◌, ◌<◌, ◌≤◌, ◌==◌, ◌||◌, zero, suc, Bool, false, true, List, [], ◌∷◌, ◌++◌, length, Option, None, Some, if◌then◌else◌, ⊤}
-use Rattle.std.specs.List.{AllByRecursion, list_any}
+use Rattle.std.specs.Prelude.{◌≡◌, ◌≢◌, ℕ, ◌==◌, ◌||◌, Bool, false, true, List, [], ◌∷◌, ◌++◌, Option, None, Some, if◌then◌else◌}
+use Rattle.std.specs.List.{AllByRecursion}
 use Rattle.std.proofs.Common.{◌∙◌, sym, ap, refl, subst, inl, inr, arith}
 use Rattle.std.proofs.lemmas.Bool.{false≢true}
 use Rattle.std.proofs.lemmas.Bool.Decides.{nat_tests, eqb_tells}
 use Rattle.hg_io.specs.declared.device.PageDevice.{Ghosts}
 use Rattle.hg_base.specs.Changes.{functions_agree}
 use Rattle.hg_base.specs.Lines.{AreApart}
-use Rattle.hg_base.specs.Space.{Space, Counts, at, key, unpinned_bytes, with_counts, IsSame}
-use Rattle.hg_raw.specs.Frames.{Frame, ChainSeen, numbers, distinct}
-use Rattle.hg_pool.specs.Lending.{handed_out, put_back, region_of, lent_of, KeepsOut}
-use Rattle.hg_pool.specs.Shown.{state_of, in_frame, frame_of, max_of, SameFrames}
+use Rattle.hg_base.specs.Space.{Space, at, unpinned_bytes}
+use Rattle.hg_raw.specs.Frames.{Frame}
+use Rattle.hg_pool.specs.Lending.{handed_out, put_back, KeepsOut}
+use Rattle.hg_pool.specs.Shown.{state_of}
 use Rattle.hg_pool.specs.declared.parts.Parts.{Parts}
-use Rattle.hg_heap.specs.Resting.{temp_page, temp_key, IsAtRest, Rests, AreTold}
-use Rattle.hg_heap.specs.Handing.{contents, has_key, out_of, all_back, HadBytes, IsOut, AreOut, Comes, Come, TakesPage, HandsOut, PutsBack}
+use Rattle.hg_heap.specs.Resting.{temp_page, temp_key, Rests, AreTold}
+use Rattle.hg_heap.specs.Handing.{contents, has_key, out_of, all_back, HadBytes, IsOut, AreOut, Comes, Come}
 
 -- States.
 

@@ -1,23 +1,22 @@
 -- One page after the other: put back, and handed out.
-use Rattle.std.specs.Prelude.{◌≡◌, ◌≢◌, ℕ, ◌+◌, ◌<◌, ◌≤◌, ◌==◌, zero, suc, Bool, false, true, List, [], ◌∷◌, ◌++◌, length, Option, None, Some, Result, Ok, Err, IfOk, IfSome, OnOk, if◌then◌else◌, ⊤}
+use Rattle.std.specs.Prelude.{◌≡◌, ◌≢◌, ℕ, ◌+◌, ◌<◌, ◌≤◌, suc, Bool, false, true, List, [], ◌∷◌, ◌++◌, length, Option, None, Some, Result, Ok, Err, IfOk, IfSome, OnOk, if◌then◌else◌}
 use Rattle.std.specs.List.{AllByRecursion}
-use Rattle.std.proofs.Common.{◌∙◌, sym, ap, refl, subst, arith, length-append, inl, inr}
-use Rattle.std.proofs.lemmas.Bool.{false≢true}
-use Rattle.std.proofs.lemmas.Bool.Decides.{nat_tests, eqb_tells}
+use Rattle.std.proofs.Common.{◌∙◌, sym, ap, refl, subst, arith, length-append}
+use Rattle.std.proofs.lemmas.Bool.Decides.{nat_tests}
 use Rattle.hg_io.specs.declared.device.PageDevice.{Ghosts}
 use Rattle.hg_base.specs.Causes.{HasCause, Later, MayBeFound, counts_after, fault_of}
 use Rattle.hg_base.specs.declared.File.TheVariants.{Temp}
 use Rattle.hg_base.specs.Lines.{AreApart}
-use Rattle.hg_base.specs.Space.{Space, Counts, at, key, unpinned_bytes, with_counts, IsSame}
+use Rattle.hg_base.specs.Space.{Space, Counts, at, unpinned_bytes, with_counts, IsSame}
 use Rattle.hg_base.specs.declared.pages.PageFault.{PageFault}
 use Rattle.hg_base.specs.declared.pages.PageFault.TheVariants as fault
 use Rattle.hg_raw.specs.Frames.{Frame, RegionId, ChainSeen, numbers, distinct, bytes_of, without}
 use Rattle.hg_pool.specs.Lending.{handed_out, put_back, region_of, lent_of, KeepsOut, IsChainOf, IsHandedOut, OneMoreOut, bytes_in}
-use Rattle.hg_pool.specs.Shown.{state_of, in_frame, frame_of, max_of, current_of, counts_of_pool, owed, Asked, CalledNone, SameFrames}
+use Rattle.hg_pool.specs.Shown.{state_of, in_frame, frame_of, current_of, counts_of_pool, owed, Asked, CalledNone, SameFrames}
 use Rattle.hg_pool.specs.declared.parts.Parts.{Parts}
 use Rattle.hg_heap.specs.Resting.{temp_page, temp_key, page_behind, pages_from, walk, IsAtRest, Rests}
-use Rattle.hg_heap.specs.Handing.{contents, has_key, out_of, all_back, HadBytes, IsOut, AreOut, Comes, Come, TakesPage, HandsOut, PutsBack, Putting, Taking}
-use Rattle.hg_heap.proofs.Outs.{out-more, key-apart, all-restored, contents-join, had-more, out-kept, out-join, come-more}
+use Rattle.hg_heap.specs.Handing.{contents, has_key, out_of, all_back, HadBytes, IsOut, AreOut, TakesPage, HandsOut, PutsBack, Putting, Taking}
+use Rattle.hg_heap.proofs.Outs.{out-more, all-restored, contents-join, had-more, out-kept, out-join, come-more}
 use Rattle.hg_heap.proofs.Walking.{walk-next, from-last, length-from, all-walk, apart-front, all-front, not-passed}
 
 found-here : (f : Frame) (fs : List Frame) (k : ℕ) → f.0 ≡ k → bytes_of (f ∷ fs) k ≡ f.1

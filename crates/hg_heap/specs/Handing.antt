@@ -1,12 +1,12 @@
 -- The pages of a heap handed out by the pool, and put back. Our own rule.
-use Rattle.std.specs.Prelude.{◌≡◌, ℕ, ◌+◌, ◌==◌, ◌<◌, Bool, true, false, List, [], ◌∷◌, Option, Some, None, length, if◌then◌else◌, ⊤}
+use Rattle.std.specs.Prelude.{◌≡◌, ℕ, ◌+◌, ◌==◌, ◌<◌, Bool, true, false, List, [], ◌∷◌, Some, None, length, if◌then◌else◌, ⊤}
 use Rattle.std.specs.List.{list_any}
 use Rattle.hg_io.specs.declared.device.PageDevice.{Ghosts}
-use Rattle.hg_base.specs.Space.{Space, at, key, unpinned_bytes}
+use Rattle.hg_base.specs.Space.{Space, unpinned_bytes}
 use Rattle.hg_base.specs.declared.File.TheVariants.{Temp}
 use Rattle.hg_raw.specs.Frames.{Frame, ChainSeen, numbers, distinct}
-use Rattle.hg_pool.specs.Lending.{handed_out, put_back, region_of, lent_of, OneMoreOut, OneLessOut, KeepsOut}
-use Rattle.hg_pool.specs.Shown.{state_of, in_frame, frame_of, current_of, max_of, counts_of_pool, owed, Asked, CalledNone, SameFrames}
+use Rattle.hg_pool.specs.Lending.{handed_out, put_back, region_of, lent_of, OneMoreOut, KeepsOut}
+use Rattle.hg_pool.specs.Shown.{state_of, in_frame, frame_of, max_of, counts_of_pool, owed, Asked, CalledNone, SameFrames}
 use Rattle.hg_pool.specs.declared.parts.Parts.{Parts}
 use Rattle.hg_base.specs.Lines.{AreApart}
 use Rattle.hg_heap.specs.Resting.{temp_page, temp_key, page_behind, pages_from, walk}

@@ -1,5 +1,5 @@
 -- A heap that is locked, and what locking does to its pages. Our own rule.
-use Rattle.std.specs.Prelude.{◌≡◌, ℕ, ◌<◌, ◌⊎◌, List, [], ◌∷◌, map}
+use Rattle.std.specs.Prelude.{◌≡◌, ℕ, ◌<◌, ◌⊎◌, List, map}
 use Rattle.std.specs.List.{AllByRecursion}
 use Rattle.hg_io.specs.declared.device.PageDevice.{Ghosts}
 use Rattle.hg_base.specs.Content.{Objects}
@@ -10,7 +10,7 @@ use Rattle.hg_base.specs.Lines.{AreApart}
 use Rattle.hg_base.specs.Space.{Space}
 use Rattle.hg_raw.specs.Frames.{ChainSeen, numbers}
 use Rattle.hg_pool.specs.Lending.{region_of}
-use Rattle.hg_pool.specs.Shown.{state_of, max_of}
+use Rattle.hg_pool.specs.Shown.{max_of}
 use Rattle.hg_pool.specs.declared.parts.Parts.{Parts}
 use Rattle.hg_reloc.specs.Blocks.{frame}
 use Rattle.hg_reloc.specs.Moves.{Moves}

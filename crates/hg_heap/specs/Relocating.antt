@@ -6,7 +6,6 @@ use Rattle.hg_base.specs.HeapFacts.{AreWellPlaced}
 use Rattle.hg_base.specs.HeapPage.{Stands}
 use Rattle.hg_base.specs.HeapStates.{IsHeapCheck}
 use Rattle.hg_base.specs.Lines.{has_page}
-use Rattle.hg_base.specs.declared.Check.{Check}
 use Rattle.hg_base.specs.declared.Check.TheVariants as check
 use Rattle.hg_base.specs.declared.pages.PageFault.{PageFault}
 use Rattle.hg_base.specs.declared.pages.PageFault.TheVariants as fault

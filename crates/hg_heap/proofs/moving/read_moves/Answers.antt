@@ -1,9 +1,8 @@
-use Rattle.std.specs.Prelude.{◌≡◌, ◌<◌, ◌==◌, ◌||◌, ℕ, ◌+◌, ◌-◌, suc, not, Bool, true, false, List, Option}
-use Rattle.std.proofs.Common.{◌∙◌, sym, ap, subst, arith}
-use Rattle.hg_base.specs.Space.{Space}
-use Rattle.hg_pool.specs.Shown.{state_of, max_of}
+use Rattle.std.specs.Prelude.{◌≡◌, ◌<◌, ◌||◌, ℕ, ◌+◌, ◌-◌, suc, false, List, Option}
+use Rattle.std.proofs.Common.{◌∙◌, sym, subst, arith}
+use Rattle.hg_pool.specs.Shown.{state_of}
 use Rattle.hg_pool.specs.declared.parts.Parts.{Parts}
-use Rattle.hg_heap.specs.Resting.{pages_from, page_behind}
+use Rattle.hg_heap.specs.Resting.{pages_from}
 use Rattle.hg_heap.specs.Relocating.{Reading}
 use Rattle.hg_heap.proofs.Looking.{reading-starts, reading-out, reading-has, reading-new, reading-more, reading-ends, reading-damage, reading-wrong}
 use Rattle.hg_heap.proofs.moving.read_moves.Goals as goal

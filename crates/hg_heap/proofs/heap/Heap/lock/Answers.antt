@@ -1,15 +1,10 @@
-use Rattle.std.specs.Prelude.{◌≡◌, ◌<◌, ℕ, List, Option, None, Some, true, false, not}
-use Rattle.std.specs.List.{AllByRecursion}
+use Rattle.std.specs.Prelude.{◌≡◌, ℕ, List, true, false, not}
 use Rattle.std.proofs.Common.{◌∙◌, sym, ap, subst}
-use Rattle.hg_base.specs.Causes.{HasCause}
-use Rattle.hg_base.specs.HeapStates.{ReadFault}
 use Rattle.hg_base.specs.Lines.{AreApart}
-use Rattle.hg_base.specs.Space.{Space, IsSame, with_counts}
-use Rattle.hg_raw.specs.Frames.{numbers}
+use Rattle.hg_base.specs.Space.{Space}
 use Rattle.hg_pool.specs.Shown.{state_of, max_of}
 use Rattle.hg_pool.specs.declared.parts.Parts.{Parts}
 use Rattle.hg_heap.specs.Handing.{AreOut, HandsOut, all_back, contents}
-use Rattle.hg_heap.specs.Locking.{NamesPageOf}
 use Rattle.hg_heap.specs.Relocating.{IsDamageOf, NothingStands, all_stay}
 use Rattle.hg_heap.specs.Resting.{pages_from}
 use Rattle.hg_heap.proofs.Locks.{Locks, locks-moved, locks-same, damaged-same, damage-cause, damage-read, damage-names, pin-read, pin-names, none-cause}
