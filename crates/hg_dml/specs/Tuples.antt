@@ -6,8 +6,6 @@ use Rattle.hg_model.specs.Evaluation.{literal_value}
 use Rattle.hg_model.specs.declared.trees.Literal.{Literal}
 use Rattle.hg_model.specs.declared.values.Value.{Value}
 use Rattle.hg_model.specs.declared.values.Value.TheVariants as val
-use Rattle.hg_dml.specs.declared.tuples.Constant.{Constant}
-use Rattle.hg_dml.specs.declared.tuples.Constant.TheVariants as constant
 
 -- the place of the value for column k in a row: that of the first target that is k
 abbrev pub source_of : List ℕ → ℕ → Option ℕ
@@ -30,9 +28,3 @@ row_from texts sources tuple = map (value_in texts tuple) sources
 
 abbrev pub rows_from : List ℕ → List (Option ℕ) → List Literal → List ℕ → List (List Value)
 rows_from texts sources values ends = map (row_from texts sources) (tuples_from 0 ends values)
-
--- the value that a constant is
-abbrev pub value_of : Constant → Value
-value_of constant.Null = val.Null
-value_of (constant.Int number) = val.Int number
-value_of (constant.Text text) = val.Text text.now

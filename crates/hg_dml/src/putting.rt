@@ -11,31 +11,23 @@ ghost use Rattle.hg_table.specs.Calls.{none_mine, HasTable, InsertFault, NamesGi
 ghost use Rattle.hg_value.specs.Coding.{coded, HasRoom, IsHeld, IsStorable};
 ghost use Rattle.hg_dml.specs.Putting.{Puts, PutsSome};
 ghost use Rattle.hg_dml.specs.Steps.{OneMore, CanPut, FitRows, IsShort};
-ghost use Rattle.hg_dml.specs.Tuples.{row_from, rows_from, value_of};
+ghost use Rattle.hg_dml.specs.Tuples.{row_from, rows_from};
+ghost use Rattle.hg_value.specs.Looks.{value_of};
 
-use crate::tuples::{Constant, look, tuple_between};
+use crate::tuples::{look, tuple_between};
 use hg_base::{PageFault, Pages, Stamp};
-use hg_model::{Chars, Literal, Value};
+use hg_model::Literal;
 use hg_table::TableCalls;
-use hg_value::Row;
+use hg_value::{Look, Row};
 
 /// Puts a value behind the others of a row.
-fn push(row: &mut Row, constant: &Constant)
-    requires held { IsHeld (value_of constant.now) }
-    requires room { HasRoom row.old (value_of constant.now) }
-    ensures { row.new ≡ row.old ++ value_of constant.now ∷ [] }
+#[inline]
+fn push(row: &mut Row, value: &Look)
+    requires held { IsHeld (value_of value.now) }
+    requires room { HasRoom row.old (value_of value.now) }
+    ensures { row.new ≡ row.old ++ value_of value.now ∷ [] }
 {
-    match constant {
-        Constant::Null => {
-            let _ = row.push(&Value::Null);
-        }
-        Constant::Int(number) => {
-            let _ = row.push(&Value::Int(*number));
-        }
-        Constant::Text(text) => {
-            let _ = row.push(&Value::Text(Chars::from_bytes(text)));
-        }
-    }
+    let _ = row.push_look(value);
 }
 
 /// Makes `row` the row that a table gets of a row of constants.

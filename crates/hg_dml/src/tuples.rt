@@ -4,21 +4,15 @@ ghost use Rattle.hg_model.specs.Changes.{value_length, row_length};
 ghost use Rattle.hg_model.specs.Evaluation.{literal_value, part_of};
 ghost use Rattle.hg_model.specs.NullLogic.{is_null};
 ghost use Rattle.hg_model.specs.Tables.{fits_integer, fits_type};
-ghost use Rattle.hg_dml.specs.Tuples.{source_of, sources_of, value_in, row_from, value_of};
+ghost use Rattle.hg_value.specs.Looks.{value_of};
+ghost use Rattle.hg_dml.specs.Tuples.{source_of, sources_of, value_in, row_from};
 
 use arrayvec::ArrayVec;
 use hg_model::{Column, Literal, Span, SqlType};
+use hg_value::Look;
 
 /// For each column of a table the place of its value in a row of constants; none where it is not listed.
 pub type Sources = ArrayVec<Option<usize>, 16>;
-
-/// A look at a constant. A text is the bytes of its characters.
-#[derive(Clone, Copy)]
-pub enum Constant<'a> {
-    Null,
-    Int(i128),
-    Text(&'a [u8]),
-}
 
 /// The place of the value for a column.
 fn source_of(targets: &[u8], column: u8) -> Option<usize>
@@ -66,20 +60,20 @@ fn part(texts: &[u8], span: Span) -> &[u8]
 
 /// A look at a constant.
 #[inline]
-fn look_at<'a>(constant: &Literal, texts: &'a [u8]) -> Constant<'a>
+fn look_at<'a>(constant: &Literal, texts: &'a [u8]) -> Look<'a>
     ensures value { value_of result ≡ literal_value texts.now constant.now }
     ensures small { value_length (value_of result) ≤ 70000 }
 {
     match constant {
-        Literal::Null => Constant::Null,
-        Literal::Int(number) => Constant::Int(*number),
-        Literal::Text(span) => Constant::Text(part(texts, *span)),
+        Literal::Null => Look::Null,
+        Literal::Int(number) => Look::Int(*number),
+        Literal::Text(span) => Look::Text(part(texts, *span)),
     }
 }
 
 /// A look at the value that a row of constants has at a place.
 #[inline]
-pub fn look<'a>(tuple: &[Literal], source: Option<usize>, texts: &'a [u8]) -> Constant<'a>
+pub fn look<'a>(tuple: &[Literal], source: Option<usize>, texts: &'a [u8]) -> Look<'a>
     ensures value { value_of result ≡ value_in texts.now tuple.now source }
     ensures small { value_length (value_of result) ≤ 70000 }
 {
@@ -87,10 +81,10 @@ pub fn look<'a>(tuple: &[Literal], source: Option<usize>, texts: &'a [u8]) -> Co
         Some(place) => {
             match tuple.get(place) {
                 Some(constant) => look_at(constant, texts),
-                None => Constant::Null,
+                None => Look::Null,
             }
         }
-        None => Constant::Null,
+        None => Look::Null,
     }
 }
 
@@ -103,29 +97,29 @@ fn is_narrow(number: i128) -> bool
 }
 
 #[inline]
-pub fn is_null(constant: &Constant) -> bool
-    ensures { result ≡ is_null (value_of constant.now) }
+pub fn is_null(value: &Look) -> bool
+    ensures { result ≡ is_null (value_of value.now) }
 {
-    match constant {
-        Constant::Null => true,
+    match value {
+        Look::Null => true,
         _ => false,
     }
 }
 
 /// Whether a column's type can hold the value.
 #[inline]
-pub fn fits(column: &Column, constant: &Constant) -> bool
-    ensures { result ≡ fits_type column.now.ty (value_of constant.now) }
+pub fn fits(column: &Column, value: &Look) -> bool
+    ensures { result ≡ fits_type column.now.ty (value_of value.now) }
 {
-    match constant {
-        Constant::Null => true,
-        Constant::Int(number) => {
+    match value {
+        Look::Null => true,
+        Look::Int(number) => {
             match column.ty {
                 SqlType::Integer => is_narrow(*number),
                 SqlType::Varchar(_) => false,
             }
         }
-        Constant::Text(text) => {
+        Look::Text(text) => {
             match column.ty {
                 SqlType::Integer => false,
                 SqlType::Varchar(most) => text.len() <= most as usize,
@@ -136,14 +130,14 @@ pub fn fits(column: &Column, constant: &Constant) -> bool
 
 /// How many bytes the value has.
 #[inline]
-fn coded_length(constant: &Constant) -> usize
-    requires { value_length (value_of constant.now) ≤ 70000 }
-    ensures { result ≡ value_length (value_of constant.now) }
+fn coded_length(value: &Look) -> usize
+    requires { value_length (value_of value.now) ≤ 70000 }
+    ensures { result ≡ value_length (value_of value.now) }
 {
-    match constant {
-        Constant::Null => 1,
-        Constant::Int(number) => { if is_narrow(*number) { 5 } else { 17 } }
-        Constant::Text(text) => 2 + text.len(),
+    match value {
+        Look::Null => 1,
+        Look::Int(number) => { if is_narrow(*number) { 5 } else { 17 } }
+        Look::Text(text) => 2 + text.len(),
     }
 }
 

@@ -1,6 +1,7 @@
 use Rattle.std.proofs.Common.{sym, subst}
 use Rattle.hg_value.specs.Coding.{IsHeld}
-use Rattle.hg_dml.specs.Tuples.{value_in, value_of}
+use Rattle.hg_value.specs.Looks.{value_of}
+use Rattle.hg_dml.specs.Tuples.{value_in}
 use Rattle.hg_dml.proofs.Fits.{held-at, room-so}
 use Rattle.hg_dml.proofs.putting.fill.Goals as goal
 
