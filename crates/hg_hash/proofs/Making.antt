@@ -1,16 +1,15 @@
 -- What the making of buckets does, from what the calls of the space say.
-use Rattle.std.specs.Prelude.{◌≡◌, ℕ, ◌+◌, ◌<◌, ◌≤◌, zero, suc, List, [], ◌∷◌, ◌++◌, length, map, reverse, slice_get, slice_set, slice_index_or, Option, None, Some, IsSome, option_map, option_and_then}
-use Rattle.std.proofs.Common.{inl, inr, sym, ◌∙◌, ap, subst, refl, arith}
+use Rattle.std.specs.Prelude.{◌≡◌, ℕ, ◌<◌, zero, suc, List, [], ◌∷◌, ◌++◌, length, map, reverse, slice_get, slice_set, slice_index_or, Option, None, Some, option_map, option_and_then}
+use Rattle.std.proofs.Common.{sym, ◌∙◌, ap, refl, arith}
 use Rattle.std.proofs.lemmas.Option.{none-some}
-use Rattle.hg_base.specs.Content.{Object, row_object, directory, Objects, placed, address_of, Standing, locked, unlocked, draining}
+use Rattle.hg_base.specs.Content.{Object, directory, Objects, placed, locked}
 use Rattle.hg_base.specs.HeapContent.{object_at, named_by, links_of, link_of, words_of, with_object, with_last, next_address, no_links}
 use Rattle.hg_base.specs.HeapFacts.{AreHeaps}
-use Rattle.hg_base.specs.HeapStates.{of_locked, standing_of, IsLocked, IsTarget, words_in, object_in, next_in, after_directory, after_root}
+use Rattle.hg_base.specs.HeapStates.{of_locked, standing_of, IsLocked, words_in, next_in, after_directory, after_root}
 use Rattle.hg_base.specs.Space.{Space}
-use Rattle.hg_hash.specs.Buckets.{row_of, links_at, table, bucket, HasBuckets, NoRows, OnlyObjects, bucket_in, chain}
+use Rattle.hg_hash.specs.Buckets.{row_of, links_at, table, bucket, OnlyObjects, bucket_in, chain}
 use Rattle.hg_hash.specs.Chains.{reached-nothing}
 use Rattle.hg_hash.specs.Changing.{placed-with}
-use Rattle.hg_hash.specs.Names.{AreNames}
 use Rattle.hg_hash.specs.Tables.{Opened, opened, found, standing_after}
 use Rattle.hg_hash.proofs.Adding.{IsOpen, open_as, last_link, only_objects}
 

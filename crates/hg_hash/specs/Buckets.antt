@@ -7,10 +7,10 @@
 --
 -- A chain is a function of what a heap holds, and not of where its pages stand: it is the same after the
 -- heap was unlocked and locked again.
-use Rattle.std.specs.Prelude.{◌≡◌, ◌≢◌, ℕ, ◌+◌, ◌<◌, ◌==◌, Bool, List, [], ◌∷◌, ◌++◌, length, map, reverse, slice_get, slice_index_or, Option, None, Some, option_map, option_and_then, if◌then◌else◌}
+use Rattle.std.specs.Prelude.{◌≡◌, ◌≢◌, ℕ, ◌<◌, ◌==◌, List, [], ◌∷◌, length, map, reverse, slice_get, slice_index_or, Option, None, Some, option_map, option_and_then, if◌then◌else◌}
 use Rattle.hg_base.specs.Content.{Object, row_object, directory, Objects, placed}
 use Rattle.hg_base.specs.HeapContent.{links_of, link_of}
-use Rattle.hg_base.specs.HeapStates.{of_locked, standing_of, with_objects, payload_in, link_in}
+use Rattle.hg_base.specs.HeapStates.{of_locked, standing_of, with_objects, payload_in}
 use Rattle.hg_base.specs.Space.{Space}
 
 -- what a row is in a chain: its payload, and its link to the row before
@@ -84,3 +84,7 @@ OtherBuckets a b h bucket = (k : ℕ) → k < 256 → k ≢ bucket → bucket_in
 -- the payload of each row that was there is found at its address
 abbrev pub KeepsPayloads : Space → Space → ℕ → Type 0
 KeepsPayloads a b h = (at : ℕ) (payload : List ℕ) → payload_in a h at ≡ Some payload → payload_in b h at ≡ Some payload
+
+-- and so are the payloads that are reached from it
+abbrev pub KeepsChains : Space → Space → ℕ → Type 0
+KeepsChains a b h = (at : ℕ) (payload : List ℕ) → payload_in a h at ≡ Some payload → chain_in b h at ≡ chain_in a h at

@@ -1,6 +1,6 @@
 -- A chain is walked along addresses: the row at an address is its newest, and the address that the row leads
 -- to has the rest.
-use Rattle.std.specs.Prelude.{◌≡◌, ◌≢◌, ℕ, ◌+◌, ◌<◌, ◌≤◌, ◌==◌, zero, suc, Bool, true, false, List, [], ◌∷◌, ◌++◌, length, map, reverse, slice_get, slice_index_or, Option, None, Some, option_map, option_and_then, if◌then◌else◌, ⊤}
+use Rattle.std.specs.Prelude.{◌≡◌, ℕ, ◌+◌, ◌<◌, ◌≤◌, ◌==◌, zero, suc, true, false, List, [], ◌∷◌, ◌++◌, length, map, reverse, slice_get, slice_index_or, Option, None, Some, option_map, option_and_then, if◌then◌else◌, ⊤}
 use Rattle.std.proofs.Common.{sym, ◌∙◌, ap, subst, refl, arith}
 use Rattle.std.proofs.Common.{inl, inr}
 use Rattle.std.proofs.lemmas.Bool.Decides.{nat_tests, eqb_tells}
@@ -14,7 +14,7 @@ use Rattle.hg_base.specs.HeapStates.{of_locked, payload_in, link_in}
 use Rattle.hg_base.specs.Space.{Space}
 use Rattle.hg_hash.specs.Buckets.{Row, row_of, reached, chain, chain_in, in_front}
 use Rattle.hg_hash.specs.Chains.{reached-nothing, reached-earlier}
-use Rattle.hg_hash.specs.Names.{AreNames, many, many-placed, length-all, nth-low, link_of-word}
+use Rattle.hg_hash.specs.Names.{AreNames, many-placed, nth-low, link_of-word}
 use Rattle.hg_hash.specs.Tables.{Opened, found}
 
 -- what is found at an address is the newest of some rows, if there is one

@@ -20,7 +20,7 @@ ghost use Rattle.std.specs.Prelude.{◌≡◌, ◌<◌, ◌≤◌, ◌%◌, ◌�
 ghost use Rattle.hg_base.specs.Content.{row_object, object_size};
 ghost use Rattle.hg_base.specs.HeapFacts.{AreHeaps};
 ghost use Rattle.hg_base.specs.HeapStates.{IsLocked, IsTarget, KeepsObjects, room_in, payload_in};
-ghost use Rattle.hg_hash.specs.Buckets.{HasBuckets, NoRows, OnlyObjects, OtherBuckets, KeepsPayloads, buckets_in, bucket_in, chain_in, in_front};
+ghost use Rattle.hg_hash.specs.Buckets.{HasBuckets, NoRows, OnlyObjects, OtherBuckets, KeepsPayloads, KeepsChains, buckets_in, bucket_in, chain_in, in_front};
 ghost use Rattle.hg_hash.specs.Following.{IsNewest};
 
 use hg_base::{Addr, HeapNo, Heaps, NoRoom, Request};
@@ -75,6 +75,7 @@ pub fn add<H: Heaps>(heaps: &mut H, h: HeapNo, hash: u64, payload: &[u8]) -> Res
         (hash % 256)) }
     ensures buckets { OnOk result (HasBuckets (H.state heaps.new) h.0) }
     ensures rows { KeepsPayloads (H.state heaps.old) (H.state heaps.new) h.0 }
+    ensures chains { KeepsChains (H.state heaps.old) (H.state heaps.new) h.0 }
     ensures only { OnOk result (OnlyObjects (H.state heaps.old) (H.state heaps.new) h.0) }
     ensures err { OnErr result (H.state heaps.new ≡ H.state heaps.old) }
 {
