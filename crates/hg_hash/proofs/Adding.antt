@@ -1,9 +1,9 @@
 -- What the calls do, from what the calls of the space say.
-use Rattle.std.specs.Prelude.{◌≡◌, ℕ, ◌+◌, ◌<◌, ◌==◌, Bool, false, List, [], ◌∷◌, ◌++◌, length, map, reverse, slice_get, slice_index_or, Option, None, Some, IsSome, IfSome, option_map, option_and_then, if◌then◌else◌}
-use Rattle.std.proofs.Common.{inr, sym, ◌∙◌, ap, subst, refl, arith}
+use Rattle.std.specs.Prelude.{◌≡◌, ℕ, ◌+◌, ◌<◌, ◌==◌, Bool, true, false, List, [], ◌∷◌, ◌++◌, length, map, reverse, slice_get, slice_index_or, Option, None, Some, IsSome, IfSome, option_map, option_and_then, if◌then◌else◌}
+use Rattle.std.proofs.Common.{inl, inr, sym, ◌∙◌, ap, subst, refl, arith}
 use Rattle.std.proofs.lemmas.Bool.{eq-eqb}
 use Rattle.std.proofs.lemmas.List.{length-map, get_or_append_left, get_or-append-add}
-use Rattle.std.proofs.lemmas.Bool.Decides.{nat_tests}
+use Rattle.std.proofs.lemmas.Bool.Decides.{nat_tests, eqb_tells}
 use Rattle.std.proofs.lemmas.Option.{none-some, slice_get_within}
 use Rattle.hg_base.specs.Changes.{at-at}
 use Rattle.hg_base.specs.Content.{Object, row_object, directory, Objects, placed, address_of, addresses_in, Standing, locked, Heap}
@@ -13,10 +13,11 @@ use Rattle.hg_base.specs.HeapLaws.{place_in-front}
 use Rattle.hg_base.specs.HeapPage.{link_word}
 use Rattle.hg_base.specs.HeapStates.{of_locked, standing_of, standing_with, with_objects, IsTarget, IsWordAt, HasWord, roots_in, words_in, payload_in, object_in, next_in, KeepsObjects, after_row, after_word}
 use Rattle.hg_base.specs.Space.{Space, at}
-use Rattle.hg_hash.specs.Buckets.{row_of, table, bucket, HasBuckets, bucket_in, chain, chain_in, in_front, OtherBuckets, KeepsPayloads, KeepsChains, OnlyObjects}
+use Rattle.hg_hash.specs.Buckets.{row_of, table, bucket, HasBuckets, bucket_in, chain, chain_in, in_front, OtherBuckets, KeepsPayloads, KeepsChains, OnlyRows, OnlyObjects, leads_to_row, row_first}
 use Rattle.hg_hash.specs.Chains.{reached-nothing, chain-placed}
 use Rattle.hg_hash.specs.Changing.{some_page, placed-with, addresses-with, tabled-with, placed-changed, row-relinked, addresses-relinked, relinked, row_added, chain-added, many-added, bucket-added, bucket-other}
 use Rattle.hg_hash.specs.Following.{IsNewest, newest-chain, place_in-get}
+use Rattle.hg_hash.specs.Leading.{first-added, first-other, no_link}
 use Rattle.hg_hash.specs.Names.{AreNames, many-placed, length-all, nth-low, named_by-address, link_of-word}
 use Rattle.hg_hash.specs.Tables.{Opened, opened, found, is_locked, Tabled, tabled, table_is, dir_below, dir_at, root_is, has_word, word_is, link_at, link_leads, link_is, standing_after}
 
@@ -164,6 +165,7 @@ pub record Adds (s u : Space) (h k : ℕ) (payload : List ℕ) : Type 0 where
   pub buckets : HasBuckets u h
   pub rows : KeepsPayloads s u h
   pub chains : KeepsChains s u h
+  pub only_rows : OnlyRows s h → OnlyRows u h
   pub only : OnlyObjects s u h
 
 others_last : (s t u : Space) (h k dir newest row : ℕ) (payload : List ℕ) (p : Placed s t h k dir newest row payload) (w : Opened s h) (b : Tabled w.objects.roots (placed w.objects)) → u ≡ after_word t h dir k row
@@ -241,6 +243,17 @@ chains_last s t u h k dir newest row payload p w b e a bytes f =
     ∙ ap Some (chain_named o w.frames b k payload a (named_by o w.frames a) bytes w.names refl there)
     ∙ sym (ap (of_locked (λ o frames. Some (chain (placed o) (link_of o frames a)))) (found s h w))
 
+-- Each bucket's link leads to a row.
+only_rows_last : (s t u : Space) (h k dir newest row : ℕ) (payload : List ℕ) (p : Placed s t h k dir newest row payload) (w : Opened s h) (b : Tabled w.objects.roots (placed w.objects)) → u ≡ after_word t h dir k row
+    → OnlyRows s h → OnlyRows u h
+only_rows_last s t u h k dir newest row payload p w b e old j l =
+    let was : row_first w.objects j ≡ Some true = sym (ap (of_locked (λ o frames. row_first o j)) (found s h w)) ∙ old j l in
+    ap (of_locked (λ o frames. row_first o j)) (standing_last s t u h k dir newest row payload p w b e)
+    ∙ elim (eqb_tells j k) [
+      | inl m ↦ ap (row_first (row_added w.objects b k payload)) m.1 ∙ first-added w.objects b k payload p.bucket_below
+      | inr m ↦ first-other w.objects b k j payload m.1 was
+    ]
+
 -- Nothing else changes.
 
 abbrev pub put : Space → ℕ → Heap → Objects → List ℕ → Space
@@ -285,6 +298,7 @@ adds s t u h k dir newest row payload p e =
       buckets = ap (of_locked (λ o frames. option_map length (table o))) (standing_last s t u h k dir newest row payload p w b e) ∙ many-added w.objects b k payload;
       rows = λ a bytes f. rows_found s t u h k dir newest row payload p w b e a bytes (object_in s h a) refl f;
       chains = chains_last s t u h k dir newest row payload p w b e;
+      only_rows = λ old. only_rows_last s t u h k dir newest row payload p w b e old;
       only = only_objects s t u h w (λ o frames. with_object o (row_object payload (link_of o frames newest))) (λ o frames. changed_at (with_link k (link_of o frames row)) frames dir o) p.after e;
     }
 
@@ -298,6 +312,8 @@ has_word_before s h dir k a b d l =
 pub record Found (s : Space) (h k word : ℕ) : Type 0 where
   pub chain_is : chain_in s h word ≡ bucket_in s h k
   pub newest : IfSome (bucket_in s h k) (λ rows. IsNewest (payload_in s h word) rows)
+  pub nil : word ≡ 0 → bucket_in s h k ≡ Some []
+  pub empty : OnlyRows s h → bucket_in s h k ≡ Some [] → word ≡ 0
 
 newest_at : (o : Objects) (frames : List ℕ) (word : ℕ) (link : Option ℕ) → AreNames o frames → LeadsBelow (length (placed o)) link → word ≡ link_word (address_of o frames) link
     → IsNewest (option_and_then payload_of (object_at o frames word)) (chain (placed o) link)
@@ -319,10 +335,22 @@ first_found s h dir k word a b d l i =
     sym (ap (λ x. option_and_then payload_of (of_locked (λ o frames. object_at o frames word) x)) (found s h w)) in
     let newest : IsNewest (payload_in s h word) (chain (placed o) (link_at t.links k)) =
     subst (λ x. IsNewest x (chain (placed o) (link_at t.links k))) payload (newest_at o w.frames word (link_at t.links k) w.names (link_leads o t k w.well) e) in
+    let same : chain_in s h word ≡ bucket_in s h k =
+    ap (of_locked (λ o frames. Some (chain (placed o) (link_of o frames word)))) (found s h w)
+    ∙ ap (λ link. Some (chain (placed o) link)) (link_is s h w t k word e)
+    ∙ sym rows in
     record {
-      chain_is =
-          ap (of_locked (λ o frames. Some (chain (placed o) (link_of o frames word)))) (found s h w)
-          ∙ ap (λ link. Some (chain (placed o) link)) (link_is s h w t k word e)
-          ∙ sym rows;
+      chain_is = same;
       newest = subst (λ x. IfSome x (λ rows. IsNewest (payload_in s h word) rows)) (sym rows) newest;
+      nil = λ z.
+          sym same ∙ ap (chain_in s h) z
+          ∙ ap (of_locked (λ o frames. Some (chain (placed o) (link_of o frames 0)))) (found s h w)
+          ∙ ap Some (reached-nothing (reverse (map row_of (placed o))));
+      empty = λ only none.
+          let leads : ◌≡◌ {A = Option Bool} (Some (leads_to_row (placed o) (link_at t.links k))) (Some true) =
+          sym (ap (of_locked (λ o frames. row_first o k)) (found s h w) ∙ ap (option_map (λ links. leads_to_row (placed o) (slice_index_or links k None))) (table_is o t)) ∙ only k l in
+          let to_row : leads_to_row (placed o) (link_at t.links k) ≡ true = cc in
+          let some_none : ◌≡◌ {A = Option (List (List ℕ))} (Some (chain (placed o) (link_at t.links k))) (Some []) = sym rows ∙ none in
+          let no_rows : chain (placed o) (link_at t.links k) ≡ [] = cc in
+          e ∙ ap (link_word (address_of o w.frames)) (no_link o (link_at t.links k) w.well to_row no_rows);
     }

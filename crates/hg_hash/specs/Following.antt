@@ -152,7 +152,7 @@ leads_up : (n count : ℕ) (link : Option ℕ) → n ≤ count → LeadsBelow n 
 leads_up n count None h l = tt
 leads_up n count (Some m) h l = omega arith
 
-nth_object : (count n : ℕ) (objects : List Object) (k : ℕ) (x : Object) → AreObjects n count objects → slice_get objects k ≡ Some x → IsObject (n + k) count x
+pub nth_object : (count n : ℕ) (objects : List Object) (k : ℕ) (x : Object) → AreObjects n count objects → slice_get objects k ≡ Some x → IsObject (n + k) count x
 nth_object count n [] k x a e = absurd (none-some x e)
 nth_object count n (y ∷ objects) zero x a e = let f : y ≡ x = cc in subst (λ q. IsObject q count x) (let z : n ≡ n + 0 = omega arith in z) (subst (IsObject n count) f a.0)
 nth_object count n (y ∷ objects) (suc k) x a e = subst (λ q. IsObject q count x) (let z : n + 1 + k ≡ n + suc k = omega arith in z) (nth_object count (n + 1) objects k x a.1 e)
