@@ -1,23 +1,25 @@
 -- What the calls do, from what the calls of the space say.
-use Rattle.std.specs.Prelude.{◌≡◌, ◌≢◌, ℕ, ◌+◌, ◌<◌, ◌≤◌, ◌==◌, ◌⊎◌, zero, suc, Bool, true, false, List, [], ◌∷◌, ◌++◌, length, map, reverse, slice_get, slice_set, slice_index_or, replicate, Option, None, Some, IsSome, IfSome, option_map, option_and_then, if◌then◌else◌}
-use Rattle.std.specs.List.{AllByRecursion}
+use Rattle.std.specs.Prelude.{◌≡◌, ℕ, ◌+◌, ◌<◌, ◌==◌, Bool, true, false, List, [], ◌∷◌, ◌++◌, length, map, reverse, slice_get, slice_index_or, Option, None, Some, IsSome, IfSome, option_map, option_and_then, if◌then◌else◌}
 use Rattle.std.proofs.Common.{inl, inr, sym, ◌∙◌, ap, subst, refl, arith}
 use Rattle.std.proofs.lemmas.Bool.{eq-eqb}
 use Rattle.std.proofs.lemmas.List.{length-map, get_or_append_left, get_or-append-add}
+use Rattle.std.proofs.lemmas.Bool.Decides.{nat_tests, eqb_tells}
 use Rattle.std.proofs.lemmas.Option.{none-some, slice_get_within}
 use Rattle.hg_base.specs.Changes.{at-at}
-use Rattle.hg_base.specs.Content.{Object, row_object, directory, Objects, placed, address_of, addresses_in, Standing, locked, unlocked, draining, Heap}
-use Rattle.hg_base.specs.HeapContent.{object_at, named_by, place_in, links_of, payload_of, link_of, words_of, with_link, changed_in, changed_on, changed_by, changed_at, with_object, next_address}
+use Rattle.hg_base.specs.Content.{Object, row_object, directory, Objects, placed, address_of, addresses_in, Standing, locked, Heap}
+use Rattle.hg_base.specs.HeapContent.{object_at, named_by, place_in, links_of, payload_of, link_of, words_of, with_link, changed_by, changed_at, with_object, next_address}
 use Rattle.hg_base.specs.HeapFacts.{LeadsBelow, AreWellPlaced, AreHeaps}
+use Rattle.hg_base.specs.HeapLaws.{place_in-front}
 use Rattle.hg_base.specs.HeapPage.{link_word}
-use Rattle.hg_base.specs.HeapStates.{of_locked, standing_of, standing_with, with_objects, IsLocked, IsTarget, IsWordAt, HasWord, roots_in, words_in, payload_in, object_in, next_in, KeepsObjects, after_row, after_word}
+use Rattle.hg_base.specs.HeapStates.{of_locked, standing_of, standing_with, with_objects, IsTarget, IsWordAt, HasWord, roots_in, words_in, payload_in, object_in, next_in, KeepsObjects, after_row, after_word}
 use Rattle.hg_base.specs.Space.{Space, at}
-use Rattle.hg_hash.specs.Buckets.{row_of, table, bucket, HasBuckets, bucket_in, chain, chain_in, in_front, OtherBuckets, KeepsPayloads, OnlyObjects}
-use Rattle.hg_hash.specs.Chains.{reached-nothing}
-use Rattle.hg_hash.specs.Changing.{some_page, placed-with, addresses-with, tabled-with, placed-changed, row-relinked, addresses-relinked, relinked, row_added, many-added, bucket-added, bucket-other}
-use Rattle.hg_hash.specs.Following.{IsNewest, newest-chain}
-use Rattle.hg_hash.specs.Names.{AreNames, many, many-placed, length-all, named_by-address, link_of-word}
-use Rattle.hg_hash.specs.Tables.{Opened, opened, found, is_locked, Tabled, tabled, table_is, dir_below, dir_at, root_is, has_word, words_are, word_is, link_at, link_leads, link_is, standing_after}
+use Rattle.hg_hash.specs.Buckets.{row_of, table, bucket, HasBuckets, bucket_in, chain, chain_in, in_front, OtherBuckets, KeepsPayloads, KeepsChains, OnlyRows, OnlyObjects, leads_to_row, row_first}
+use Rattle.hg_hash.specs.Chains.{reached-nothing, chain-placed}
+use Rattle.hg_hash.specs.Changing.{some_page, placed-with, addresses-with, tabled-with, placed-changed, row-relinked, addresses-relinked, relinked, row_added, chain-added, many-added, bucket-added, bucket-other}
+use Rattle.hg_hash.specs.Following.{IsNewest, newest-chain, place_in-get}
+use Rattle.hg_hash.specs.Leading.{first-added, first-other, no_link}
+use Rattle.hg_hash.specs.Names.{AreNames, many-placed, length-all, nth-low, named_by-address, link_of-word}
+use Rattle.hg_hash.specs.Tables.{Opened, opened, found, is_locked, Tabled, tabled, table_is, dir_below, dir_at, root_is, has_word, word_is, link_at, link_leads, link_is, standing_after}
 
 -- what is known of a heap that is found locked
 pub record IsOpen (o : Objects) (frames : List ℕ) : Type 0 where
@@ -162,6 +164,8 @@ pub record Adds (s u : Space) (h k : ℕ) (payload : List ℕ) : Type 0 where
   pub others : OtherBuckets s u h k
   pub buckets : HasBuckets u h
   pub rows : KeepsPayloads s u h
+  pub chains : KeepsChains s u h
+  pub only_rows : OnlyRows s h → OnlyRows u h
   pub only : OnlyObjects s u h
 
 others_last : (s t u : Space) (h k dir newest row : ℕ) (payload : List ℕ) (p : Placed s t h k dir newest row payload) (w : Opened s h) (b : Tabled w.objects.roots (placed w.objects)) → u ≡ after_word t h dir k row
@@ -199,6 +203,56 @@ rows_found s t u h k dir newest row payload p w b e a bytes (Some (row_object ol
     ap (λ x. option_and_then payload_of (of_locked (λ o frames. object_at o frames a) x)) (standing_last s t u h k dir newest row payload p w b e)
     ∙ ap (option_and_then payload_of) (row_at o w.frames a b.dir k (Some (length (placed w.objects))) old link (place_in (addresses_in o.layout w.frames) a) refl there)
     ∙ g
+
+-- The chain from a row that was there is as it was.
+chain_same : (o : Objects) (frames : List ℕ) (b : Tabled o.roots (placed o)) (k : ℕ) (payload : List ℕ) (a n : ℕ) → AreNames o frames → named_by o frames a ≡ Some n → n < length (placed o)
+    → chain (placed (row_added o b k payload)) (link_of (row_added o b k payload) frames a) ≡ chain (placed o) (link_of o frames a)
+chain_same o frames b k payload a n names e l =
+    let x : Object = row_object payload (link_at b.links k) in
+    let g = place_in-get (addresses_in o.layout frames) a n e in
+    let c = many-placed o.layout o.roots in
+    let low = nth-low o.layout frames n names.same (omega arith) in
+    let at = g.1 in
+    let test : (a == 0) ≡ false = grind (arith, nat_tests) in
+    let to : Option ℕ = Some (length (placed o)) in
+    let named : named_by (row_added o b k payload) frames a ≡ Some n =
+    ap (λ xs. place_in xs a) (addresses-relinked k to b.dir (with_object o x).layout frames ∙ addresses-with o.layout frames x (some_pages o b) names.same)
+    ∙ place_in-front (addresses_in o.layout frames) (next_address o.layout frames ∷ []) a n e in
+    ap (chain (placed (row_added o b k payload))) (ap (λ t. if t then None else named_by (row_added o b k payload) frames a) test ∙ named)
+    ∙ chain-added o b k payload (Some n)
+    ∙ chain-placed (placed o) x (Some n) l
+    ∙ sym (ap (chain (placed o)) (ap (λ t. if t then None else named_by o frames a) test ∙ e))
+
+payload_within : (objects : List Object) (n : ℕ) (x : Option Object) (bytes : List ℕ) → slice_get objects n ≡ x → option_and_then payload_of x ≡ Some bytes → n < length objects
+payload_within objects n None bytes e f = absurd (none-some bytes f)
+payload_within objects n (Some x) bytes e f = slice_get_within objects n x e
+
+chain_named : (o : Objects) (frames : List ℕ) (b : Tabled o.roots (placed o)) (k : ℕ) (payload : List ℕ) (a : ℕ) (p : Option ℕ) (bytes : List ℕ) → AreNames o frames → named_by o frames a ≡ p
+    → option_and_then payload_of (option_and_then (slice_get (placed o)) p) ≡ Some bytes
+    → chain (placed (row_added o b k payload)) (link_of (row_added o b k payload) frames a) ≡ chain (placed o) (link_of o frames a)
+chain_named o frames b k payload a None bytes names e f = absurd (none-some bytes f)
+chain_named o frames b k payload a (Some n) bytes names e f = chain_same o frames b k payload a n names e (payload_within (placed o) n (slice_get (placed o) n) bytes refl f)
+
+chains_last : (s t u : Space) (h k dir newest row : ℕ) (payload : List ℕ) (p : Placed s t h k dir newest row payload) (w : Opened s h) (b : Tabled w.objects.roots (placed w.objects)) → u ≡ after_word t h dir k row
+    → KeepsChains s u h
+chains_last s t u h k dir newest row payload p w b e a bytes f =
+    let o : Objects = w.objects in
+    let there : option_and_then payload_of (object_at o w.frames a) ≡ Some bytes =
+    sym (ap (λ x. option_and_then payload_of (of_locked (λ o frames. object_at o frames a) x)) (found s h w)) ∙ f in
+    ap (of_locked (λ o frames. Some (chain (placed o) (link_of o frames a)))) (standing_last s t u h k dir newest row payload p w b e)
+    ∙ ap Some (chain_named o w.frames b k payload a (named_by o w.frames a) bytes w.names refl there)
+    ∙ sym (ap (of_locked (λ o frames. Some (chain (placed o) (link_of o frames a)))) (found s h w))
+
+-- Each bucket's link leads to a row.
+only_rows_last : (s t u : Space) (h k dir newest row : ℕ) (payload : List ℕ) (p : Placed s t h k dir newest row payload) (w : Opened s h) (b : Tabled w.objects.roots (placed w.objects)) → u ≡ after_word t h dir k row
+    → OnlyRows s h → OnlyRows u h
+only_rows_last s t u h k dir newest row payload p w b e old j l =
+    let was : row_first w.objects j ≡ Some true = sym (ap (of_locked (λ o frames. row_first o j)) (found s h w)) ∙ old j l in
+    ap (of_locked (λ o frames. row_first o j)) (standing_last s t u h k dir newest row payload p w b e)
+    ∙ elim (eqb_tells j k) [
+      | inl m ↦ ap (row_first (row_added w.objects b k payload)) m.1 ∙ first-added w.objects b k payload p.bucket_below
+      | inr m ↦ first-other w.objects b k j payload m.1 was
+    ]
 
 -- Nothing else changes.
 
@@ -243,6 +297,8 @@ adds s t u h k dir newest row payload p e =
       others = others_last s t u h k dir newest row payload p w b e;
       buckets = ap (of_locked (λ o frames. option_map length (table o))) (standing_last s t u h k dir newest row payload p w b e) ∙ many-added w.objects b k payload;
       rows = λ a bytes f. rows_found s t u h k dir newest row payload p w b e a bytes (object_in s h a) refl f;
+      chains = chains_last s t u h k dir newest row payload p w b e;
+      only_rows = λ old. only_rows_last s t u h k dir newest row payload p w b e old;
       only = only_objects s t u h w (λ o frames. with_object o (row_object payload (link_of o frames newest))) (λ o frames. changed_at (with_link k (link_of o frames row)) frames dir o) p.after e;
     }
 
@@ -256,6 +312,8 @@ has_word_before s h dir k a b d l =
 pub record Found (s : Space) (h k word : ℕ) : Type 0 where
   pub chain_is : chain_in s h word ≡ bucket_in s h k
   pub newest : IfSome (bucket_in s h k) (λ rows. IsNewest (payload_in s h word) rows)
+  pub nil : word ≡ 0 → bucket_in s h k ≡ Some []
+  pub empty : OnlyRows s h → bucket_in s h k ≡ Some [] → word ≡ 0
 
 newest_at : (o : Objects) (frames : List ℕ) (word : ℕ) (link : Option ℕ) → AreNames o frames → LeadsBelow (length (placed o)) link → word ≡ link_word (address_of o frames) link
     → IsNewest (option_and_then payload_of (object_at o frames word)) (chain (placed o) link)
@@ -277,10 +335,22 @@ first_found s h dir k word a b d l i =
     sym (ap (λ x. option_and_then payload_of (of_locked (λ o frames. object_at o frames word) x)) (found s h w)) in
     let newest : IsNewest (payload_in s h word) (chain (placed o) (link_at t.links k)) =
     subst (λ x. IsNewest x (chain (placed o) (link_at t.links k))) payload (newest_at o w.frames word (link_at t.links k) w.names (link_leads o t k w.well) e) in
+    let same : chain_in s h word ≡ bucket_in s h k =
+    ap (of_locked (λ o frames. Some (chain (placed o) (link_of o frames word)))) (found s h w)
+    ∙ ap (λ link. Some (chain (placed o) link)) (link_is s h w t k word e)
+    ∙ sym rows in
     record {
-      chain_is =
-          ap (of_locked (λ o frames. Some (chain (placed o) (link_of o frames word)))) (found s h w)
-          ∙ ap (λ link. Some (chain (placed o) link)) (link_is s h w t k word e)
-          ∙ sym rows;
+      chain_is = same;
       newest = subst (λ x. IfSome x (λ rows. IsNewest (payload_in s h word) rows)) (sym rows) newest;
+      nil = λ z.
+          sym same ∙ ap (chain_in s h) z
+          ∙ ap (of_locked (λ o frames. Some (chain (placed o) (link_of o frames 0)))) (found s h w)
+          ∙ ap Some (reached-nothing (reverse (map row_of (placed o))));
+      empty = λ only none.
+          let leads : ◌≡◌ {A = Option Bool} (Some (leads_to_row (placed o) (link_at t.links k))) (Some true) =
+          sym (ap (of_locked (λ o frames. row_first o k)) (found s h w) ∙ ap (option_map (λ links. leads_to_row (placed o) (slice_index_or links k None))) (table_is o t)) ∙ only k l in
+          let to_row : leads_to_row (placed o) (link_at t.links k) ≡ true = cc in
+          let some_none : ◌≡◌ {A = Option (List (List ℕ))} (Some (chain (placed o) (link_at t.links k))) (Some []) = sym rows ∙ none in
+          let no_rows : chain (placed o) (link_at t.links k) ≡ [] = cc in
+          e ∙ ap (link_word (address_of o w.frames)) (no_link o (link_at t.links k) w.well to_row no_rows);
     }

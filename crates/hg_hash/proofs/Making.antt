@@ -1,16 +1,15 @@
 -- What the making of buckets does, from what the calls of the space say.
-use Rattle.std.specs.Prelude.{◌≡◌, ℕ, ◌+◌, ◌<◌, ◌≤◌, zero, suc, List, [], ◌∷◌, ◌++◌, length, map, reverse, slice_get, slice_set, slice_index_or, Option, None, Some, IsSome, option_map, option_and_then}
-use Rattle.std.proofs.Common.{inl, inr, sym, ◌∙◌, ap, subst, refl, arith}
+use Rattle.std.specs.Prelude.{◌≡◌, ℕ, ◌<◌, Bool, true, zero, suc, List, [], ◌∷◌, ◌++◌, length, map, reverse, slice_get, slice_set, slice_index_or, Option, None, Some, option_map, option_and_then}
+use Rattle.std.proofs.Common.{sym, ◌∙◌, ap, refl, arith}
 use Rattle.std.proofs.lemmas.Option.{none-some}
-use Rattle.hg_base.specs.Content.{Object, row_object, directory, Objects, placed, address_of, Standing, locked, unlocked, draining}
+use Rattle.hg_base.specs.Content.{Object, directory, Objects, placed, locked}
 use Rattle.hg_base.specs.HeapContent.{object_at, named_by, links_of, link_of, words_of, with_object, with_last, next_address, no_links}
 use Rattle.hg_base.specs.HeapFacts.{AreHeaps}
-use Rattle.hg_base.specs.HeapStates.{of_locked, standing_of, IsLocked, IsTarget, words_in, object_in, next_in, after_directory, after_root}
+use Rattle.hg_base.specs.HeapStates.{of_locked, standing_of, IsLocked, words_in, next_in, after_directory, after_root}
 use Rattle.hg_base.specs.Space.{Space}
-use Rattle.hg_hash.specs.Buckets.{row_of, links_at, table, bucket, HasBuckets, NoRows, OnlyObjects, bucket_in, chain}
+use Rattle.hg_hash.specs.Buckets.{OnlyRows, row_first, leads_to_row, row_of, links_at, table, bucket, OnlyObjects, bucket_in, chain}
 use Rattle.hg_hash.specs.Chains.{reached-nothing}
 use Rattle.hg_hash.specs.Changing.{placed-with}
-use Rattle.hg_hash.specs.Names.{AreNames}
 use Rattle.hg_hash.specs.Tables.{Opened, opened, found, standing_after}
 use Rattle.hg_hash.proofs.Adding.{IsOpen, open_as, last_link, only_objects}
 
@@ -89,6 +88,7 @@ table_last s t u h n dir words p w =
 pub record Makes (s u : Space) (h n : ℕ) : Type 0 where
   pub buckets : of_locked (λ o frames. option_map length (table o)) (standing_of u h) ≡ Some n
   pub empty : (k : ℕ) → k < 256 → bucket_in u h k ≡ Some []
+  pub only_rows : OnlyRows u h
   pub only : OnlyObjects s u h
 
 pub makes : (s t u : Space) (h n dir : ℕ) (words : List ℕ) → Directs s t h n dir words → u ≡ after_root t h 0 dir → Makes s u h n
@@ -103,5 +103,9 @@ makes s t u h n dir words p e =
           ∙ ap (option_map (λ ls. chain (placed (rooted w.objects n)) (slice_index_or ls k None))) links
           ∙ ap (λ link. Some (chain (placed (rooted w.objects n)) link)) (none_at n k)
           ∙ ap Some (reached-nothing (reverse (map row_of (placed (rooted w.objects n)))));
+      only_rows = λ k l.
+          ap (of_locked (λ o frames. row_first o k)) last
+          ∙ ap (option_map (λ ls. leads_to_row (placed (rooted w.objects n)) (slice_index_or ls k None))) links
+          ∙ ap (λ link. Some (leads_to_row (placed (rooted w.objects n)) link)) (none_at n k);
       only = only_objects s t u h w (λ o frames. with_object o (directory (no_links n))) (λ o frames. record o { roots = slice_set o.roots 0 (link_of o frames dir) }) p.after e;
     }

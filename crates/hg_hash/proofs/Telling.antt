@@ -1,19 +1,19 @@
 -- Whether root 0 leads to buckets, as the calls of a space tell it.
-use Rattle.std.specs.Prelude.{◌≡◌, ℕ, ◌+◌, ◌<◌, ◌≤◌, ◌==◌, zero, suc, List, [], ◌∷◌, length, slice_get, slice_index_or, Option, None, Some, IsSome, option_map, option_and_then}
-use Rattle.std.proofs.Common.{inl, inr, sym, ◌∙◌, ap, subst, refl, arith}
+use Rattle.std.specs.Prelude.{◌≡◌, ℕ, List, [], ◌∷◌, length, slice_get, Option, None, Some, option_map, option_and_then}
+use Rattle.std.proofs.Common.{sym, ◌∙◌, ap, subst, refl, arith}
 use Rattle.std.proofs.lemmas.List.{length-map}
 use Rattle.std.proofs.lemmas.Option.{none-some}
-use Rattle.hg_base.specs.Content.{Object, row_object, directory, Objects, placed, address_of, addresses_in}
-use Rattle.hg_base.specs.HeapContent.{object_at, named_by, place_in, links_of, words_of}
-use Rattle.hg_base.specs.HeapFacts.{LeadsBelow, AreHeaps, AreWellPlaced}
+use Rattle.hg_base.specs.Content.{Objects, placed, address_of, addresses_in}
+use Rattle.hg_base.specs.HeapContent.{object_at, place_in, links_of, words_of}
+use Rattle.hg_base.specs.HeapFacts.{LeadsBelow, AreHeaps}
 use Rattle.hg_base.specs.HeapPage.{link_word}
 use Rattle.hg_base.specs.HeapStates.{of_locked, standing_of, IsLocked, IsWordAt, roots_in, words_in}
 use Rattle.hg_base.specs.Space.{Space}
 use Rattle.std.specs.List.{AllByRecursion}
-use Rattle.hg_hash.specs.Buckets.{links_at, table, HasBuckets}
+use Rattle.hg_hash.specs.Buckets.{links_at, table}
 use Rattle.hg_hash.specs.Following.{place_in-get}
-use Rattle.hg_hash.specs.Names.{AreNames, many, many-placed, length-all, nth-low, named_by-address}
-use Rattle.hg_hash.specs.Tables.{Opened, opened, found, is_locked, Tabled, tabled, root_is, words_are}
+use Rattle.hg_hash.specs.Names.{AreNames, length-all, nth-low, named_by-address}
+use Rattle.hg_hash.specs.Tables.{Opened, opened, found}
 
 -- nothing stands at the address 0
 none_named : (o : Objects) (frames : List ℕ) (p : Option ℕ) → AreNames o frames → place_in (addresses_in o.layout frames) 0 ≡ p → p ≡ None

@@ -7,10 +7,10 @@
 --
 -- A chain is a function of what a heap holds, and not of where its pages stand: it is the same after the
 -- heap was unlocked and locked again.
-use Rattle.std.specs.Prelude.{◌≡◌, ◌≢◌, ℕ, ◌+◌, ◌<◌, ◌==◌, Bool, List, [], ◌∷◌, ◌++◌, length, map, reverse, slice_get, slice_index_or, Option, None, Some, option_map, option_and_then, if◌then◌else◌}
+use Rattle.std.specs.Prelude.{◌≡◌, ◌≢◌, ℕ, ◌<◌, ◌==◌, Bool, true, List, [], ◌∷◌, length, map, reverse, slice_get, slice_index_or, Option, None, Some, is_some, option_map, option_and_then, if◌then◌else◌}
 use Rattle.hg_base.specs.Content.{Object, row_object, directory, Objects, placed}
 use Rattle.hg_base.specs.HeapContent.{links_of, link_of}
-use Rattle.hg_base.specs.HeapStates.{of_locked, standing_of, with_objects, payload_in, link_in}
+use Rattle.hg_base.specs.HeapStates.{of_locked, standing_of, with_objects, payload_in}
 use Rattle.hg_base.specs.Space.{Space}
 
 -- what a row is in a chain: its payload, and its link to the row before
@@ -69,6 +69,18 @@ pub record OnlyObjects (a b : Space) (h : ℕ) : Type 0 where
   pub objects : Objects
   pub after : b ≡ with_objects a h (λ _ _. objects)
 
+-- a bucket's link leads to a row, or to nothing
+abbrev pub leads_to_row : List Object → Option ℕ → Bool
+leads_to_row objects None = true
+leads_to_row objects (Some n) = is_some (option_and_then row_of (slice_get objects n))
+
+abbrev pub row_first : Objects → ℕ → Option Bool
+row_first o k = option_map (λ links. leads_to_row (placed o) (slice_index_or links k None)) (table o)
+
+-- every bucket's does
+abbrev pub OnlyRows : Space → ℕ → Type 0
+OnlyRows s h = (k : ℕ) → k < 256 → of_locked (λ o frames. row_first o k) (standing_of s h) ≡ Some true
+
 -- every bucket is empty
 abbrev pub NoRows : Space → ℕ → Type 0
 NoRows s h = (k : ℕ) → k < 256 → bucket_in s h k ≡ Some []
@@ -84,3 +96,7 @@ OtherBuckets a b h bucket = (k : ℕ) → k < 256 → k ≢ bucket → bucket_in
 -- the payload of each row that was there is found at its address
 abbrev pub KeepsPayloads : Space → Space → ℕ → Type 0
 KeepsPayloads a b h = (at : ℕ) (payload : List ℕ) → payload_in a h at ≡ Some payload → payload_in b h at ≡ Some payload
+
+-- and so are the payloads that are reached from it
+abbrev pub KeepsChains : Space → Space → ℕ → Type 0
+KeepsChains a b h = (at : ℕ) (payload : List ℕ) → payload_in a h at ≡ Some payload → chain_in b h at ≡ chain_in a h at

@@ -1,6 +1,6 @@
 -- Laws of chains: what is placed behind the objects of a heap changes no chain that was there, a row that
 -- is placed stands in front of the chain to which it links, and another link of a directory changes none.
-use Rattle.std.specs.Prelude.{◌≡◌, ℕ, ◌+◌, ◌<◌, ◌==◌, zero, suc, Bool, true, false, List, [], ◌∷◌, ◌++◌, length, map, reverse, Option, None, Some, if◌then◌else◌}
+use Rattle.std.specs.Prelude.{◌≡◌, ℕ, ◌<◌, ◌==◌, zero, suc, true, false, List, [], ◌∷◌, ◌++◌, length, map, reverse, Option, None, Some, if◌then◌else◌}
 use Rattle.std.proofs.Common.{sym, ◌∙◌, ap, refl, arith}
 use Rattle.std.proofs.lemmas.Bool.{eq-eqb}
 use Rattle.std.proofs.lemmas.Bool.Decides.{nat_tests}

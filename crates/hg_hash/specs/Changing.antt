@@ -1,13 +1,12 @@
 -- What a row that is placed, and the word of the directory that is then set to it, make of the objects of a
 -- heap with buckets.
-use Rattle.std.specs.Prelude.{◌≡◌, ◌≢◌, ℕ, ◌+◌, ◌-◌, ◌*◌, ◌/◌, ◌<◌, ◌≤◌, ◌==◌, zero, suc, Bool, true, false, List, [], ◌∷◌, ◌++◌, length, map, slice_get, slice_set, slice_index_or, nat_lt, Option, None, Some, option_map, option_and_then, if◌then◌else◌}
-use Rattle.std.specs.List.{AllByRecursion}
-use Rattle.std.proofs.Common.{sym, ◌∙◌, ap, subst, refl, arith, append_assoc, length-append}
+use Rattle.std.specs.Prelude.{◌≡◌, ◌≢◌, ℕ, ◌+◌, ◌-◌, ◌*◌, ◌/◌, ◌<◌, zero, suc, true, false, List, [], ◌∷◌, ◌++◌, length, map, slice_get, slice_set, slice_index_or, nat_lt, Option, None, Some, option_map, option_and_then, if◌then◌else◌}
+use Rattle.std.proofs.Common.{sym, ◌∙◌, ap, refl, arith}
 use Rattle.std.proofs.Common.{inl, inr}
 use Rattle.std.proofs.lemmas.Bool.{lt-ltb, le-ltb, cases_lt}
-use Rattle.std.proofs.lemmas.List.{get_or-set_same, get_or-set_other, get_or_append_left, get_or-append-add, length-set}
+use Rattle.std.proofs.lemmas.List.{get_or-set_same, get_or-set_other, length-set}
 use Rattle.std.proofs.lemmas.Option.{none-some}
-use Rattle.hg_base.specs.Content.{Object, row_object, directory, Objects, placed, object_size, offsets_from, addresses_in, address_of}
+use Rattle.hg_base.specs.Content.{Object, row_object, directory, Objects, placed, object_size, offsets_from, addresses_in}
 use Rattle.hg_base.specs.HeapContent.{with_link, changed_on, changed_in, with_last, with_object, next_address, links_of}
 use Rattle.hg_base.specs.HeapFacts.{LeadsBelow}
 use Rattle.hg_base.specs.HeapLaws.{addresses_in-last, placed-last}
@@ -149,7 +148,7 @@ table-added o t k payload =
 pub many-added : (o : Objects) (t : Tabled o.roots (placed o)) (k : ℕ) (payload : List ℕ) → option_map length (table (row_added o t k payload)) ≡ Some 256
 many-added o t k payload = ap (option_map length) (table-added o t k payload) ∙ ap Some (length-set t.links k (Some (length (placed o))) ∙ t.many)
 
-chain-added : (o : Objects) (t : Tabled o.roots (placed o)) (k : ℕ) (payload : List ℕ) (link : Option ℕ)
+pub chain-added : (o : Objects) (t : Tabled o.roots (placed o)) (k : ℕ) (payload : List ℕ) (link : Option ℕ)
     → chain (placed (row_added o t k payload)) link ≡ chain (placed o ++ row_object payload (link_at t.links k) ∷ []) link
 chain-added o t k payload link =
     ap (λ xs. chain xs link) (placed-added o t k payload)

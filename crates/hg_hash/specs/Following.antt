@@ -1,6 +1,6 @@
 -- A chain is walked along addresses: the row at an address is its newest, and the address that the row leads
 -- to has the rest.
-use Rattle.std.specs.Prelude.{◌≡◌, ◌≢◌, ℕ, ◌+◌, ◌<◌, ◌≤◌, ◌==◌, zero, suc, Bool, true, false, List, [], ◌∷◌, ◌++◌, length, map, reverse, slice_get, slice_index_or, Option, None, Some, option_map, option_and_then, if◌then◌else◌, ⊤}
+use Rattle.std.specs.Prelude.{◌≡◌, ℕ, ◌+◌, ◌<◌, ◌≤◌, ◌==◌, zero, suc, true, false, List, [], ◌∷◌, ◌++◌, length, map, reverse, slice_get, slice_index_or, Option, None, Some, option_map, option_and_then, if◌then◌else◌, ⊤}
 use Rattle.std.proofs.Common.{sym, ◌∙◌, ap, subst, refl, arith}
 use Rattle.std.proofs.Common.{inl, inr}
 use Rattle.std.proofs.lemmas.Bool.Decides.{nat_tests, eqb_tells}
@@ -14,7 +14,7 @@ use Rattle.hg_base.specs.HeapStates.{of_locked, payload_in, link_in}
 use Rattle.hg_base.specs.Space.{Space}
 use Rattle.hg_hash.specs.Buckets.{Row, row_of, reached, chain, chain_in, in_front}
 use Rattle.hg_hash.specs.Chains.{reached-nothing, reached-earlier}
-use Rattle.hg_hash.specs.Names.{AreNames, many, many-placed, length-all, nth-low, link_of-word}
+use Rattle.hg_hash.specs.Names.{AreNames, many-placed, nth-low, link_of-word}
 use Rattle.hg_hash.specs.Tables.{Opened, found}
 
 -- what is found at an address is the newest of some rows, if there is one
@@ -152,7 +152,7 @@ leads_up : (n count : ℕ) (link : Option ℕ) → n ≤ count → LeadsBelow n 
 leads_up n count None h l = tt
 leads_up n count (Some m) h l = omega arith
 
-nth_object : (count n : ℕ) (objects : List Object) (k : ℕ) (x : Object) → AreObjects n count objects → slice_get objects k ≡ Some x → IsObject (n + k) count x
+pub nth_object : (count n : ℕ) (objects : List Object) (k : ℕ) (x : Object) → AreObjects n count objects → slice_get objects k ≡ Some x → IsObject (n + k) count x
 nth_object count n [] k x a e = absurd (none-some x e)
 nth_object count n (y ∷ objects) zero x a e = let f : y ≡ x = cc in subst (λ q. IsObject q count x) (let z : n ≡ n + 0 = omega arith in z) (subst (IsObject n count) f a.0)
 nth_object count n (y ∷ objects) (suc k) x a e = subst (λ q. IsObject q count x) (let z : n + 1 + k ≡ n + suc k = omega arith in z) (nth_object count (n + 1) objects k x a.1 e)

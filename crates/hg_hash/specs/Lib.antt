@@ -5,3 +5,4 @@ pub mod Tables
 pub mod Changing
 pub mod Following
 pub mod Moving
+pub mod Leading

@@ -1,13 +1,13 @@
 -- The rows of a bucket are the same after other objects were placed, and after the heap was unlocked and
 -- locked again, under other addresses.
-use Rattle.std.specs.Prelude.{◌≡◌, ℕ, ◌<◌, Bool, true, false, List, [], ◌∷◌, ◌++◌, length, slice_get, slice_index_or, Option, None, Some, IsSome, option_map, option_and_then}
-use Rattle.std.proofs.Common.{sym, ◌∙◌, ap, refl}
+use Rattle.std.specs.Prelude.{◌≡◌, ℕ, true, List, length, slice_index_or, Option, None, Some, option_map}
+use Rattle.std.proofs.Common.{sym, ◌∙◌, ap}
 use Rattle.hg_base.specs.Content.{Object, Objects, placed, directory, Standing, locked, unlocked, draining, Heap}
-use Rattle.hg_base.specs.HeapContent.{with_object, links_of}
+use Rattle.hg_base.specs.HeapContent.{with_object}
 use Rattle.hg_base.specs.HeapFacts.{LeadsBelow}
-use Rattle.hg_base.specs.HeapStates.{standing_of, of_locked, with_standing, unlocked_from, told_objects, after_unlock, Locks, IsLocked}
+use Rattle.hg_base.specs.HeapStates.{standing_of, of_locked, unlocked_from, told_objects, after_unlock, Locks}
 use Rattle.hg_base.specs.Space.{Space}
-use Rattle.hg_hash.specs.Buckets.{links_at, table, bucket, bucket_in, chain}
+use Rattle.hg_hash.specs.Buckets.{bucket, bucket_in, chain}
 use Rattle.hg_hash.specs.Chains.{chain-placed}
 use Rattle.hg_hash.specs.Changing.{some_page, placed-with, tabled-with}
 use Rattle.hg_hash.specs.Tables.{Tabled, table_is, link_at, standing_with_any}

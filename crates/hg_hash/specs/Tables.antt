@@ -1,12 +1,12 @@
 -- What is known of a heap that is locked, in a space whose heaps are well formed, and of its buckets.
-use Rattle.std.specs.Prelude.{◌≡◌, ◌≢◌, ℕ, ◌+◌, ◌<◌, ◌≤◌, ◌==◌, zero, suc, Bool, true, false, List, [], ◌∷◌, ◌++◌, length, map, slice_get, slice_set, slice_index_or, Option, None, Some, IsSome, IfSome, option_map, option_and_then, if◌then◌else◌}
+use Rattle.std.specs.Prelude.{◌≡◌, ℕ, ◌+◌, ◌<◌, zero, suc, List, [], ◌∷◌, length, slice_get, slice_index_or, Option, None, Some, IsSome, option_map, option_and_then, if◌then◌else◌}
 use Rattle.std.specs.List.{AllByRecursion}
 use Rattle.std.proofs.Common.{sym, ◌∙◌, ap, subst, refl, arith}
 use Rattle.std.proofs.lemmas.Bool.{eq-eqb}
 use Rattle.std.proofs.lemmas.List.{length-map}
 use Rattle.std.proofs.lemmas.Option.{none-some, slice_get_within, slice_get-map, slice_get-get_or}
-use Rattle.hg_base.specs.Content.{Object, row_object, directory, Objects, placed, address_of, addresses_in, Standing, locked, unlocked, draining, Heap}
-use Rattle.hg_base.specs.HeapContent.{object_at, named_by, links_of, link_of, words_of}
+use Rattle.hg_base.specs.Content.{Object, row_object, directory, Objects, placed, address_of, Standing, locked, unlocked, draining, Heap}
+use Rattle.hg_base.specs.HeapContent.{object_at, links_of, link_of, words_of}
 use Rattle.hg_base.specs.HeapFacts.{LeadsBelow, IsObject, AreObjects, AreWellPlaced, IsStanding, IsHeap, AreHeaps}
 use Rattle.hg_base.specs.HeapPage.{link_word}
 use Rattle.hg_base.specs.HeapStates.{of_locked, standing_of, standing_with, with_standing, with_objects, IsLocked, IsWordAt, HasWord, roots_in, words_in}

@@ -16,11 +16,11 @@
 #[cfg(test)]
 mod tests;
 
-ghost use Rattle.std.specs.Prelude.{◌≡◌, ◌<◌, ◌≤◌, ◌%◌, ◌↔◌, length, None, IsOk, IfSome, OnOk, OnErr};
+ghost use Rattle.std.specs.Prelude.{◌≡◌, ◌<◌, ◌≤◌, ◌%◌, ◌↔◌, [], length, None, Some, IsOk, IfSome, OnOk, OnErr};
 ghost use Rattle.hg_base.specs.Content.{row_object, object_size};
 ghost use Rattle.hg_base.specs.HeapFacts.{AreHeaps};
 ghost use Rattle.hg_base.specs.HeapStates.{IsLocked, IsTarget, KeepsObjects, room_in, payload_in};
-ghost use Rattle.hg_hash.specs.Buckets.{HasBuckets, NoRows, OnlyObjects, OtherBuckets, KeepsPayloads, buckets_in, bucket_in, chain_in, in_front};
+ghost use Rattle.hg_hash.specs.Buckets.{HasBuckets, NoRows, OnlyObjects, OtherBuckets, KeepsPayloads, KeepsChains, OnlyRows, buckets_in, bucket_in, chain_in, in_front};
 ghost use Rattle.hg_hash.specs.Following.{IsNewest};
 
 use hg_base::{Addr, HeapNo, Heaps, NoRoom, Request};
@@ -39,6 +39,7 @@ pub fn make_directory<H: Heaps>(heaps: &mut H, h: HeapNo) -> Result<(), NoRoom>
     ensures room { IsOk result ↔ IfSome (room_in (H.state heaps.old) h.0) (λ free. 2064 ≤ free) }
     ensures buckets { OnOk result (HasBuckets (H.state heaps.new) h.0) }
     ensures empty { OnOk result (NoRows (H.state heaps.new) h.0) }
+    ensures only_rows { OnOk result (OnlyRows (H.state heaps.new) h.0) }
     ensures kept { KeepsObjects (H.state heaps.old) (H.state heaps.new) h.0 }
     ensures only { OnOk result (OnlyObjects (H.state heaps.old) (H.state heaps.new) h.0) }
     ensures err { OnErr result (H.state heaps.new ≡ H.state heaps.old) }
@@ -74,7 +75,10 @@ pub fn add<H: Heaps>(heaps: &mut H, h: HeapNo, hash: u64, payload: &[u8]) -> Res
     ensures others { OnOk result (OtherBuckets (H.state heaps.old) (H.state heaps.new) h.0
         (hash % 256)) }
     ensures buckets { OnOk result (HasBuckets (H.state heaps.new) h.0) }
+    ensures only_rows { OnOk result (OnlyRows (H.state heaps.old) h.0
+        → OnlyRows (H.state heaps.new) h.0) }
     ensures rows { KeepsPayloads (H.state heaps.old) (H.state heaps.new) h.0 }
+    ensures chains { KeepsChains (H.state heaps.old) (H.state heaps.new) h.0 }
     ensures only { OnOk result (OnlyObjects (H.state heaps.old) (H.state heaps.new) h.0) }
     ensures err { OnErr result (H.state heaps.new ≡ H.state heaps.old) }
 {
@@ -96,6 +100,9 @@ pub fn first<H: Heaps>(heaps: &H, h: HeapNo, hash: u64) -> Addr
         ≡ bucket_in (H.state heaps.now) h.0 (hash % 256) }
     ensures newest { IfSome (bucket_in (H.state heaps.now) h.0 (hash % 256)) (λ rows. IsNewest
         (payload_in (H.state heaps.now) h.0 result.word) rows) }
+    ensures nil { result.word ≡ 0 → bucket_in (H.state heaps.now) h.0 (hash % 256) ≡ Some [] }
+    ensures empty { OnlyRows (H.state heaps.now) h.0
+        → bucket_in (H.state heaps.now) h.0 (hash % 256) ≡ Some [] → result.word ≡ 0 }
     ensures target { IsTarget (H.state heaps.now) h.0 result.word }
 {
     learn_heaps(heaps);
