@@ -19,5 +19,7 @@
 mod handing;
 mod heap;
 mod moving;
+#[cfg(test)]
+mod tests;
 
 pub use heap::{Heap, Locked};
