@@ -13,11 +13,18 @@
 //!   locked     one chain of frames; an address is frame * 4096 + offset
 //! ```
 //!
-//! It stands on the pool, the raw frames, and the rewriting of pages.
+//! The frames of a locked heap are in one chain, in the order of its pages, so the bytes at an address are
+//! found from the number of its frame alone, with no walk over pages or frames. The map of frames is a list
+//! here, in which each page is looked up once.
+//!
+//! It stands on the pool, the raw frames, and the rewriting of pages. The contract that the layer above
+//! uses is that of [`Heap::lock`]: the objects of the heap, whatever they are, stand in the new frames.
 #![tactic(auto)]
 
 mod handing;
 mod heap;
 mod moving;
+#[cfg(test)]
+mod tests;
 
 pub use heap::{Heap, Locked};

@@ -22,7 +22,12 @@ const FRAME: usize = 4;
 
 /// Looks whether bytes are a heap's page that no other page of the heap stood beside, and notes that the
 /// frame in which it stood leads to the one in which it stands. Gives whether these differ.
-fn read_page(page: &[u8], now_in: FrameNo, no: u32, map: &mut MoveMap) -> Result<bool, PageFault>
+pub(crate) fn read_page(
+    page: &[u8],
+    now_in: FrameNo,
+    no: u32,
+    map: &mut MoveMap,
+) -> Result<bool, PageFault>
     requires below { now_in.0 < map.old.max }
     requires none_leads { leads_to map.old.entries now_in.0 ≡ false }
     ensures max { map.new.max ≡ map.old.max }
