@@ -88,3 +88,7 @@ module _ (name : List ℕ) where
   -- binding looks at no row
   pub no_rows : (c : Contents) → rows_of (table_named (tables_of c) name) ≡ []
   no_rows c = ap rows_of (named c.tables) ∙ rows_gone (slice_get c.tables (position_or_len has c.tables))
+
+  -- the table of that number is the one of that name
+  pub number_is : (c : Contents) (n : ℕ) → table_number c name ≡ Some n → slice_get (tables_of c) n ≡ table_named (tables_of c) name
+  number_is c n is = slice_get-map table_of c.tables n ∙ sym (named c.tables ∙ ap (λ k. option_map table_of (slice_get c.tables k)) (found _ _ n is).0)

@@ -1,3 +1,5 @@
 pub mod Bound
-pub mod From
+pub mod BoundSelect
 pub mod Kinds
+pub mod Laws
+pub mod Selecting

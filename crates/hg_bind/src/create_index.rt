@@ -73,7 +73,7 @@ fn repeated(names: &[Name]) -> Option<BindError>
 }
 
 /// The declared length of a value of a type.
-fn type_length(ty: SqlType) -> usize
+pub fn type_length(ty: SqlType) -> usize
     ensures value { result ≡ type_length ty }
     ensures small { result ≤ 257 }
 {

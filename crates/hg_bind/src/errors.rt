@@ -1,6 +1,6 @@
 //! Why a statement is refused.
 ghost use Rattle.std.specs.Prelude.{◌≡◌};
-ghost use Rattle.hg_model.specs.Refusal.{UnknownTable, UnknownColumn, AmbiguousColumn, NameTaken, TypeMismatch, TooWide, TooMany, NotGrouped, KeyTooLong};
+ghost use Rattle.hg_model.specs.Refusal.{UnknownTable, UnknownColumn, AmbiguousColumn, NameTaken, TypeMismatch, TooWide, TooMany, NotGrouped, BadNumber, RowTooLong, KeyTooLong};
 ghost use Rattle.hg_bind.specs.Bound.{error_of};
 
 use hg_model::{ColRef, Count, Name};
@@ -110,4 +110,17 @@ pub fn not_grouped() -> BindError
     ensures { result ≡ error_of NotGrouped }
 {
     without_words(10)
+}
+
+/// A position in ORDER BY that is none of an output.
+pub fn bad_number() -> BindError
+    ensures { result ≡ error_of BadNumber }
+{
+    without_words(22)
+}
+
+pub fn row_too_long() -> BindError
+    ensures { result ≡ error_of RowTooLong }
+{
+    without_words(23)
 }

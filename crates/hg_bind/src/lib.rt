@@ -1,20 +1,34 @@
 //! The binder: it gives each name of a statement its table and its column, or answers the first cause
 //! against the statement, in the one order of refusals. What it answers is what the definitions of
 //! `hg_model` say over the tables of the catalog. It stands on `hg_catalog` and `hg_model` (and `hg_base`
-//! and `arrayvec`) alone. The contract that the layers above use is that of [`bind_insert`],
-//! [`bind_update`] and [`bind_delete`]: the bound form where nothing stands against the statement, and
-//! else the first cause, with its name and kind. [`refuse_table`] and [`place_index`] do the same for
-//! CREATE. Of a SELECT this crate resolves the names in FROM ([`place_of_name`]); the rest is not here yet.
+//! and `arrayvec`) alone. The contract that the layers above use is that of [`bind_select`],
+//! [`bind_insert`], [`bind_update`] and [`bind_delete`]: the bound form where nothing stands against the
+//! statement, and else the first cause, with its name and kind. [`refuse_columns`] and [`place_key`] do the
+//! same for CREATE.
 //!
 //! ```text
-//! statement -- the table's name, by hashing --> number of the table, or 3
-//!           -- names of columns, in order of text --> number of each column, or 4, 5 or 8
+//! statement -- the tables' names, by hashing --> numbers of the tables, or 3
+//!           -- aliases of FROM, a star's columns --> or 8, or 9
+//!           -- names of columns, in order of text --> place of each column, or 4, 5 (of a change also 8)
+//!           -- positions in ORDER BY --> or 22
 //!           -- kinds, front to back, once a node --> a fit, or 6
-//!           -- aggregates, and then widths, once a node --> bound, or 10 or 7
+//!           -- aggregates and grouping columns, once a node --> or 10
+//!           -- widths, once a node --> or 7
+//!           -- declared lengths, once a node --> bound, or 23
+//! ```
+//!
+//! In the bound form of a SELECT no name is looked at again ([`bound_selects_need_no_names`]):
+//!
+//! ```text
+//! SELECT * FROM t, w ORDER BY b        t (k, v), w (a, b)
+//!     nodes    b     t.k    t.v    w.a    w.b        the star written out behind the nodes of the line
+//!     places   none  (0,0)  (0,1)  (1,0)  (1,1)      table in FROM, column; (255, 255) is none
+//!     outputs        0      1      2      3
+//!     order    position 4                            a name that is an output: its node is NULL now
 //! ```
 //!
 //! A statement is 37 KB, so it is looked at where it lies: the calls by value are thin edges over ones that
-//! take it by reference and fill lists that the caller keeps. Binding takes no memory.
+//! take it, or its parts, by reference and fill lists that the caller keeps. Binding takes no memory.
 #![tactic(auto)]
 
 mod columns;
@@ -23,11 +37,18 @@ mod create_index;
 mod delete;
 mod errors;
 mod from;
+mod grouping;
 mod insert;
 mod kinds;
+mod laws;
+mod lengths;
+mod names;
 mod nodes;
+mod scope;
+mod select;
 #[cfg(test)]
 mod tests;
+mod typing;
 mod update;
 mod width;
 
@@ -35,7 +56,8 @@ pub use create::{refuse_columns, refuse_table};
 pub use create_index::{place_index, place_key};
 pub use delete::{BoundDelete, bind_delete, place_delete, place_filter};
 pub use errors::BindError;
-pub use from::{place_in_from, place_of_name};
 pub use insert::{BoundInsert, bind_insert, place_insert, place_values};
+pub use laws::bound_selects_need_no_names;
 pub use nodes::Places;
+pub use select::{BoundSelect, bind_select, place_select};
 pub use update::{BoundUpdate, bind_update, place_sets, place_update};

@@ -106,7 +106,7 @@ pub fn list_kinds(
 }
 
 /// Whether an aggregate stands among the nodes.
-fn has_aggregate(nodes: &[Node]) -> bool
+pub fn has_aggregate(nodes: &[Node]) -> bool
     ensures { result ≡ list_any is_aggregate nodes.now }
 {
     for node in nodes {

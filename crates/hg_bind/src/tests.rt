@@ -3,15 +3,13 @@
 ghost use Rattle.std.specs.Prelude.{◌≡◌, [], ◌∷◌, codes, false, IfOk, length};
 ghost use Rattle.hg_catalog.specs.Contents.{IsNewTable};
 
-use crate::{
-    BindError, bind_delete, bind_insert, bind_update, place_in_from, place_index, refuse_table,
-};
+use crate::{BindError, bind_delete, bind_insert, bind_update, place_index, refuse_table};
 use arrayvec::ArrayVec;
 use hg_base::NoMemory;
 use hg_catalog::Catalog;
 use hg_model::{
-    Cmp, ColRef, Column, Delete, Fold, FromTable, Insert, Literal, Name, NewColumn, NewIndex,
-    NewTable, Node, Nodes, Op, Span, SqlType, Update,
+    Cmp, ColRef, Column, Delete, Fold, Insert, Literal, Name, NewColumn, NewIndex, NewTable, Node,
+    Nodes, Op, Span, SqlType, Update,
 };
 use std::alloc::Global;
 use std::process::Abort;
@@ -312,50 +310,6 @@ fn new_indexes(rt: HostRuntime) -> Result<(), Fail> {
             Err(error) => error.code,
         };
         assert_eq!(rt; said, code);
-    }
-    Ok(())
-}
-
-fn from_table(rt: &impl Abort, table: &str, alias: &str) -> FromTable {
-    FromTable {
-        table: name(rt, table),
-        alias: name(rt, alias),
-        on: None,
-    }
-}
-
-#[test]
-fn names_in_from(rt: HostRuntime) -> Result<(), Fail> {
-    let catalog = catalog(rt.alloc()).ok().ok_or("memory")?;
-    let froms = [
-        from_table(&rt, "t", "x"),
-        from_table(&rt, "t", "y"),
-        from_table(&rt, "w", "w"),
-    ];
-    let cases: [(Option<&str>, &str, u8, Result<(u8, u8), u8>); 8] = [
-        (None, "k", 3, Err(5)),
-        (None, "k", 1, Ok((0, 0))),
-        (Some("x"), "v", 3, Ok((0, 1))),
-        (Some("y"), "v", 2, Ok((1, 1))),
-        (Some("y"), "v", 1, Err(4)),
-        (None, "b", 3, Ok((2, 1))),
-        (None, "b", 2, Err(4)),
-        (Some("t"), "k", 3, Err(4)),
-    ];
-    for (table, column, seen, answer) in cases {
-        let table = match table {
-            Some(table) => Some(name(&rt, table)),
-            None => None,
-        };
-        let reference = ColRef {
-            table,
-            name: name(&rt, column),
-        };
-        match (place_in_from(&froms, seen, &catalog, &reference), answer) {
-            (Ok(place), Ok(right)) => assert_eq!(rt; place, right),
-            (Err(error), Err(code)) => assert_eq!(rt; error.code, code),
-            _ => panic!(rt; "{column} with {seen} tables"),
-        }
     }
     Ok(())
 }
