@@ -107,3 +107,8 @@ none_names (node.Aggregate f a ∷ ns) h (p ∷ ps) = absurd cc
 
 pub no_aggregates_stand : NoAggregatesStand
 no_aggregates_stand nodes h = (none_behind nodes h, none_names nodes h)
+
+-- a small row fits nodes without aggregates
+pub plain_row_fits : (nodes : List Node) (slots : List ℕ) (row : List Value) → length slots ≡ length nodes → is_small_row row ≡ true
+    → list_any is_aggregate nodes ≡ false → RowFits nodes slots row
+plain_row_fits nodes slots row same small none = rows_fit nodes slots row same small (none_behind nodes none (length row) slots)

@@ -18,6 +18,8 @@ mod evaluation;
 mod laws;
 mod logic;
 mod slots;
+#[cfg(test)]
+mod tests;
 
 pub use edges::{eval, test};
 pub use evaluation::Evaluation;

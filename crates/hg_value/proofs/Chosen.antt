@@ -1,14 +1,12 @@
 -- Columns put one by one behind a row's values.
-use Rattle.std.proofs.Common.{◌≡◌, ℕ, zero, suc, ◌+◌, ◌<◌, ◌≤◌, List, [], ◌∷◌, ◌++◌, length, take, drop, get_or, refl, sym, ap, ◌∙◌, subst, arith, append_assoc, append-nil, length-append, Some}
+use Rattle.std.proofs.Common.{◌≡◌, ℕ, zero, suc, ◌≤◌, List, [], ◌∷◌, ◌++◌, length, take, drop, refl, sym, ap, ◌∙◌, arith, append_assoc, append-nil, length-append, Some}
 use Rattle.std.specs.Prelude.{slice_get}
-use Rattle.std.specs.List.{AllByRecursion}
 use Rattle.std.proofs.lemmas.List.{take_at}
 use Rattle.std.proofs.lemmas.Grind.{flat_map-append}
 use Rattle.hg_model.specs.Evaluation.{value_at}
 use Rattle.hg_model.specs.declared.values.Value.{Value}
-use Rattle.hg_model.specs.declared.values.Value.TheVariants.{Null}
 use Rattle.hg_value.specs.Choosing.{HasRoomFor}
-use Rattle.hg_value.specs.Coding.{coding, coded, HasRoom, IsStorable}
+use Rattle.hg_value.specs.Coding.{coding, coded, HasRoom}
 use Rattle.hg_value.specs.Looks.{chosen}
 use Rattle.hg_value.specs.RowParts.{decoded, IsCoding}
 use Rattle.hg_value.proofs.Codings.{decoded-coding}

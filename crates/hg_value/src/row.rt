@@ -1,4 +1,10 @@
-//! Rows.
+//! Rows: the bytes of the values one behind the other, and beside them where each value ends, so that a
+//! value is found without walking over those before it.
+//!
+//! ```text
+//! bytes   01 05 00 00 00   02 02 61 62   00       5, 'ab', NULL
+//! ends                 5             9   10
+//! ```
 ghost use Rattle.std.specs.Prelude.{◌≡◌, ◌<◌, ◌≤◌, length, slice_get, Some};
 ghost use Rattle.hg_value.specs.RowParts.{begin_from, row_values, decoded, AreParts, IsCoding};
 

@@ -1,4 +1,4 @@
-use Rattle.std.proofs.Common.{◌-◌, ◌≤◌, sym, ap, ◌∙◌, subst, take, drop, get_or, Some, arith, length}
+use Rattle.std.proofs.Common.{◌-◌, sym, ap, ◌∙◌, subst, take, drop, get_or, Some, arith, length}
 use Rattle.hg_value.specs.RowParts.{decoded, IsCoding}
 use Rattle.hg_value.proofs.Rows.{place_in, value_is}
 use Rattle.hg_value.proofs.row.coding_among.Goals as goal

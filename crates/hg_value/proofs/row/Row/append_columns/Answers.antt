@@ -1,4 +1,4 @@
-use Rattle.std.proofs.Common.{◌≡◌, ◌<◌, ◌∷◌, ◌++◌, ◌+◌, ℕ, [], length, drop, get_or, sym, ap, ◌∙◌, subst, append-nil, arith, refl}
+use Rattle.std.proofs.Common.{◌≡◌, ◌<◌, ◌∷◌, ◌+◌, ℕ, [], length, drop, get_or, sym, ◌∙◌, subst, append-nil, arith}
 use Rattle.std.specs.List.{AllByRecursion}
 use Rattle.std.proofs.lemmas.List.{at_drop_more}
 use Rattle.hg_value.specs.RowParts.{row_values, IsCoding}

@@ -1,7 +1,6 @@
-use Rattle.std.proofs.Common.{◌≡◌, ◌++◌, ◌∷◌, [], true, false}
+use Rattle.std.proofs.Common.{◌≡◌, [], true, false}
 use Rattle.hg_model.specs.Tables.{fits_integer}
 use Rattle.hg_model.specs.declared.values.Value.TheVariants.{Int}
-use Rattle.hg_value.specs.Coding.{coding}
 use Rattle.hg_value.proofs.Codings.{told, written_narrow, written_wide}
 use Rattle.hg_value.proofs.row.Row.push_int.Goals as goal
 

@@ -1,4 +1,4 @@
-use Rattle.std.proofs.Common.{◌<◌, ◌≤◌, sym, ap, ◌∙◌, take, length, arith}
+use Rattle.std.proofs.Common.{sym, ap, ◌∙◌, take, length, arith}
 use Rattle.std.proofs.lemmas.List.{take_all}
 use Rattle.hg_value.specs.RowParts.{begin_from}
 use Rattle.hg_value.proofs.Rows.{cutting, length-values}
