@@ -5,3 +5,4 @@ mod Codings
 mod Beginnings
 mod Rows
 mod Reading
+mod Chosen

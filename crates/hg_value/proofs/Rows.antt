@@ -1,5 +1,5 @@
 -- A row shows the values whose codings are its bytes.
-use Rattle.std.proofs.Common.{◌≡◌, ℕ, zero, suc, ◌+◌, ◌-◌, ◌<◌, ◌≤◌, List, [], ◌∷◌, ◌++◌, length, take, drop, get_or, refl, sym, ap, ◌∙◌, subst, arith, append_assoc, append-nil, length-append, Some}
+use Rattle.std.proofs.Common.{◌≡◌, ℕ, zero, suc, ◌+◌, ◌-◌, ◌<◌, ◌≤◌, List, [], ◌∷◌, ◌++◌, length, take, drop, get_or, refl, sym, ap, ◌∙◌, subst, arith, append_assoc, append-nil, length-append, length-take, take-append-drop, Some}
 use Rattle.std.specs.Prelude.{slice_get}
 use Rattle.std.specs.List.{AllByRecursion}
 use Rattle.std.proofs.lemmas.List.{take_at, drop_at}
@@ -139,3 +139,47 @@ pub room_means : (ends bytes : List ℕ) (vs : List Value) (v : Value) → ArePa
 room_means ends bytes vs v p is r =
     let s : HasRoom (row_values ends bytes) v = subst (λ ws. HasRoom ws v) (sym is) r in
     (omega (arith, length-values 0 ends bytes, s.place), omega (arith, ap length p.spelled, s.bytes))
+
+-- ---- fewer values
+
+begin_of : (vs : List Value) (at k : ℕ) → k < length vs → begin_from at (ends_from at vs) k ≡ at + length (coded (take k vs))
+begin_of [] at k lt = absurd (omega arith)
+begin_of (v ∷ vs) at zero lt = omega arith
+begin_of (v ∷ vs) at (suc zero) lt = omega (arith, length-append (coding v) [])
+begin_of (v ∷ vs) at (suc (suc k)) lt =
+    begin_of vs (at + length (coding v)) (suc k) (omega arith) ∙ omega (arith, length-append (coding v) (coded (take (suc k) vs)))
+
+ends-take : (vs : List Value) (at k : ℕ) → take k (ends_from at vs) ≡ ends_from at (take k vs)
+ends-take vs at zero = refl
+ends-take [] at (suc k) = refl
+ends-take (v ∷ vs) at (suc k) = ap (λ es. (at + length (coding v)) ∷ es) (ends-take vs (at + length (coding v)) k)
+
+held-take : (vs : List Value) (k : ℕ) → AllByRecursion IsHeld vs → AllByRecursion IsHeld (take k vs)
+held-take vs zero h = tt
+held-take [] (suc k) h = tt
+held-take (v ∷ vs) (suc k) h = (h.0, held-take vs k h.1)
+
+coded-parts : (vs : List Value) (k : ℕ) → coded vs ≡ coded (take k vs) ++ coded (drop k vs)
+coded-parts vs k = ap coded (sym (take-append-drop k vs)) ∙ flat_map-append coding (take k vs) (drop k vs)
+
+pub record Cuts (ends bytes new_ends new_bytes : List ℕ) (k : ℕ) : Type 0 where
+  pub parts : AreParts new_ends new_bytes
+  pub shown : row_values new_ends new_bytes ≡ take k (row_values ends bytes)
+
+pub cutting : (ends bytes new_ends new_bytes : List ℕ) (k : ℕ) → AreParts ends bytes → k < length ends
+    → new_ends ≡ take k ends → new_bytes ≡ take (begin_from 0 ends k) bytes → Cuts ends bytes new_ends new_bytes k
+cutting ends bytes new_ends new_bytes k p lt e b =
+    let vs = row_values ends bytes in
+    let few : k < length vs = omega (arith, length-values 0 ends bytes) in
+    let begin : begin_from 0 ends k ≡ length (coded (take k vs)) =
+    ap (λ es. begin_from 0 es k) p.placed ∙ begin_of vs 0 k few ∙ omega arith in
+    let bs : new_bytes ≡ coded (take k vs) =
+    b ∙ (λ i. take (begin i) (p.spelled i)) ∙ ap (take (length (coded (take k vs)))) (coded-parts vs k)
+    ∙ take_at (coded (take k vs)) (coded (drop k vs)) (length (coded (take k vs))) refl in
+    let es : new_ends ≡ ends_from 0 (take k vs) = e ∙ ap (take k) p.placed ∙ ends-take vs 0 k in
+    let s : IsStorable (take k vs) = record {
+      few = omega (arith, p.storable.few, length-take k vs);
+      held = held-take vs k p.storable.held;
+      short = omega (arith, p.storable.short, ap length (coded-parts vs k), length-append (coded (take k vs)) (coded (drop k vs)));
+    } in
+    record { parts = parts_of (take k vs) new_ends new_bytes s bs es; shown = row_shown (take k vs) new_ends new_bytes s.held bs es }

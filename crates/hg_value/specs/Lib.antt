@@ -4,3 +4,5 @@ pub mod Keys
 pub mod Hashing
 pub mod Laws
 pub mod RowParts
+pub mod Looks
+pub mod Choosing

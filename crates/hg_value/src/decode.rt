@@ -7,7 +7,7 @@ ghost use Rattle.hg_value.specs.Coding.{IsNoRow};
 ghost use Rattle.hg_value.specs.RowParts.{narrow_number, wide_number, decoded, IsCoding, BeginsWith, BeginsWithNone, AreEnds};
 
 use crate::encode::{NARROW, NULL, TEXT, WIDE, is_narrow};
-use arrayvec::ArrayVec;
+use crate::room::Places;
 use hg_model::{Chars, Value};
 
 /// The value that bytes spell.
@@ -26,7 +26,7 @@ pub fn decode(bytes: &[u8]) -> Value
 
 /// The number that four bytes spell.
 #[tactic(auto, unfolding(crate::specs::RowParts::narrow_number))]
-fn narrow_number(b: &[u8]) -> i128
+pub fn narrow_number(b: &[u8]) -> i128
     requires { length b.now ≡ 4 }
     ensures { result ≡ narrow_number b.now }
 {
@@ -35,7 +35,7 @@ fn narrow_number(b: &[u8]) -> i128
 
 /// The number that sixteen bytes spell.
 #[tactic(auto, unfolding(crate::specs::RowParts::wide_number))]
-fn wide_number(b: &[u8]) -> i128
+pub fn wide_number(b: &[u8]) -> i128
     requires { length b.now ≡ 16 }
     ensures { result ≡ wide_number b.now }
 {
@@ -113,11 +113,11 @@ fn all_printable(bytes: &[u8]) -> bool
 }
 
 /// Finds where the `n` values end that bytes are. False where they are no row of `n` values.
-pub fn read_ends(bytes: &[u8], n: u8, ends: &mut ArrayVec<u16, 64>) -> bool
+pub fn read_ends(bytes: &[u8], n: u8, ends: &mut Places) -> bool
     requires few { n ≤ 64 }
     requires short { length bytes.now ≤ 3900 }
-    requires empty { ends.old.items ≡ [] }
-    ensures found { OnTrue result (AreEnds n bytes.now ends.new.items) }
+    requires empty { ends.old ≡ [] }
+    ensures found { OnTrue result (AreEnds n bytes.now ends.new) }
     ensures none { OnFalse result (IsNoRow n bytes.now) }
 {
     let mut rest = bytes;

@@ -4,18 +4,23 @@
 //! by byte as values do ([`index_keys_compare`], [`keys_compare`]). Nothing here takes memory.
 #![tactic(auto)]
 
+mod columns;
 mod decode;
 mod encode;
 mod hashing;
 mod keys;
 mod laws;
+mod look;
 mod order;
+mod room;
 mod row;
 #[cfg(test)]
 mod tests;
 
+pub use columns::Unread;
 pub use hashing::hash;
 pub use keys::{push_index_key, push_key};
 pub use laws::{codings_tell, index_keys_compare, keys_are_as_long, keys_compare};
+pub use look::Look;
 pub use order::compare;
 pub use row::Row;

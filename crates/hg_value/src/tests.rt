@@ -1,6 +1,6 @@
 //! Tables of bytes: rows that are read and refused, a row that is filled, keys, and hashes.
 
-use crate::{Row, compare, hash, push_index_key, push_key};
+use crate::{Look, Row, Unread, compare, hash, push_index_key, push_key};
 use arrayvec::ArrayVec;
 use hg_base::NoRoom;
 use hg_model::{Chars, Value};
@@ -192,5 +192,65 @@ fn hashes(rt: HostRuntime) -> Result<(), Fail> {
     assert_eq!(rt; hash(b""), 0xcbf29ce484222325);
     assert_eq!(rt; hash(b"a"), 0xaf63dc4c8601ec8c);
     assert_eq!(rt; hash(b"foobar"), 0x85944171f73967e8);
+    Ok(())
+}
+
+#[test]
+fn a_row_is_filled_in_place(rt: HostRuntime) -> Result<(), Fail> {
+    let mut row = Row::new();
+    assert!(rt; row.push_text(b"ab").is_ok());
+    assert!(rt; row.push_int(-1).is_ok());
+    assert!(rt; row.push_null().is_ok());
+    assert!(rt; row.push_int(1 << 40).is_ok());
+    assert!(rt; row.push_look(&Look::Text(b"c")).is_ok());
+    assert_eq!(rt; row.len(), 5);
+    assert!(rt;
+        row.bytes()
+            == [
+                2, 2, 97, 98, 1, 255, 255, 255, 255, 0, 3, 0, 0, 0, 0, 0, 1, 0, 0, 0, 0, 0, 0, 0,
+                0, 0, 0, 2, 1, 99
+            ]
+    );
+    row.truncate(2);
+    assert!(rt; row.bytes() == [2, 2, 97, 98, 1, 255, 255, 255, 255]);
+    row.truncate(3);
+    assert_eq!(rt; row.len(), 2);
+    row.truncate(0);
+    assert!(rt; row.is_empty());
+    Ok(())
+}
+
+#[test]
+fn values_are_looked_at(rt: HostRuntime) -> Result<(), Fail> {
+    let row = Row::read(&[2, 2, 97, 98, 1, 255, 255, 255, 255, 0], 3).ok_or("no row")?;
+    if row.len() == 3 {
+        assert!(rt; matches!(row.look(0), Look::Text(b"ab")));
+        assert!(rt; matches!(row.look(1), Look::Int(-1)));
+        assert!(rt; matches!(row.look(2), Look::Null));
+    }
+    Ok(())
+}
+
+#[test]
+fn columns_are_chosen(rt: HostRuntime) -> Result<(), Fail> {
+    let mut row = Row::new();
+    let stored = [2, 2, 97, 98, 1, 255, 255, 255, 255, 0];
+    assert!(rt; row.push_null().is_ok());
+    assert_eq!(rt; row.push_columns(&stored, 3, &[0, 2]), Ok(()));
+    assert!(rt; row.bytes() == [0, 2, 2, 97, 98, 0]);
+    assert_eq!(rt; row.push_columns(&stored, 3, &[1]), Ok(()));
+    assert!(rt; row.bytes() == [0, 2, 2, 97, 98, 0, 1, 255, 255, 255, 255]);
+    // a value too many, and a form that there is not
+    assert_eq!(rt; row.push_columns(&stored, 2, &[0]), Err(Unread::NoRow));
+    assert_eq!(rt; row.push_columns(&[4], 1, &[0]), Err(Unread::NoRow));
+    assert_eq!(rt; row.len(), 4);
+    for _ in 0..59 {
+        assert!(rt; row.push_null().is_ok());
+    }
+    // one place is left: of two columns none is put
+    assert_eq!(rt; row.push_columns(&stored, 3, &[2, 1]), Err(Unread::NoRoom));
+    assert_eq!(rt; row.len(), 63);
+    assert_eq!(rt; row.push_columns(&stored, 3, &[2]), Ok(()));
+    assert_eq!(rt; row.len(), 64);
     Ok(())
 }

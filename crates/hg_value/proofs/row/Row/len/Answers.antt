@@ -4,4 +4,4 @@ use Rattle.hg_value.proofs.row.Row.len.Goals as goal
 
 pub returns-clause-count : goal.returns-clause-count
 returns-clause-count c =
-    c.len.ensures.value ∙ sym (length-values 0 c.self.inside.ends.items c.self.inside.bytes.items) ∙ ap length c.self.view_is
+    c.len.ensures.value ∙ sym (length-values 0 c.self.inside.ends c.self.inside.bytes) ∙ ap length c.self.view_is

@@ -1,19 +1,18 @@
-use Rattle.std.proofs.Common.{◌≡◌, [], sym, ap, ◌∙◌, subst, refl, arith}
-use Rattle.std.proofs.lemmas.Grind.{common_steps}
+use Rattle.std.proofs.Common.{◌≡◌, [], ◌++◌, sym, ap, ◌∙◌, subst, refl}
 use Rattle.hg_value.specs.Coding.{coded, IsRowOf}
 use Rattle.hg_value.proofs.Reading.{IsRead, is_read}
 use Rattle.hg_value.proofs.row.Row.read_into.Goals as goal
-use Rattle.hg_value.proofs.row.Row.read_into.Goals.{After-try_extend_from_slice}
+use Rattle.hg_value.proofs.row.Row.read_into.Goals.{After-put}
 
-all_bytes : (c : After-try_extend_from_slice) → c.try_extend_from_slice.new.self.items ≡ c.args.bytes.now
+all_bytes : (c : After-put) → c.put.new.self ≡ c.args.bytes.now
 all_bytes c =
-    let none : c.self.inside.bytes.items ≡ [] = c.self.invariant.spelled ∙ ap coded (c.self.view_is ∙ c.clear.ensures) in
-    grind (arith, common_steps)
+    let none : c.self.inside.bytes ≡ [] = c.self.invariant.spelled ∙ ap coded (c.self.view_is ∙ c.clear.ensures) in
+    c.put.ensures ∙ ap (λ bs. bs ++ c.args.bytes.now) none
 
-whole : (c : After-try_extend_from_slice) → IsRead c.args.n c.try_extend_from_slice.new.self.items c.read_ends.new.ends.items
+whole : (c : After-put) → IsRead c.args.n c.put.new.self c.read_ends.new.ends
 whole c =
-    subst (λ bs. IsRead c.args.n bs c.read_ends.new.ends.items) (sym (all_bytes c))
-    (is_read c.args.n c.args.bytes.now c.read_ends.new.ends.items (c.if-not-read_ends.ensures).found)
+    subst (λ bs. IsRead c.args.n bs c.read_ends.new.ends) (sym (all_bytes c))
+    (is_read c.args.n c.args.bytes.now c.read_ends.new.ends (c.if-not-read_ends.ensures).found)
 
 pub invariant_of-self-2 : goal.invariant_of-self-2
 invariant_of-self-2 c = (whole c).parts
