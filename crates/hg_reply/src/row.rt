@@ -6,10 +6,10 @@ ghost use Rattle.arrayvec.specs.ArrayVec.{array_vec_len};
 ghost use Rattle.hg_machine.specs.Plain.Replies as said;
 ghost use Rattle.hg_reply.specs.Plain.{name_of};
 ghost use Rattle.hg_value.specs.Coding.{coding};
+ghost use Rattle.hg_value.specs.Looks.{value_of};
 
 use crate::lines::{Cursor, Text, put, put_word_cursor};
-use hg_model::Value;
-use hg_value::Row;
+use hg_value::{Look, Row};
 use itoa::Buffer;
 
 fn put_signed(out: &mut Text, number: i128)
@@ -47,23 +47,23 @@ fn put_quoted(out: &mut Text, text: &[u8])
     put(out, b"'");
 }
 
-fn put_value(out: &mut Text, value: &Value)
-    requires room { array_vec_len out.old + 3 * length (coding value.now) + 40 ≤ 16384 }
-    ensures text { out.new.items ≡ out.old.items ++ said.value_text value.now }
-    ensures short { array_vec_len out.new ≤ array_vec_len out.old + 3 * length (coding value.now) + 40 }
+fn put_value(out: &mut Text, value: &Look)
+    requires room { array_vec_len out.old + 3 * length (coding (value_of value.now)) + 40 ≤ 16384 }
+    ensures text { out.new.items ≡ out.old.items ++ said.value_text (value_of value.now) }
+    ensures short { array_vec_len out.new ≤ array_vec_len out.old + 3 * length (coding (value_of value.now)) + 40 }
 {
     match value {
-        Value::Null => put(out, b"NULL"),
-        Value::Int(number) => put_signed(out, *number),
-        Value::Text(text) => put_quoted(out, text.as_str().as_bytes()),
+        Look::Null => put(out, b"NULL"),
+        Look::Int(number) => put_signed(out, *number),
+        Look::Text(text) => put_quoted(out, text),
     }
 }
 
 /// A comma and a value behind it.
-fn put_next_value(out: &mut Text, value: &Value)
-    requires room { array_vec_len out.old + 3 * length (coding value.now) + 41 ≤ 16384 }
-    ensures text { out.new.items ≡ out.old.items ++ said.next_text value.now }
-    ensures short { array_vec_len out.new ≤ array_vec_len out.old + 3 * length (coding value.now) + 41 }
+fn put_next_value(out: &mut Text, value: &Look)
+    requires room { array_vec_len out.old + 3 * length (coding (value_of value.now)) + 41 ≤ 16384 }
+    ensures text { out.new.items ≡ out.old.items ++ said.next_text (value_of value.now) }
+    ensures short { array_vec_len out.new ≤ array_vec_len out.old + 3 * length (coding (value_of value.now)) + 41 }
 {
     out.push(b',');
     put_value(out, value);
@@ -80,9 +80,9 @@ fn put_values(out: &mut Text, row: &Row)
     if count == 0 {
         return;
     }
-    put_value(out, &row.get(0));
+    put_value(out, &row.look(0));
     for place in 1..count {
-        put_next_value(out, &row.get(place));
+        put_next_value(out, &row.look(place));
     }
 }
 
