@@ -1,13 +1,5 @@
 pub mod SeenLaws
 pub mod PutLaws
-pub mod StandLaws
 pub mod Looking
-pub mod Filling
-pub mod Creating
-pub mod Stepping
-pub mod Turns
-pub mod Saying
-pub mod Inserting
-pub mod SelectSteps
+pub mod StepLaws
 pub mod FirstPage
-pub mod EngineSteps

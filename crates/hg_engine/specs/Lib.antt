@@ -2,9 +2,6 @@ pub mod Lent
 pub mod Seen
 pub mod Scanning
 pub mod Standing
+pub mod Steps
 pub mod Putting
-pub mod Named
-pub mod Stepping
 pub mod Opened
-pub mod Shown
-pub mod ShownLaws
