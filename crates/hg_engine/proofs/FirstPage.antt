@@ -12,7 +12,7 @@ use Rattle.hg_pool.specs.Work.{IsUnused}
 use Rattle.std.proofs.lemmas.Bool.{false≢true}
 use Rattle.std.proofs.lemmas.Option.{none-some}
 use Rattle.hg_machine.specs.State.{first_state}
-use Rattle.hg_engine.specs.Lent.{NoneLent}
+use Rattle.hg_dml.specs.Lent.{NoneLent}
 use Rattle.hg_engine.specs.Opened.{TakesFirst}
 use Rattle.hg_engine.specs.Standing.{Stands}
 use Rattle.hg_engine.specs.Stepping.{TablesAre}

@@ -1,5 +1,5 @@
-pub mod SeenLaws
-pub mod PutLaws
+pub mod PageLaws
+pub mod Lookups
 pub mod Looking
 pub mod StepLaws
 pub mod FirstPage

@@ -2,7 +2,7 @@
 use Rattle.std.specs.Prelude.{◌≡◌, ◌+◌}
 use Rattle.hg_base.specs.Space.{Space, NoPins, taken_in}
 use Rattle.hg_base.specs.declared.File.TheVariants.{Main}
-use Rattle.hg_engine.specs.Lent.{NoneLent}
+use Rattle.hg_dml.specs.Lent.{NoneLent}
 
 -- one page more is taken, no pin is out, and no page was lent
 pub record TakesFirst (a b : Space) : Type 0 where

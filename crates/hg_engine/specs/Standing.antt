@@ -18,9 +18,10 @@ use Rattle.hg_model.specs.declared.values.Value.{Value}
 use Rattle.hg_table.specs.Marks.{last, committed}
 use Rattle.hg_table.specs.Calls.{StandsOn}
 use Rattle.hg_table.specs.Chains.{IsChain}
-use Rattle.hg_table.specs.Versions.{Placed, IsTable}
-use Rattle.hg_engine.specs.Lent.{NoneLent}
-use Rattle.hg_engine.specs.Seen.{seen_rows, IsPast}
+use Rattle.hg_table.specs.Agreement.{IsTableOver}
+use Rattle.hg_table.specs.Versions.{Placed}
+use Rattle.hg_dml.specs.Lent.{NoneLent}
+use Rattle.hg_dml.specs.Seen.{seen_rows, IsPast}
 use Rattle.hg_engine.specs.Scanning.{Position}
 use Rattle.hg_engine.specs.declared.scan.Scan.{Scan}
 
@@ -29,7 +30,7 @@ use Rattle.hg_engine.specs.declared.scan.Scan.{Scan}
 -- the rows are those of the versions that the last stamp sees, in any order
 pub record HasRows (s : Space) (marks : List Bool) (c : CatalogTable) (t : TableState) (pages : List ℕ) : Type 0 where
   pub versions : List Placed
-  pub table : IsTable s c.pages (length c.columns) pages versions
+  pub table : IsTableOver s c.pages c.columns pages versions
   pub past : AllByRecursion (IsPast (last marks)) versions
   pub seen : IsPermutation t.table.rows (seen_rows (committed marks) (last marks) versions)
   pub count : t.versions ≡ length versions
