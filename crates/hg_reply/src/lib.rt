@@ -6,17 +6,26 @@
 //! plain machine, and a line that says that a device failed comes only where that device's count rose.
 #![tactic(auto)]
 
+mod asked;
+mod lent;
 pub mod lines;
 mod machine;
+mod old_machine;
+mod old_reply;
+mod old_row;
 mod reply;
-mod row;
 mod tokens;
 
-pub use machine::{Kind, Machine, Next, StatementRoom};
-pub use reply::{REPLY_BYTES, Reply, ReplyLine};
+pub use asked::{Asked, CommandAt, DeleteAt, IndexAt, InsertAt, SelectAt, TableAt, UpdateAt};
+pub use lent::asked_by;
+pub use lines::{Cursor, Figures, ReplyLine, Words};
+pub use machine::{Machine, Next};
+pub use old_machine::{Kind, OldMachine, StatementRoom};
+pub use old_reply::OldReplyLine;
+pub use reply::{REPLY_BYTES, Reply};
 pub use tokens::{LINE_LIMIT, TokenRoom};
 
 #[cfg(test)]
 mod lines_tests;
 #[cfg(test)]
-mod tests;
+mod old_tests;

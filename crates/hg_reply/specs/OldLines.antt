@@ -1,9 +1,9 @@
 -- The reply that a line of the engine stands for.
 use Rattle.hg_machine.specs.Reply.{Reply, created, inserted, at_end, closed, syntax_error, line_too_long, unknown_table, device_fault, main_full, damaged, stamps_used_up}
-use Rattle.hg_reply.specs.declared.reply.ReplyLine.{ReplyLine}
-use Rattle.hg_reply.specs.declared.reply.ReplyLine.TheVariants as line
+use Rattle.hg_reply.specs.declared.old_reply.OldReplyLine.{OldReplyLine}
+use Rattle.hg_reply.specs.declared.old_reply.OldReplyLine.TheVariants as line
 
-abbrev pub reply_of : ReplyLine → Reply
+abbrev pub reply_of : OldReplyLine → Reply
 reply_of line.Created = created
 reply_of (line.Inserted count) = inserted count
 reply_of line.End = at_end

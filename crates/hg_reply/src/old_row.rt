@@ -93,7 +93,7 @@ impl Reply {
 
     /// Puts the line of a row of the nameless cursor behind the others, of which at most 512 bytes
     /// stand there. The longest row has room.
-    pub fn say_row(&mut self, row: &Row)
+    pub fn old_say_row(&mut self, row: &Row)
         requires { array_vec_len self.old.text ≤ 512 }
         ensures text { self.new.text.items ≡ self.old.text.items ++ line.reply_text (line.row row.now) }
         ensures errors { self.new.has_error ≡ self.old.has_error }

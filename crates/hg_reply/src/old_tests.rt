@@ -1,76 +1,76 @@
 //! The bytes of every line, worked out by hand.
-use crate::{Reply, ReplyLine};
+use crate::{Reply, OldReplyLine};
 use hg_base::{Check, File, PageId};
 use hg_model::{Chars, Name, Value};
 use hg_value::Row;
 use std::process::Abort;
 
-fn says(rt: &impl Abort, reply: &mut Reply, line: ReplyLine, text: &str, is_error: bool) {
+fn says(rt: &impl Abort, reply: &mut Reply, line: OldReplyLine, text: &str, is_error: bool) {
     reply.clear();
-    reply.say(&line);
+    reply.old_say(&line);
     assert_eq!(rt; reply.text.as_slice(), text.as_bytes());
     assert_eq!(rt; reply.has_error, is_error);
 }
 
-fn damage(file: File, no: u32, check: Check) -> ReplyLine<'static> {
-    ReplyLine::Damaged(PageId { file, no }, check)
+fn damage(file: File, no: u32, check: Check) -> OldReplyLine<'static> {
+    OldReplyLine::Damaged(PageId { file, no }, check)
 }
 
 #[test]
 fn every_line(rt: HostRuntime) {
     let name = Name::parse("a23456789_123456789_123456789_").expect(&rt, "a name");
     let mut r = Reply::new();
-    says(&rt, &mut r, ReplyLine::Created, "created\n", false);
-    says(&rt, &mut r, ReplyLine::Inserted(0), "rows 0\n", false);
-    says(&rt, &mut r, ReplyLine::Inserted(64), "rows 64\n", false);
-    says(&rt, &mut r, ReplyLine::End, "end *\n", false);
-    says(&rt, &mut r, ReplyLine::Closed, "closed *\n", false);
+    says(&rt, &mut r, OldReplyLine::Created, "created\n", false);
+    says(&rt, &mut r, OldReplyLine::Inserted(0), "rows 0\n", false);
+    says(&rt, &mut r, OldReplyLine::Inserted(64), "rows 64\n", false);
+    says(&rt, &mut r, OldReplyLine::End, "end *\n", false);
+    says(&rt, &mut r, OldReplyLine::Closed, "closed *\n", false);
     says(
         &rt,
         &mut r,
-        ReplyLine::SyntaxError,
+        OldReplyLine::SyntaxError,
         "error 1 syntax\n",
         true,
     );
     says(
         &rt,
         &mut r,
-        ReplyLine::LineTooLong,
+        OldReplyLine::LineTooLong,
         "error 2 line too long\n",
         true,
     );
     says(
         &rt,
         &mut r,
-        ReplyLine::UnknownTable(&name),
+        OldReplyLine::UnknownTable(&name),
         "error 3 unknown table a23456789_123456789_123456789_\n",
         true,
     );
     says(
         &rt,
         &mut r,
-        ReplyLine::DeviceFault(File::Main),
+        OldReplyLine::DeviceFault(File::Main),
         "error 17 main device fault\n",
         true,
     );
     says(
         &rt,
         &mut r,
-        ReplyLine::DeviceFault(File::Temp),
+        OldReplyLine::DeviceFault(File::Temp),
         "error 18 temp device fault\n",
         true,
     );
     says(
         &rt,
         &mut r,
-        ReplyLine::MainFull,
+        OldReplyLine::MainFull,
         "error 19 main full\n",
         true,
     );
     says(
         &rt,
         &mut r,
-        ReplyLine::StampsUsedUp,
+        OldReplyLine::StampsUsedUp,
         "error 24 stamps used up\n",
         true,
     );
@@ -134,8 +134,8 @@ fn damaged_pages(rt: HostRuntime) {
 #[test]
 fn lines_stand_behind_one_another(rt: HostRuntime) {
     let mut reply = Reply::new();
-    reply.say(&ReplyLine::DeviceFault(File::Main));
-    reply.say(&ReplyLine::Closed);
+    reply.old_say(&OldReplyLine::DeviceFault(File::Main));
+    reply.old_say(&OldReplyLine::Closed);
     assert_eq!(rt;
         reply.text.as_slice(),
         b"error 17 main device fault\nclosed *\n".as_slice()
@@ -153,7 +153,7 @@ fn row_says(rt: &impl Abort, values: &[Value], text: &str) {
         assert!(rt; row.push(value).is_ok());
     }
     let mut reply = Reply::new();
-    reply.say_row(&row);
+    reply.old_say_row(&row);
     assert_eq!(rt; reply.text.as_slice(), text.as_bytes());
     assert!(rt; !reply.has_error);
 }
