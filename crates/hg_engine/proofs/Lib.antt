@@ -1,5 +1,8 @@
 pub mod PageLaws
 pub mod Lookups
+pub mod StandLaws
 pub mod Looking
 pub mod StepLaws
-pub mod FirstPage
+pub mod TurnLaws
+pub mod StarLaws
+pub mod CreateLaws

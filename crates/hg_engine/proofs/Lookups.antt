@@ -34,14 +34,14 @@ first-unmapped f p (x ∷ xs) (suc k) h = (h.0, first-unmapped f p xs k h.1)
 
 least-first : {X : Type 0} (p : X → Bool) (xs : List X) → position_or_len p xs < length xs → FirstAt p xs (position_or_len p xs)
 least-first p [] h = absurd (omega arith)
-least-first p (x ∷ xs) h = by (p x) refl
+least-first p (x ∷ xs) h = by (p x) refl (least-first p xs)
   where
-    by : (b : Bool) → p x ≡ b → FirstAt p (x ∷ xs) (position_or_len p (x ∷ xs))
-    by true e = subst (FirstAt p (x ∷ xs)) (sym (ap (λ b. cond (not b) (1 + position_or_len p xs) 0) e)) e
-    by false e =
+    by : (b : Bool) → p x ≡ b → (position_or_len p xs < length xs → FirstAt p xs (position_or_len p xs)) → FirstAt p (x ∷ xs) (position_or_len p (x ∷ xs))
+    by true e rest = subst (FirstAt p (x ∷ xs)) (sym (ap (λ b. cond (not b) (1 + position_or_len p xs) 0) e)) e
+    by false e rest =
         let is : position_or_len p (x ∷ xs) ≡ suc (position_or_len p xs) = ap (λ b. cond (not b) (1 + position_or_len p xs) 0) e ∙ omega arith in
         let inside : position_or_len p xs < length xs = omega arith in
-        subst (FirstAt p (x ∷ xs)) (sym is) (e, least-first p xs inside)
+        subst (FirstAt p (x ∷ xs)) (sym is) (e, rest inside)
 
 pub position-first : {X : Type 0} (p : X → Bool) (xs : List X) (k : ℕ) → position p xs ≡ Some k → FirstAt p xs k
 position-first p xs k e = by (nat_lt (position_or_len p xs) (length xs)) refl e

@@ -1,4 +1,5 @@
 pub mod Scanning
 pub mod Standing
 pub mod Steps
+pub mod Stepping
 pub mod Opened

@@ -1,7 +1,7 @@
 //! The engine.
 #![tactic(auto)]
 
-mod first;
+
 mod next;
 mod scan;
 mod tables;
