@@ -6,3 +6,5 @@ pub mod StepLaws
 pub mod TurnLaws
 pub mod StarLaws
 pub mod CreateLaws
+pub mod InsertLaws
+pub mod ScanLaws

@@ -30,15 +30,8 @@ use Rattle.hg_model.specs.declared.trees.Output.{Output}
 use Rattle.hg_model.specs.declared.values.Value.{Value}
 use Rattle.hg_reply.specs.Built.{is_whole_table, is_nothing, is_one_table}
 use Rattle.hg_engine.specs.Standing.{keyless, rowless}
+use Rattle.hg_engine.specs.Stars.{star_of, from_one, declared, star_cause}
 use Rattle.hg_engine.proofs.Lookups.{tables_in, columns-same, some-same}
-
--- `SELECT * FROM table`, and nothing else
-abbrev pub star_of : FromTable → Query
-star_of f = record { distinct = false; star = true; outputs = []; tables = f ∷ []; filter = None; group = []; having = None; order = []; nodes = [] }
-
--- the one table of FROM, with no condition
-abbrev pub from_one : (table alias : List ℕ) → FromTable
-from_one table alias = record { table = table; alias = alias; on = None }
 
 -- ---- a query that is built is such a star
 
@@ -151,20 +144,6 @@ module _ (table alias : List ℕ) (texts : List ℕ) (tables : List Table) where
 length-from : (alias : List ℕ) (place : ℕ) (columns : List Column) → length (columns_from 0 alias place columns) ≡ length columns
 length-from alias place [] = refl
 length-from alias place (c ∷ cs) = ap suc (length-from alias (suc place) cs)
-
-abbrev pub declared : List Column → ℕ
-declared columns = sum_by (λ (c : Column). type_length c.ty) columns
-
-lengths-from : (alias : List ℕ) (place : ℕ) (columns : List Column) → column_lengths (columns_from 0 alias place columns) ≡ declared columns
-lengths-from alias place [] = refl
-lengths-from alias place (c ∷ cs) =
-    sum_by-cons (λ (f : FromColumn). type_length f.column.ty) (record { table = 0; alias = alias; place = place; column = c }) (columns_from 0 alias (suc place) cs)
-    ∙ ap (λ n. type_length c.ty + n) (lengths-from alias (suc place) cs)
-    ∙ sym (sum_by-cons (λ (d : Column). type_length d.ty) c cs)
-
--- what stands against the star, of its table being there and of its columns
-abbrev pub star_cause : (table : List ℕ) → Bool → List Column → Option Refusal
-star_cause table there columns = if there then (if nat_lt 3900 (declared columns) then Some RowTooLong else None) else Some (UnknownTable table)
 
 -- the causes against a star, of what they rest on
 abbrev causes : (table : List ℕ) → (there wide : Bool) → (first third : ℕ) → Option Refusal

@@ -1,5 +1,6 @@
 pub mod Scanning
 pub mod Standing
 pub mod Steps
+pub mod Stars
 pub mod Stepping
 pub mod Opened

@@ -3,5 +3,8 @@
 
 
 mod next;
+mod create;
+mod say;
+mod select;
 mod scan;
 mod tables;
