@@ -2,5 +2,3 @@ pub mod Asked
 pub mod Built
 pub mod Plain
 pub mod Steps
-pub mod OldLines
-pub mod OldSteps

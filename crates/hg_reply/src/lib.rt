@@ -8,24 +8,16 @@
 
 mod asked;
 mod lent;
-pub mod lines;
+mod lines;
 mod machine;
-mod old_machine;
-mod old_reply;
-mod old_row;
 mod reply;
-mod tokens;
+mod row;
 
 pub use asked::{Asked, CommandAt, DeleteAt, IndexAt, InsertAt, SelectAt, TableAt, UpdateAt};
 pub use lent::asked_by;
-pub use lines::{Cursor, Figures, ReplyLine, Words};
+pub use lines::{Cursor, Figures, ReplyLine, Text, Words, print};
 pub use machine::{Machine, Next};
-pub use old_machine::{Kind, OldMachine, StatementRoom};
-pub use old_reply::OldReplyLine;
 pub use reply::{REPLY_BYTES, Reply};
-pub use tokens::{LINE_LIMIT, TokenRoom};
 
 #[cfg(test)]
-mod lines_tests;
-#[cfg(test)]
-mod old_tests;
+mod tests;

@@ -1,24 +1,33 @@
 use Rattle.std.proofs.Common.{◌++◌, ap, ◌∙◌, sym, append_assoc, arith}
-use Rattle.hg_machine.specs.Reply.{next_text}
+use Rattle.hg_machine.specs.Plain.Replies.{next_text}
 use Rattle.hg_reply.proofs.RowText.{row_text_more, length_coded_more, coded_within}
-use Rattle.hg_reply.proofs.reply.Reply.put_values.Goals as goal
+use Rattle.hg_reply.proofs.row.put_values.Goals as goal
 
 pub put_value-requires : goal.put_value-requires
-put_value-requires c =
-    omega (arith, c.requires, c.len-count.ensures.storable.short, coded_within c.args.row.now 0 c.get.result c.get.ensures)
+put_value-requires c = record {
+  room = omega (arith, c.requires.room, c.len-count.ensures.storable.short, coded_within c.args.row.now 0 c.get.result c.get.ensures);
+}
 
 pub put_next_value-requires : goal.put_next_value-requires
-put_next_value-requires c =
-    omega (arith, c.requires, c.len-count.ensures.storable.short, c.len-count.ensures.storable.few, c.len-count.ensures.count, c.loop-place.invariant.short, coded_within c.args.row.now c.loop-place.place c.get-in-loop-place.result c.get-in-loop-place.ensures)
+put_next_value-requires c = record {
+  room = omega (
+    arith,
+    c.requires.room,
+    c.len-count.ensures.storable.short,
+    c.len-count.ensures.storable.few,
+    c.len-count.ensures.count,
+    c.loop-place.invariant.short,
+    coded_within c.args.row.now c.loop-place.place c.get-in-loop-place.result c.get-in-loop-place.ensures,
+  );
+}
 
 pub loop-place-preserved : goal.loop-place-preserved
 loop-place-preserved c =
     let vs = c.args.row.now in
     let at = c.get-in-loop-place.ensures in
-    let old = c.args.self.now.text.items in
+    let old = c.args.out.now.items in
     record {
       text = c.put_next_value.ensures.text ∙ ap (λ bs. bs ++ next_text c.get-in-loop-place.result) c.loop-place.invariant.text
           ∙ append_assoc old _ _ ∙ ap (λ bs. old ++ bs) (sym (row_text_more vs c.loop-place.place c.get-in-loop-place.result (omega arith) at));
-      errors = c.put_next_value.ensures.errors ∙ c.loop-place.invariant.errors;
       short = omega (arith, c.put_next_value.ensures.short, c.loop-place.invariant.short, length_coded_more vs c.loop-place.place c.get-in-loop-place.result at);
     }
