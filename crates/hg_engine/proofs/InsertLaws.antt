@@ -458,3 +458,140 @@ module _ (a b : Space) (old new : Tables) (i : InsertTree) (texts targets : List
               (subst (λ s. Inserts s texts i (rows (length i.ends) ∷ []) _) (sym (now-is before st)) (subst (λ n. Inserts here texts i (rows n ∷ []) _) counted made')),
         );
   }
+
+  -- nothing stood against the rows, but not all could be put
+  pub insert-faulted : (f : PageFault) → ((c : CatalogTable) → slice_get old.catalog.tables k ≡ Some c → PutsPart a b old.catalog new.catalog k stamp texts targets i.values i.ends f c)
+      → new.stamps ≡ mid → StepsTo a b old new (BeginsSo a.told (InsertRows i) texts) (line_of f ∷ [])
+  insert-faulted f puts uncommitted = record {
+    to = λ before st.
+        let e = at-k before st in
+        let some = puts e.entry e.at_entry in
+        let p = some.puts (st.pages k) e.stands.chain in
+        let later : IsLater old.stamps mid = later-drawn old.stamps mid stamp draws in
+        let drawn : stamp ≤ last mid = let d = draws.drawn in omega arith in
+        let one : last mid ≡ last old.stamps + 1 = let x = draws.next in let d = draws.drawn in omega arith in
+        let count = count-added before st in
+        let w = uncommitted-stands a b old.stamps mid e.entry e.table (st.pages k) some.after stamp p.done later drawn p.puts e.stands (hidden-drawn old.stamps mid stamp draws) in
+        let less = p.few in
+        let few : length p.done ≤ length i.ends = omega (arith, count, less) in
+        let here : State = now before st in
+        let spent : Spends (ended_allowance (insertion here texts i)) i.table here (after before st some.after e.table.table.rows p.puts.now mid (length p.done) p.puts.grows later one few w some.moves.tables uncommitted) =
+        spent-kept before st some.after e.table.table.rows p.puts.now mid (length p.done) p.puts.grows later one few w some.moves.tables uncommitted
+        (insertion here texts i).need.main (insertion here texts i).need.temp (insertion here texts i).versions
+        (let m = needs-enough here texts i e.table.table refl (named before st) in omega (arith, m, few))
+        (let m = versions-is here texts i e.table.table refl (named before st) in omega (arith, m, few)) refl in (
+          after before st some.after e.table.table.rows p.puts.now mid (length p.done) p.puts.grows later one few w some.moves.tables uncommitted,
+          stands-after before st some.after e.table.table.rows p.puts.now mid (length p.done) p.puts.grows later one few w some.moves.tables uncommitted,
+          subst (λ s. BeginsSo a.told (InsertRows i) texts s (line_of f ∷ []) _) (sym (now-is before st)) (by-cause f before st _ (length (added before st)) count p.cause spent),
+        );
+  }
+    where
+      by-cause : (f : PageFault) (before : State) (st : TablesAre a old before) (to : State) (n : ℕ) → n ≡ length i.ends → PutFault a b n f
+          → Spends (ended_allowance (insertion (now before st) texts i)) i.table (now before st) to → BeginsSo a.told (InsertRows i) texts (now before st) (line_of f ∷ []) to
+      by-cause fault.MainFault before st to n same cause spent =
+          begins-same a.told (InsertRows i) texts (now before st) to (device_fault Main ∷ [])
+          (inserts-failed (now before st) texts i (at-k before st).table.table refl (named before st) room (unrefused-here before st) to Main spent)
+      by-cause fault.TempFault before st to n same cause spent =
+          begins-same a.told (InsertRows i) texts (now before st) to (device_fault Temp ∷ [])
+          (inserts-failed (now before st) texts i (at-k before st).table.table refl (named before st) room (unrefused-here before st) to Temp spent)
+      by-cause fault.MainFull before st to n same cause spent =
+          begins-same a.told (InsertRows i) texts (now before st) to (file_full Main ∷ [])
+          (inserts-full (now before st) texts i (at-k before st).table.table refl (named before st) room (unrefused-here before st) to
+          (let full = cause.0 in omega (arith, full, same)) spent)
+      by-cause fault.TempFull before st to n same cause spent = absurd cause
+      by-cause (fault.Damaged page check) before st to n same cause spent =
+          begins-damaged a.told (InsertRows i) texts (now before st) to Main page check [] cause refl
+          (inserts-failed (now before st) texts i (at-k before st).table.table refl (named before st) room (unrefused-here before st) to Main spent)
+
+-- ---- an INSERT that writes nothing
+
+module _ (s : Space) (old new : Tables) (i : InsertTree) (texts : List ℕ) (idle : old.scan ≡ None) (still : new.scan ≡ old.scan) (max : new.max ≡ old.max) (mpl : new.mpl ≡ old.mpl)
+    (catalog : new.catalog ≡ old.catalog) where
+  unmoved : (before : State) (st : TablesAre s old before) → new.stamps ≡ old.stamps → TablesAre s new before
+  unmoved before st stamps = kept s new old.scan before old.max old.mpl old.catalog old.stamps catalog stamps still max mpl st
+
+  resting-here : (before : State) (st : TablesAre s old before) → before ≡ state_of s old.max old.mpl old.stamps None st.tables st.left
+  resting-here before st = st.is ∙ ap (λ c. state_of s old.max old.mpl old.stamps c st.tables st.left) idle
+
+  unmade-step : (before : State) (st : TablesAre s old before) (r : Refusal)
+      → insert_cause (last old.stamps) (tables_in st.tables) i ≡ Some r → BeginsSo s.told (InsertRows i) texts before (refusal_line r ∷ []) before
+  unmade-step before st r cause =
+      begins-same s.told (InsertRows i) texts before before (refusal_line r ∷ [])
+      (subst (λ b. Inserts b texts i (refusal_line r ∷ []) b) (sym (resting-here before st))
+      (inserts-unmade (state_of s old.max old.mpl old.stamps None st.tables st.left) texts i r cause))
+
+  -- its statement was refused
+  pub insert-misfit : (r : Refusal) → insert_refusal (tables_of old.catalog) i ≡ Some r → new.stamps ≡ old.stamps
+      → StepsTo s s old new (BeginsSo s.told (InsertRows i) texts) (refusal_line r ∷ [])
+  insert-misfit r why stamps = record {
+    to = λ before st. (
+      before,
+      unmoved before st stamps,
+      unmade-step before st r (cause-of-refusal (last old.stamps) (tables_in st.tables) i r (refusal-same old.catalog st.tables i st.stand.shape ∙ why)),
+    );
+  }
+
+  -- no stamp was left
+  pub insert-late : insert_refusal (tables_of old.catalog) i ≡ None → last old.stamps ≡ 2 ^ 20 → new.stamps ≡ old.stamps
+      → StepsTo s s old new (BeginsSo s.told (InsertRows i) texts) (refusal_line StampsUsedUp ∷ [])
+  insert-late stands all stamps = record {
+    to = λ before st. (
+      before,
+      unmoved before st stamps,
+      unmade-step before st StampsUsedUp (cause-of-stamps (last old.stamps) (tables_in st.tables) i (refusal-same old.catalog st.tables i st.stand.shape ∙ stands) all),
+    );
+  }
+
+set-same : {X : Type 0} (xs : List X) (k : ℕ) (x : X) → slice_get xs k ≡ Some x → slice_set xs k x ≡ xs
+set-same [] k x h = refl
+set-same (y ∷ ys) zero x h = ap (λ w. w ∷ ys) (sym (Rattle.hg_engine.proofs.StandLaws.some-one y x h))
+set-same (y ∷ ys) (suc k) x h = ap (λ l. y ∷ l) (set-same ys k x h)
+
+module _ (s : Space) (old new : Tables) (i : InsertTree) (texts targets : List ℕ) (k stamp : ℕ)
+    (idle : old.scan ≡ None) (still : new.scan ≡ old.scan) (max : new.max ≡ old.max) (mpl : new.mpl ≡ old.mpl) (catalog : new.catalog ≡ old.catalog)
+    (number : table_number old.catalog i.table ≡ Some k) (inside : k < length old.catalog.tables)
+    (unrefused : insert_refusal (tables_of old.catalog) i ≡ None)
+    (targets_are : targets ≡ insert_targets (columns_of (table_named (tables_of old.catalog) i.table)) i.columns)
+    (draws : Draws old.stamps new.stamps stamp) (room : last old.stamps < 2 ^ 20) where
+  -- something stands against the rows
+  pub insert-against : (r : Refusal) → ((c : CatalogTable) → slice_get old.catalog.tables k ≡ Some c
+      → rows_cause c.columns (rows_of_tuples texts c.columns targets i.values i.ends) ≡ Some r)
+      → StepsTo s s old new (BeginsSo s.told (InsertRows i) texts) (refusal_line r ∷ [])
+  insert-against r against = record {
+    to = λ before st.
+        let e = at-k s s old old i texts targets k stamp old.stamps idle refl refl refl number inside unrefused targets_are before st in
+        let here : State = state_of s old.max old.mpl old.stamps None st.tables st.left in
+        let here_is : before ≡ here = st.is ∙ ap (λ c. state_of s old.max old.mpl old.stamps c st.tables st.left) idle in
+        let first : FirstAt (is_table i.table) st.tables k = number-first old.catalog st.tables i.table k st.stand.shape number in
+        let named : table_named (tables_in st.tables) i.table ≡ Some e.table.table = named-first st.tables i.table k e.table first e.at_table in
+        let stands : insert_refusal (tables_in st.tables) i ≡ None = refusal-same old.catalog st.tables i st.stand.shape ∙ unrefused in
+        let cols : e.entry.columns ≡ e.table.table.columns = sym (ap (λ (w : Table). w.columns) (shape-at old.catalog.tables st.tables k e.entry e.table st.stand.shape e.at_entry e.at_table)) in
+        let goals : targets ≡ insert_targets e.table.table.columns i.columns =
+        targets_are ∙ ap (λ cs. insert_targets cs i.columns) (sym (columns-same old.catalog st.tables st.stand.shape i.table) ∙ ap columns_of named) in
+        let later : IsLater old.stamps new.stamps = later-drawn old.stamps new.stamps stamp draws in
+        let one : last new.stamps ≡ last old.stamps + 1 = let x = draws.next in let d = draws.drawn in omega arith in
+        let after : State = state_of s old.max old.mpl new.stamps None st.tables [] in
+        let cause : rows_cause e.table.table.columns (rows_of_tuples texts e.table.table.columns (insert_targets e.table.table.columns i.columns) i.values i.ends) ≡ Some r =
+        (λ j. rows_cause (sym cols j) (rows_of_tuples texts (sym cols j) (sym goals j) i.values i.ends)) ∙ against e.entry e.at_entry in
+        let P : List TableState → Type 0 = λ l. Spends (done_allowance (insertion here texts i)) i.table here (state_of s old.max old.mpl new.stamps None l []) in
+        let spent : P st.tables = subst P (set-same st.tables k e.table e.at_table)
+        (spends s s old.max old.mpl old.stamps new.stamps st.tables st.left k e.table i.table e.table.versions first e.at_table refl refl refl one
+        (insertion here texts i).need.main 0 (insertion here texts i).versions (omega arith) (omega arith) (omega arith) (omega arith)) in (
+          after,
+          kept s new None after old.max old.mpl old.catalog new.stamps catalog refl (still ∙ idle) max mpl (record {
+            pins = st.pins;
+            none_lent = st.none_lent;
+            most = st.most;
+            some_may = st.some_may;
+            no_indexes = st.no_indexes;
+            tables = st.tables;
+            pages = st.pages;
+            stand = Rattle.hg_engine.proofs.StandLaws.tables-later s old.stamps new.stamps old.catalog.tables st.tables st.pages later st.stand;
+            left = [];
+            work = tt;
+            is = refl;
+          }),
+          begins-same s.told (InsertRows i) texts before after (refusal_line r ∷ [])
+              (subst (λ b. Inserts b texts i (refusal_line r ∷ []) after) (sym here_is) (inserts-refused here texts i e.table.table refl named room stands after r cause spent)),
+        );
+  }

@@ -8,3 +8,8 @@ pub mod StarLaws
 pub mod CreateLaws
 pub mod InsertLaws
 pub mod ScanLaws
+pub mod Saying
+pub mod ReadLaws
+pub mod PoolLaws
+pub mod EngineSteps
+pub mod FirstPage

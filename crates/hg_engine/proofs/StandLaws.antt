@@ -110,6 +110,16 @@ tables-stay a b marks catalog tables pages stays stand = record {
   apart = stand.apart;
 }
 
+-- and stay, whoever draws a stamp
+pub tables-later : (s : Space) (old new : List Bool) (catalog : List CatalogTable) (tables : List TableState) (pages : ℕ → List ℕ)
+    → IsLater old new → TablesStand s old catalog tables pages → TablesStand s new catalog tables pages
+tables-later s old new catalog tables pages later stand = record {
+  shape = stand.shape;
+  each = λ k c t hc ht.
+      table-stays s s old new c t (pages k) (record { told = refl; chain = λ e h. h; table = λ e columns versions h. h }) later (stand.each k c t hc ht);
+  apart = stand.apart;
+}
+
 -- ---- as many tables as in the catalog
 
 length-map : {X Y : Type 0} (f : X → Y) (xs : List X) → length (map f xs) ≡ length xs

@@ -4,6 +4,8 @@
 
 mod next;
 mod create;
+mod first;
+mod kept;
 mod say;
 mod select;
 mod scan;

@@ -1,5 +1,6 @@
 //! SELECT: the rows of a table, a turn at a time.
 ghost use Rattle.std.specs.Prelude.{◌≡◌, ◌≤◌, length};
+ghost use Rattle.hg_model.specs.Types.{type_length};
 ghost use Rattle.hg_engine.specs.Stars.{declared};
 
 use crate::next::{Found, next_row};
@@ -16,6 +17,17 @@ const SLOTS: u64 = 128;
 /// The bytes that a row may have at most.
 const ROW_BYTES: u32 = 3900;
 
+/// The bytes that a value of a type has at most.
+fn type_length(ty: SqlType) -> u32
+    ensures length { result ≡ type_length ty }
+    ensures short { result ≤ 257 }
+{
+    match ty {
+        SqlType::Integer => 5,
+        SqlType::Varchar(most) => 2 + most as u32,
+    }
+}
+
 /// The bytes that a row of these columns has at most.
 fn declared_length(columns: &[Column]) -> u32
     requires { length columns.now ≤ 16 }
@@ -23,10 +35,7 @@ fn declared_length(columns: &[Column]) -> u32
 {
     let mut sum = 0;
     for column in columns {
-        sum += match column.ty {
-            SqlType::Integer => 5,
-            SqlType::Varchar(most) => 2 + most as u32,
-        };
+        sum += type_length(column.ty);
     }
     sum
 }
@@ -151,7 +160,7 @@ impl Tables {
         match self.next(space, scan) {
             Ok(Some(found)) => {
                 self.go_on(scan, found);
-                reply.say_row(None, &self.row);
+                reply.say_row(&None, &self.row);
             }
             Ok(None) => {
                 self.scan = None;

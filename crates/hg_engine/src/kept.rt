@@ -1,0 +1,141 @@
+//! What an engine keeps, and one step of it.
+use crate::say::say_fault;
+use crate::tables::Tables;
+use hg_io::PageDevice;
+use hg_model::Name;
+use hg_pool::Pool;
+use hg_reply::{Next, Reply, ReplyLine, TableAt};
+
+/// The tables of an engine, the pool of their pages, and how many bytes the replies had so far.
+pub struct Kept<M: PageDevice, T: PageDevice> {
+    pub(crate) tables: Tables,
+    pub(crate) pool: Pool<M, T>,
+    pub(crate) said: u64,
+}
+
+impl<M: PageDevice, T: PageDevice> Kept<M, T> {
+    ghost use Rattle.std.specs.Prelude.{◌≡◌, ◌<◌, ◌≤◌, ◌↔◌, ℕ, List, true, false, length, IsTrue};
+    ghost use Rattle.std.specs.List.{list_all};
+    ghost use Rattle.arrayvec.specs.ArrayVec.{array_vec_len};
+    ghost use Rattle.hg_io.specs.Count.{raised};
+    ghost use Rattle.hg_machine.specs.Plain.Replies.{ReplyLine as ReplyLineOf};
+    ghost use Rattle.hg_machine.specs.Plain.State.{State};
+    ghost use Rattle.hg_model.specs.Statements.{CreateTable, InsertRows, SelectRows, Pool as PoolTo};
+    ghost use Rattle.hg_model.specs.Value.{is_printable};
+    ghost use Rattle.hg_reply.specs.Asked.{command_in, texts_in, table_at, insert_at, query_at, IsReadAs};
+    ghost use Rattle.hg_reply.specs.Built.{is_built};
+    ghost use Rattle.hg_reply.specs.Steps.{DropsCommand, BeginsSo, ContinuesSo};
+    ghost use Rattle.hg_engine.specs.Shown.{space_of, IsEngineOf, IsSomeEngine, is_pending, turns_left, tells_of, frames_of, EngineSteps, IsLater};
+    ghost use Rattle.hg_engine.specs.Stars.{star_of, from_one};
+    ghost use Rattle.hg_engine.specs.Stepping.{CommandFinds, InsertFinds, TurnFinds, no_damage};
+
+    /// Whether a SELECT is at work.
+    fn next(&self) -> Next
+        ensures { (result ≡ Next.More) ↔ (is_pending self.now ≡ true) }
+    {
+        if self.tables.scan.is_some() {
+            Next::More
+        } else {
+            Next::Done
+        }
+    }
+
+    /// CREATE TABLE.
+    fn create(&mut self, table: &TableAt, reply: &mut Reply)
+        requires idle { is_pending self.old ≡ false }
+        requires read { (texts : List ℕ) × IsReadAs (frames_of self.old) (CreateTable (table_at table.now)) texts }
+        requires plain { is_built (CreateTable (table_at table.now)) ≡ true }
+        ensures step { (texts : List ℕ) → EngineSteps M.PageDevice T.PageDevice self.old self.new reply.new
+            (BeginsSo (tells_of M.PageDevice T.PageDevice self.old) (CreateTable (table_at table.now)) texts) (λ now. no_damage) }
+        ensures later { IsLater (space_of M.PageDevice T.PageDevice self.old) (space_of M.PageDevice T.PageDevice self.new) }
+        ensures said { self.new.said ≡ self.old.said }
+        ensures frames { frames_of self.new ≡ frames_of self.old }
+    {
+        reply.clear();
+        self.tables.create_table(table, reply);
+    }
+
+    /// SELECT.
+    fn select(&mut self, table: &Name, reply: &mut Reply)
+        requires idle { is_pending self.old ≡ false }
+        ensures step { (alias texts : List ℕ) → EngineSteps M.PageDevice T.PageDevice self.old self.new reply.new
+            (BeginsSo (tells_of M.PageDevice T.PageDevice self.old) (SelectRows (star_of (from_one table.now alias))) texts) (λ now. no_damage) }
+        ensures later { IsLater (space_of M.PageDevice T.PageDevice self.old) (space_of M.PageDevice T.PageDevice self.new) }
+        ensures said { self.new.said ≡ self.old.said }
+        ensures frames { frames_of self.new ≡ frames_of self.old }
+    {
+        reply.clear();
+        self.tables.select(&self.pool, table, reply);
+    }
+
+    /// POOL.
+    fn resize(&mut self, frames: u32, reply: &mut Reply)
+        requires idle { is_pending self.old ≡ false }
+        requires stands { IsSomeEngine M.PageDevice T.PageDevice self.old }
+        requires at_least { 16 ≤ frames }
+        requires at_most { frames ≤ frames_of self.old }
+        ensures step { (texts : List ℕ) → EngineSteps M.PageDevice T.PageDevice self.old self.new reply.new
+            (BeginsSo (tells_of M.PageDevice T.PageDevice self.old) (PoolTo frames) texts) (λ now. no_damage) }
+        ensures later { IsLater (space_of M.PageDevice T.PageDevice self.old) (space_of M.PageDevice T.PageDevice self.new) }
+        ensures said { self.new.said ≡ self.old.said }
+        ensures frames { frames_of self.new ≡ frames_of self.old }
+    {
+        reply.clear();
+        match self.pool.resize(frames) {
+            Ok(()) => reply.say(&ReplyLine::PoolSet(frames)),
+            Err(fault) => say_fault(reply, fault),
+        }
+    }
+
+    /// One turn of the SELECT at work.
+    fn turn(&mut self, reply: &mut Reply)
+        requires pending { is_pending self.old ≡ true }
+        requires stands { IsSomeEngine M.PageDevice T.PageDevice self.old }
+        ensures turns { EngineSteps M.PageDevice T.PageDevice self.old self.new reply.new (ContinuesSo (tells_of M.PageDevice T.PageDevice self.old))
+            (λ now. TurnFinds (space_of M.PageDevice T.PageDevice self.old) self.old.tables) }
+        ensures nearer { turns_left self.new < turns_left self.old }
+        ensures later { IsLater (space_of M.PageDevice T.PageDevice self.old) (space_of M.PageDevice T.PageDevice self.new) }
+        ensures said { self.new.said ≡ self.old.said }
+        ensures frames { frames_of self.new ≡ frames_of self.old }
+    {
+        reply.clear();
+        self.tables.turn(&mut self.pool, reply);
+    }
+
+    /// Counts the bytes of a reply.
+    fn count(&mut self, reply: &Reply)
+        ensures said { self.new.said ≡ raised self.old.said (array_vec_len reply.now.text) }
+        ensures tables { self.new.tables ≡ self.old.tables }
+        ensures pool { self.new.pool ≡ self.old.pool }
+    {
+        self.said = self.said.saturating_add(reply.text.len() as u64);
+    }
+
+    /// Gives one turn of the command at work.
+    pub(crate) fn more(&mut self, reply: &mut Reply) -> Next
+        requires pending { is_pending self.old ≡ true }
+        requires stands { IsSomeEngine M.PageDevice T.PageDevice self.old }
+        ensures turns { EngineSteps M.PageDevice T.PageDevice self.old self.new reply.new (ContinuesSo (tells_of M.PageDevice T.PageDevice self.old))
+            (λ now. TurnFinds (space_of M.PageDevice T.PageDevice self.old) self.old.tables) }
+        ensures nearer { turns_left self.new < turns_left self.old }
+        ensures more { (result ≡ Next.More) ↔ (is_pending self.new ≡ true) }
+        ensures later { IsLater (space_of M.PageDevice T.PageDevice self.old) (space_of M.PageDevice T.PageDevice self.new) }
+        ensures said { self.new.said ≡ raised self.old.said (array_vec_len reply.new.text) }
+        ensures frames { frames_of self.new ≡ frames_of self.old }
+    {
+        self.turn(reply);
+        self.count(reply);
+        self.next()
+    }
+
+    /// Drops the command at work.
+    pub(crate) fn drop_command(&mut self)
+        ensures drops { DropsCommand (IsEngineOf M.PageDevice T.PageDevice) self.old self.new }
+        ensures idle { is_pending self.new ≡ false }
+        ensures pool { self.new.pool ≡ self.old.pool }
+        ensures said { self.new.said ≡ self.old.said }
+        ensures frames { frames_of self.new ≡ frames_of self.old }
+    {
+        self.tables.scan = None;
+    }
+}
