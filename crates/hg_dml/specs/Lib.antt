@@ -4,3 +4,6 @@ pub mod SeenLaws
 pub mod Putting
 pub mod Rows
 pub mod Inserting
+pub mod Steps
+pub mod Tuples
+pub mod Fitting

@@ -14,6 +14,9 @@
 //! A refused INSERT touches no page and no device. Nothing here takes memory.
 #![tactic(auto)]
 
+mod causes;
 mod insert;
+mod putting;
+mod tuples;
 
 pub use insert::ChangeError;
