@@ -19,4 +19,4 @@ mod insert;
 mod putting;
 mod tuples;
 
-pub use insert::ChangeError;
+pub use insert::{ChangeError, insert_rows};
