@@ -16,8 +16,8 @@ use Rattle.hg_base.specs.declared.pages.PageFault.{PageFault}
 use Rattle.hg_base.specs.declared.pages.PageFault.TheVariants as fault
 use Rattle.hg_bind.specs.Bound.{table_of, tables_of}
 use Rattle.hg_catalog.specs.Contents.{Contents, CatalogTable, table_number, with_pages}
-use Rattle.hg_dml.specs.Inserting.{PutsAll, PutsPart, IsCause}
-use Rattle.hg_dml.specs.Putting.{Grows, Puts, PutsSome, PutFault}
+use Rattle.hg_dml.specs.Inserting.{StandsAt, PutsAll, PutsPart, IsCause}
+use Rattle.hg_dml.specs.Putting.{Grows, Puts, PutsSome, PutFault, FindsLast, table_mine}
 use Rattle.hg_dml.specs.Rows.{rows_of_tuples, rows_cause}
 use Rattle.hg_dml.specs.Seen.{seen_rows}
 use Rattle.hg_machine.specs.Plain.Changes.{ChangesRows, refused_before, made, refused, failed, done_allowance, ended_allowance}
@@ -34,19 +34,20 @@ use Rattle.hg_model.specs.Creation.{uniques_of}
 use Rattle.hg_model.specs.Refusal.{Refusal, StampsUsedUp, TypeMismatch, first_cause}
 use Rattle.hg_model.specs.Scope.{columns_of}
 use Rattle.hg_model.specs.Statements.{CommandTree, InsertRows, InsertTree}
-use Rattle.hg_model.specs.Tables.{Table, table_named}
+use Rattle.hg_model.specs.Tables.{Table, table_named, same_name}
 use Rattle.hg_model.specs.declared.trees.Column.{Column}
 use Rattle.hg_model.specs.declared.trees.Literal.{Literal}
 use Rattle.hg_model.specs.declared.values.Value.{Value}
-use Rattle.hg_reply.specs.Steps.{BeginsSo}
+use Rattle.hg_reply.specs.Steps.{BeginsSo, TellOnlyFound}
 use Rattle.hg_table.specs.Chains.{IsChain}
 use Rattle.hg_table.specs.Marks.{last, committed, Draws, Commits}
 use Rattle.hg_engine.specs.Standing.{Stands, TableStands, TablesStand, HasRows, state_of, rowless}
-use Rattle.hg_engine.specs.Stepping.{TablesAre, StepsTo, line_of}
+use Rattle.hg_engine.specs.Stepping.{TablesAre, StepsTo, CountedIn, IsSameSpace, InsertFinds, line_of}
 use Rattle.hg_engine.specs.declared.tables.Tables.{Tables}
-use Rattle.hg_engine.proofs.Lookups.{FirstAt, tables_in, columns-same, some-same, rows-set, versions-set, versions-in, first-set, first-is, set-set, get-set-here, pages-set, named-first, number-first}
+use Rattle.hg_engine.proofs.Lookups.{FirstAt, tables_in, columns-same, some-same, rows-set, versions-set, versions-in, first-set, first-is, set-set, get-set-here, pages-set, named-first, number-first, position-first, first-holds}
 use Rattle.hg_engine.proofs.StandLaws.{IsLater, FoundAt, found-at, with_ends, rows-later, pages_with, tables-then, same-count}
 use Rattle.hg_engine.proofs.CreateLaws.{begins-same, begins-damaged, kept}
+use Rattle.hg_engine.proofs.Saying.{same-space, put-counted, sound-line}
 
 -- ---- marks
 
@@ -595,3 +596,57 @@ module _ (s : Space) (old new : Tables) (i : InsertTree) (texts targets : List �
               (subst (λ b. Inserts b texts i (refusal_line r ∷ []) after) (sym here_is) (inserts-refused here texts i e.table.table refl named room stands after r cause spent)),
         );
   }
+
+-- ---- what the call on the table asks, what it leaves, and which damage it finds
+
+pub stands-at : (s : Space) (x : Tables) (k : ℕ) (state : State) → TablesAre s x state → StandsAt s x.catalog k
+stands-at s x k state st c hc =
+    let f = found-at s x.stamps x.catalog.tables st.tables st.pages k st.stand (slice_get_within x.catalog.tables k c hc) in
+    let one : TableStands s x.stamps c f.table (st.pages k) = st.stand.each k c f.table hc f.at_table in
+    record { pages = st.pages k; chain = one.chain; whole = λ told. let h = one.rows told in (h.versions, h.table) }
+
+-- the same over an equal catalog
+pub stands-over : (s : Space) (c d : Contents) (k : ℕ) → d ≡ c → StandsAt s c k → StandsAt s d k
+stands-over s c d k same h = subst (λ e. StandsAt s e k) (sym same) h
+
+module _ (a b : Space) (old : Tables) (now : Contents) (i : InsertTree) (texts targets : List ℕ) (k stamp : ℕ) (state : State) (st : TablesAre a old state) (inside : k < length old.catalog.tables) where
+  there : FoundAt a old.stamps old.catalog.tables st.tables st.pages k
+  there = found-at a old.stamps old.catalog.tables st.tables st.pages k st.stand inside
+
+  pub done-same : ((c : CatalogTable) → slice_get old.catalog.tables k ≡ Some c → PutsAll a b old.catalog now k stamp texts targets i.values i.ends c) → IsSameSpace a b
+  done-same puts =
+      let p = (puts there.entry there.at_entry).puts (st.pages k) there.stands.chain in
+      same-space (table_mine a (st.pages k)) a b p.grows.steady
+
+  pub part-same : (f : PageFault) → ((c : CatalogTable) → slice_get old.catalog.tables k ≡ Some c → PutsPart a b old.catalog now k stamp texts targets i.values i.ends f c) → IsSameSpace a b
+  part-same f puts =
+      let p = (puts there.entry there.at_entry).puts (st.pages k) there.stands.chain in
+      same-space (table_mine a (st.pages k)) a b p.puts.grows.steady
+
+  pub part-counted : (f : PageFault) → ((c : CatalogTable) → slice_get old.catalog.tables k ≡ Some c → PutsPart a b old.catalog now k stamp texts targets i.values i.ends f c)
+      → CountedIn a b (line_of f ∷ [])
+  part-counted f puts =
+      let p = (puts there.entry there.at_entry).puts (st.pages k) there.stands.chain in
+      put-counted a b _ f p.puts.grows.steady.counts p.cause
+
+  finds : (f : PageFault) (n : ℕ) (c : CatalogTable) → slice_get now.tables k ≡ Some c → same_name c.name i.table ≡ true → PutFault a b n f → FindsLast c.pages.last f
+      → TellOnlyFound (InsertFinds a now.tables i.table) (line_of f ∷ [])
+  finds fault.MainFault n c at named cause found = sound-line _ (line_of fault.MainFault) refl
+  finds fault.TempFault n c at named cause found = sound-line _ (line_of fault.TempFault) refl
+  finds fault.MainFull n c at named cause found = sound-line _ (line_of fault.MainFull) refl
+  finds fault.TempFull n c at named cause found = sound-line _ (line_of fault.TempFull) refl
+  finds (fault.Damaged page check) n c at named cause found =
+      ((λ yes. (page, check, refl, record { untold = cause; table = k; entry = c; at = at; named = named; last = found.0; failed = found.1 })), tt)
+
+  pub part-found : (f : PageFault) → table_number old.catalog i.table ≡ Some k
+      → ((c : CatalogTable) → slice_get old.catalog.tables k ≡ Some c → PutsPart a b old.catalog now k stamp texts targets i.values i.ends f c)
+      → TellOnlyFound (InsertFinds a now.tables i.table) (line_of f ∷ [])
+  part-found f number puts =
+      let some = puts there.entry there.at_entry in
+      let p = some.puts (st.pages k) there.stands.chain in
+      let at : slice_get now.tables k ≡ Some (with_ends there.entry some.after) =
+      ap (λ (c : Contents). slice_get c.tables k) some.moves.tables ∙ ap (λ l. slice_get l k) (pages-set old.catalog.tables k there.entry some.after there.at_entry)
+      ∙ get-set-here old.catalog.tables k (with_ends there.entry some.after) inside in
+      let named : same_name there.entry.name i.table ≡ true =
+      first-holds (λ (c : CatalogTable). same_name c.name i.table) old.catalog.tables k there.entry (position-first (λ (c : CatalogTable). same_name c.name i.table) old.catalog.tables k number) there.at_entry in
+      finds f _ (with_ends there.entry some.after) at named p.cause p.found

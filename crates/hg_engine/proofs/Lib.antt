@@ -9,6 +9,7 @@ pub mod CreateLaws
 pub mod InsertLaws
 pub mod ScanLaws
 pub mod Saying
+pub mod Words
 pub mod ReadLaws
 pub mod PoolLaws
 pub mod EngineSteps

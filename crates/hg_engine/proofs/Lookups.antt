@@ -50,6 +50,11 @@ position-first p xs k e = by (nat_lt (position_or_len p xs) (length xs)) refl e
     by true t e = let same : position_or_len p xs ≡ k = cc in subst (FirstAt p xs) same (least-first p xs (grind (arith, nat_tests)))
     by false t e = absurd (none-some k e)
 
+pub first-holds : {X : Type 0} (p : X → Bool) (xs : List X) (k : ℕ) (x : X) → FirstAt p xs k → slice_get xs k ≡ Some x → p x ≡ true
+first-holds p [] k x h at = absurd h
+first-holds p (y ∷ ys) zero x h at = let same : y ≡ x = cc in subst (λ w. p w ≡ true) same h
+first-holds p (y ∷ ys) (suc k) x h at = first-holds p ys k x h.1 at
+
 -- the table of the number that a catalog gives is the first of its name in the state too
 pub number-first : (c : Contents) (tables : List TableState) (name : List ℕ) (k : ℕ) → map rowless tables ≡ map table_of c.tables
     → table_number c name ≡ Some k → FirstAt (is_table name) tables k

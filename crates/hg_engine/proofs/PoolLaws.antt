@@ -1,6 +1,6 @@
 -- POOL is a step of the plain machine.
 use Rattle.std.specs.Prelude.{◌≡◌, ℕ, ◌≤◌, Bool, List, [], ◌∷◌, Option, Some, None, Result, Ok, Err}
-use Rattle.std.proofs.Common.{sym, ◌∙◌, ap, subst, refl}
+use Rattle.std.proofs.Common.{sym, ◌∙◌, ap, subst, refl, arith}
 use Rattle.hg_base.specs.Space.{Space, NoPins, IsSame}
 use Rattle.hg_base.specs.Causes.{Later, HasCause, PinFault}
 use Rattle.hg_base.specs.Steadiness.{Steady}
@@ -23,7 +23,8 @@ use Rattle.hg_engine.specs.declared.tables.Tables.{Tables}
 use Rattle.hg_engine.proofs.PageLaws.{none-lent-still}
 use Rattle.hg_engine.proofs.StandLaws.{tables-stay, stays-still, stays-resized}
 use Rattle.hg_engine.proofs.CreateLaws.{begins-same, kept}
-use Rattle.hg_engine.proofs.TurnLaws.{state-still}
+use Rattle.hg_engine.proofs.TurnLaws.{state-still, dropped-is}
+use Rattle.hg_machine.specs.Plain.Run.{dropped}
 
 module _ (a : Space) (x : Tables) (n : ℕ) (texts : List ℕ) (idle : x.scan ≡ None) where
   idle-is : (before : State) (st : TablesAre a x before) → before ≡ state_of a x.max x.mpl x.stamps None st.tables st.left
@@ -94,3 +95,27 @@ pool-cause a b fault.TempFault is cause = temp_failed a b cause
 pool-cause a b fault.MainFull is cause = is
 pool-cause a b fault.TempFull is cause = is
 pool-cause a b (fault.Damaged page check) is cause = absurd is
+
+-- the command at work is dropped
+pub drops : (s : Space) (x y : Tables) → y.catalog ≡ x.catalog → y.stamps ≡ x.stamps → y.scan ≡ None → y.max ≡ x.max → y.mpl ≡ x.mpl
+    → (before : State) → TablesAre s x before → TablesAre s y (dropped before)
+drops s x y catalog stamps scan max mpl before st =
+    let rest : State = state_of s x.max x.mpl x.stamps None st.tables [] in
+    let is : dropped before ≡ rest = ap dropped st.is ∙ dropped-is s x.max x.mpl x.stamps x.scan st.tables st.left in
+    subst (TablesAre s y) (sym is) (kept s y None rest x.max x.mpl x.catalog x.stamps catalog stamps scan max mpl (record {
+      pins = st.pins;
+      none_lent = st.none_lent;
+      most = st.most;
+      some_may = st.some_may;
+      no_indexes = st.no_indexes;
+      tables = st.tables;
+      pages = st.pages;
+      stand = st.stand;
+      left = [];
+      work = tt;
+      is = refl;
+    }))
+
+-- as many frames are reserved as the pool may have
+pub reserved : (s : Space) (x : Tables) (n : ℕ) (state : State) → TablesAre s x state → n ≤ x.max → n ≤ s.heaps.cap 0
+reserved s x n state st few = let m = st.most in omega (arith, m, few)

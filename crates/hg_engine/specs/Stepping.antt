@@ -1,5 +1,5 @@
 -- What a step of an engine promises: it says lines, and is a step of the plain machine. Our own rule.
-use Rattle.std.specs.Prelude.{◌≡◌, ℕ, ◌+◌, ⊤, false, List, Option, None, Some, IsTrue, slice_get}
+use Rattle.std.specs.Prelude.{◌≡◌, ℕ, ◌+◌, true, false, List, Option, None, Some, IsTrue, slice_get}
 use Rattle.hg_base.specs.Space.{Space, NoPins}
 use Rattle.hg_base.specs.Causes.{Later}
 use Rattle.hg_base.specs.Lines.{has_page}
@@ -13,6 +13,7 @@ use Rattle.hg_machine.specs.Plain.Refused.{damaged}
 use Rattle.hg_machine.specs.Plain.Replies.{ReplyLine, device_fault, file_full}
 use Rattle.hg_machine.specs.Plain.State.{State}
 use Rattle.hg_model.specs.Statements.{CommandTree, CreateTable, CreateIndex, InsertRows, UpdateRows, DeleteRows, Vacuum, SelectRows, OpenCursor, Start, Work, Fetch, Close, Pool, Mpl, ShowMemory}
+use Rattle.hg_model.specs.Tables.{same_name}
 use Rattle.hg_reply.specs.Steps.{DeviceFacts, FullCounts, Counted, FullOnlyWhereFull, Findings}
 use Rattle.hg_table.specs.Calls.{main_page, NamesGiven, IsPageCheck}
 use Rattle.hg_table.specs.Chains.{IsChain}
@@ -80,7 +81,7 @@ pub record InsertFinds (s : Space) (catalog : List CatalogTable) (name : List �
   pub table : ℕ
   pub entry : CatalogTable
   pub at : slice_get catalog table ≡ Some entry
-  pub named : entry.name ≡ name
+  pub named : same_name entry.name name ≡ true
   pub last : NamesGiven entry.pages.last (fault.Damaged page check)
   pub failed : IsPageCheck check
 

@@ -6,12 +6,13 @@ use crate::say::say_refusal;
 use crate::tables::Tables;
 use arrayvec::ArrayVec;
 use hg_bind::refuse_columns;
+use hg_base::NoMemory;
 use hg_catalog::Catalog;
 use hg_model::{Column, NewColumn};
 use hg_reply::{Reply, ReplyLine, TableAt};
 use hg_table::Stamps;
 use hg_value::Row;
-use std::alloc::{AllocError, Global};
+use std::alloc::Global;
 
 /// The columns of a table that is made.
 fn made_columns(columns: &[NewColumn]) -> ArrayVec<Column, 16>
@@ -39,6 +40,25 @@ impl Tables {
     ghost use Rattle.hg_reply.specs.Built.{is_built};
     ghost use Rattle.hg_reply.specs.Steps.{HasLines, TellOnlyFound, BeginsSo};
     ghost use Rattle.hg_engine.specs.Stepping.{TablesAre, CountedIn, StepsTo, no_damage};
+
+    /// No table, no stamp and no SELECT. All memory that is ever needed is taken here.
+    pub fn new(alloc: Global, max: u32, mpl: u32) -> Result<Tables, NoMemory>
+        ensures catalog { IfOk result (λ x. x.catalog ≡ record { tables = []; indexes = [] }) }
+        ensures stamps { IfOk result (λ x. x.stamps ≡ []) }
+        ensures scan { IfOk result (λ x. x.scan ≡ None) }
+        ensures max { IfOk result (λ x. x.max ≡ max) }
+        ensures mpl { IfOk result (λ x. x.mpl ≡ mpl) }
+    {
+        Ok(Tables {
+            catalog: Catalog::new(alloc)?,
+            stamps: Stamps::new(alloc)?,
+            scan: None,
+            max,
+            mpl,
+            row: Row::new(),
+            targets: ArrayVec::new(),
+        })
+    }
 
     /// CREATE TABLE.
     pub fn create_table(&mut self, table: &TableAt, reply: &mut Reply)

@@ -4,7 +4,7 @@ use crate::tables::Tables;
 use hg_io::PageDevice;
 use hg_model::Name;
 use hg_pool::Pool;
-use hg_reply::{Next, Reply, ReplyLine, TableAt};
+use hg_reply::{Asked, CommandAt, InsertAt, Next, Reply, ReplyLine, SelectAt, TableAt};
 
 /// The tables of an engine, the pool of their pages, and how many bytes the replies had so far.
 pub struct Kept<M: PageDevice, T: PageDevice> {
@@ -55,6 +55,23 @@ impl<M: PageDevice, T: PageDevice> Kept<M, T> {
         self.tables.create_table(table, reply);
     }
 
+    /// INSERT.
+    fn insert(&mut self, insert: &InsertAt, texts: &str, reply: &mut Reply)
+        requires idle { is_pending self.old ≡ false }
+        requires stands { IsSomeEngine M.PageDevice T.PageDevice self.old }
+        requires read { IsReadAs (frames_of self.old) (InsertRows (insert_at insert.now)) texts.now }
+        ensures step { EngineSteps M.PageDevice T.PageDevice self.old self.new reply.new
+            (BeginsSo (tells_of M.PageDevice T.PageDevice self.old) (InsertRows (insert_at insert.now)) texts.now)
+            (λ now. InsertFinds (space_of M.PageDevice T.PageDevice self.old) now.catalog.tables insert.now.table.now) }
+        ensures later { IsLater (space_of M.PageDevice T.PageDevice self.old) (space_of M.PageDevice T.PageDevice self.new) }
+        ensures said { self.new.said ≡ self.old.said }
+        ensures frames { frames_of self.new ≡ frames_of self.old }
+    {
+        reply.clear();
+        self.tables
+            .insert(&mut self.pool, insert, texts.as_bytes(), reply);
+    }
+
     /// SELECT.
     fn select(&mut self, table: &Name, reply: &mut Reply)
         requires idle { is_pending self.old ≡ false }
@@ -87,6 +104,54 @@ impl<M: PageDevice, T: PageDevice> Kept<M, T> {
         }
     }
 
+    /// SELECT of all rows of a table.
+    fn select_all(&mut self, select: &SelectAt, reply: &mut Reply)
+        requires idle { is_pending self.old ≡ false }
+        requires built { is_built (SelectRows (query_at select.now)) ≡ true }
+        ensures step { (texts : List ℕ) → EngineSteps M.PageDevice T.PageDevice self.old self.new reply.new
+            (BeginsSo (tells_of M.PageDevice T.PageDevice self.old) (SelectRows (query_at select.now)) texts) (λ now. no_damage) }
+        ensures later { IsLater (space_of M.PageDevice T.PageDevice self.old) (space_of M.PageDevice T.PageDevice self.new) }
+        ensures said { self.new.said ≡ self.old.said }
+        ensures frames { frames_of self.new ≡ frames_of self.old }
+    {
+        match select.tables.first() {
+            Some(from) => self.select(&from.table, reply),
+            None => unreachable!(),
+        }
+    }
+
+    /// A command up to its first turn.
+    fn begin(&mut self, asked: &Asked, reply: &mut Reply)
+        requires idle { is_pending self.old ≡ false }
+        requires stands { IsSomeEngine M.PageDevice T.PageDevice self.old }
+        requires read { IsReadAs (frames_of self.old) (command_in asked.now.command) (texts_in asked.now) }
+        requires built { is_built (command_in asked.now.command) ≡ true }
+        ensures step { EngineSteps M.PageDevice T.PageDevice self.old self.new reply.new
+            (BeginsSo (tells_of M.PageDevice T.PageDevice self.old) (command_in asked.now.command) (texts_in asked.now))
+            (λ now. CommandFinds (space_of M.PageDevice T.PageDevice self.old) now (command_in asked.now.command)) }
+        ensures later { IsLater (space_of M.PageDevice T.PageDevice self.old) (space_of M.PageDevice T.PageDevice self.new) }
+        ensures said { self.new.said ≡ self.old.said }
+        ensures frames { frames_of self.new ≡ frames_of self.old }
+    {
+        match asked.command {
+            CommandAt::CreateTable(table) => self.create(&table, reply),
+            CommandAt::Insert(insert) => self.insert(&insert, asked.texts, reply),
+            CommandAt::Select(select) => self.select_all(&select, reply),
+            CommandAt::Pool(frames) => self.resize(frames, reply),
+            CommandAt::CreateIndex(_)
+            | CommandAt::Update(_)
+            | CommandAt::Delete(_)
+            | CommandAt::Vacuum(_)
+            | CommandAt::OpenCursor(_, _)
+            | CommandAt::Start(_, _)
+            | CommandAt::Work(_)
+            | CommandAt::Fetch(_, _)
+            | CommandAt::Close(_)
+            | CommandAt::Mpl(_)
+            | CommandAt::ShowMemory => unreachable!(),
+        }
+    }
+
     /// One turn of the SELECT at work.
     fn turn(&mut self, reply: &mut Reply)
         requires pending { is_pending self.old ≡ true }
@@ -109,6 +174,25 @@ impl<M: PageDevice, T: PageDevice> Kept<M, T> {
         ensures pool { self.new.pool ≡ self.old.pool }
     {
         self.said = self.said.saturating_add(reply.text.len() as u64);
+    }
+
+    /// Answers a command up to its first turn.
+    pub(crate) fn answer(&mut self, asked: &Asked, reply: &mut Reply) -> Next
+        requires idle { is_pending self.old ≡ false }
+        requires stands { IsSomeEngine M.PageDevice T.PageDevice self.old }
+        requires read { IsReadAs (frames_of self.old) (command_in asked.now.command) (texts_in asked.now) }
+        requires built { is_built (command_in asked.now.command) ≡ true }
+        ensures step { EngineSteps M.PageDevice T.PageDevice self.old self.new reply.new
+            (BeginsSo (tells_of M.PageDevice T.PageDevice self.old) (command_in asked.now.command) (texts_in asked.now))
+            (λ now. CommandFinds (space_of M.PageDevice T.PageDevice self.old) now (command_in asked.now.command)) }
+        ensures more { (result ≡ Next.More) ↔ (is_pending self.new ≡ true) }
+        ensures later { IsLater (space_of M.PageDevice T.PageDevice self.old) (space_of M.PageDevice T.PageDevice self.new) }
+        ensures said { self.new.said ≡ raised self.old.said (array_vec_len reply.new.text) }
+        ensures frames { frames_of self.new ≡ frames_of self.old }
+    {
+        self.begin(asked, reply);
+        self.count(reply);
+        self.next()
     }
 
     /// Gives one turn of the command at work.

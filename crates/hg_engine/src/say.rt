@@ -7,7 +7,7 @@ ghost use Rattle.hg_machine.specs.Plain.Replies.{line_text, is_error};
 ghost use Rattle.hg_model.specs.Refusal.{Refusal};
 ghost use Rattle.hg_engine.specs.Stepping.{line_of};
 
-use hg_base::{File, PageFault};
+use hg_base::PageFault;
 use hg_bind::BindError;
 use hg_reply::{Reply, ReplyLine, Words};
 
@@ -18,14 +18,15 @@ pub fn say_fault(reply: &mut Reply, fault: PageFault)
     ensures errors { reply.new.has_error ≡ (reply.old.has_error || true) }
     ensures short { array_vec_len reply.new.text ≤ array_vec_len reply.old.text + 256 }
 {
-    let line = match fault {
-        PageFault::MainFault => ReplyLine::Error(17, Words::Nothing),
-        PageFault::TempFault => ReplyLine::Error(18, Words::Nothing),
-        PageFault::MainFull => ReplyLine::Error(19, Words::Nothing),
-        PageFault::TempFull => ReplyLine::Error(20, Words::Nothing),
-        PageFault::Damaged { page, check } => ReplyLine::Error(21, Words::Damage(page, check)),
-    };
-    reply.say(&line);
+    match fault {
+        PageFault::MainFault => reply.say(&ReplyLine::Error(17, Words::Nothing)),
+        PageFault::TempFault => reply.say(&ReplyLine::Error(18, Words::Nothing)),
+        PageFault::MainFull => reply.say(&ReplyLine::Error(19, Words::Nothing)),
+        PageFault::TempFull => reply.say(&ReplyLine::Error(20, Words::Nothing)),
+        PageFault::Damaged { page, check } => {
+            reply.say(&ReplyLine::Error(21, Words::Damage(page, check)))
+        }
+    }
 }
 
 /// Says why a statement is refused.
@@ -35,12 +36,11 @@ pub fn say_refusal(reply: &mut Reply, error: &BindError)
     ensures text { (r : Refusal) → error_of r ≡ error.now → reply.new.text.items ≡ reply.old.text.items ++ line_text (refusal_line r) }
     ensures errors { reply.new.has_error ≡ (reply.old.has_error || true) }
 {
-    let words = match &error.name {
-        Some(name) => Words::Column(name),
+    match &error.name {
+        Some(name) => reply.say(&ReplyLine::Error(error.code, Words::Column(name))),
         None => match error.kind {
-            Some(kind) => Words::Kind(kind),
-            None => Words::Nothing,
+            Some(kind) => reply.say(&ReplyLine::Error(error.code, Words::Kind(kind))),
+            None => reply.say(&ReplyLine::Error(error.code, Words::Nothing)),
         },
-    };
-    reply.say(&ReplyLine::Error(error.code, words));
+    }
 }
