@@ -72,14 +72,14 @@ fn count_keys(columns: &[NewColumn]) -> usize
     count
 }
 
-/// The first cause against CREATE TABLE.
-pub fn refuse_table(table: &NewTable, catalog: &Catalog) -> Option<BindError>
-    ensures { result ≡ option_map error_of (create_table_refusal (tables_of catalog.now) (indexes_of catalog.now) (table_tree table.now)) }
+/// The first cause against CREATE TABLE with this name and these columns.
+pub fn refuse_columns(name: &Name, columns: &[NewColumn], catalog: &Catalog) -> Option<BindError>
+    ensures { result ≡ option_map error_of (create_table_refusal (tables_of catalog.now) (indexes_of catalog.now)
+        (record { name = name.now; columns = columns.now })) }
 {
-    if is_table(catalog, &table.name) {
-        return Some(name_taken(&table.name));
+    if is_table(catalog, name) {
+        return Some(name_taken(name));
     }
-    let columns = table.columns.as_slice();
     if let Some(error) = repeated_column(columns) {
         return Some(error);
     }
@@ -93,4 +93,11 @@ pub fn refuse_table(table: &NewTable, catalog: &Catalog) -> Option<BindError>
         return Some(too_many(Count::Indexes));
     }
     None
+}
+
+/// The first cause against CREATE TABLE.
+pub fn refuse_table(table: &NewTable, catalog: &Catalog) -> Option<BindError>
+    ensures { result ≡ option_map error_of (create_table_refusal (tables_of catalog.now) (indexes_of catalog.now) (table_tree table.now)) }
+{
+    refuse_columns(&table.name, table.columns.as_slice(), catalog)
 }

@@ -1,5 +1,5 @@
 //! CREATE INDEX.
-ghost use Rattle.std.specs.Prelude.{◌≡◌, ◌≤◌, ◌*◌, ℕ, List, [], None, Some, IfOk, OnOk, IfErr, length, map, option_map};
+ghost use Rattle.std.specs.Prelude.{◌≡◌, ◌≤◌, ◌*◌, ℕ, Bool, List, [], None, Some, IfOk, OnOk, IfErr, length, map, option_map};
 ghost use Rattle.std.specs.Option.{option_copied};
 ghost use Rattle.std.specs.List.{list_any, sum_by};
 ghost use Rattle.hg_model.specs.Binding.{repeated_name};
@@ -105,29 +105,33 @@ fn key_length(columns: &[Column], numbers: &[u8]) -> usize
     sum
 }
 
-/// Binds a CREATE INDEX where it lies: the answer is the number of its table, and `numbers` gets those of
-/// its columns. That rows of the table break a unique index is looked for behind all of this, where the
-/// rows are.
-pub fn place_index(
-    index: &NewIndex,
+/// Binds a CREATE INDEX of these parts where they lie: the answer is the number of its table, and `numbers`
+/// gets those of its columns. That rows of the table break a unique index is looked for behind all of this,
+/// where the rows are: so far it is one whether the index is unique.
+pub fn place_key(
+    name: &Name,
+    table: &Name,
+    names: &[Name],
     catalog: &Catalog,
     numbers: &mut ArrayVec<u8, 16>,
 ) -> Result<u8, BindError>
+    requires few_names { length names.now ≤ 16 }
     requires empty { numbers.old.items ≡ [] }
-    ensures ok { IfOk result (λ table. IsPlacedIndex (tables_of catalog.now) (indexes_of catalog.now) (index_tree index.now) table numbers.new.items) }
-    ensures err { IfErr result (λ e. option_map error_of (create_index_refusal (tables_of catalog.now) (indexes_of catalog.now) (index_tree index.now)) ≡ Some e) }
+    ensures ok { IfOk result (λ number. (unique : Bool) → IsPlacedIndex (tables_of catalog.now) (indexes_of catalog.now)
+        (record { name = name.now; table = table.now; unique = unique; columns = names.now }) number numbers.new.items) }
+    ensures err { IfErr result (λ e. (unique : Bool) → option_map error_of (create_index_refusal (tables_of catalog.now) (indexes_of catalog.now)
+        (record { name = name.now; table = table.now; unique = unique; columns = names.now })) ≡ Some e) }
 {
-    if is_index(catalog, &index.name) {
-        return Err(name_taken(&index.name));
+    if is_index(catalog, name) {
+        return Err(name_taken(name));
     }
     if catalog.index_count() >= 64 {
         return Err(too_many(Count::Indexes));
     }
-    let Some(table) = catalog.table(&index.table) else {
-        return Err(unknown_table(&index.table));
+    let Some(number) = catalog.table(table) else {
+        return Err(unknown_table(table));
     };
-    let columns = catalog.columns(table).as_slice();
-    let names = index.columns.as_slice();
+    let columns = catalog.columns(number).as_slice();
     if let Err(error) = list_known(columns, names, numbers) {
         return Err(error);
     }
@@ -137,5 +141,27 @@ pub fn place_index(
     if key_length(columns, numbers.as_slice()) > 512 {
         return Err(key_too_long());
     }
-    Ok(table)
+    Ok(number)
+}
+
+/// Binds a CREATE INDEX where it lies, as [`place_key`] does.
+pub fn place_index(
+    index: &NewIndex,
+    catalog: &Catalog,
+    numbers: &mut ArrayVec<u8, 16>,
+) -> Result<u8, BindError>
+    requires empty { numbers.old.items ≡ [] }
+    ensures ok { IfOk result (λ table. IsPlacedIndex (tables_of catalog.now) (indexes_of catalog.now) (index_tree index.now) table numbers.new.items) }
+    ensures err { IfErr result (λ e. option_map error_of (create_index_refusal (tables_of catalog.now) (indexes_of catalog.now) (index_tree index.now)) ≡ Some e) }
+{
+    match place_key(
+        &index.name,
+        &index.table,
+        index.columns.as_slice(),
+        catalog,
+        numbers,
+    ) {
+        Ok(table) => Ok(table),
+        Err(error) => Err(error),
+    }
 }

@@ -11,7 +11,7 @@ use crate::kinds::{all_well_typed, filter_fits};
 use crate::nodes::{Places, last_cause, list_kinds, place_nodes};
 use arrayvec::ArrayVec;
 use hg_catalog::Catalog;
-use hg_model::{Column, Delete, Node};
+use hg_model::{Column, Delete, Name, Node};
 
 /// A DELETE with the number of its table, and the place of each node's column.
 #[derive(Drop)]
@@ -33,8 +33,37 @@ fn types_fit(columns: &[Column], nodes: &[Node], places: &[(u8, u8)], filter: Op
     all_well_typed(nodes, kinds.as_slice()) && filter_fits(kinds.as_slice(), filter)
 }
 
-/// Binds a DELETE where it lies: the answer is the number of its table, and `places` gets the place of
-/// each node's column.
+/// Binds a DELETE of these parts where they lie: the answer is the number of its table, and `places` gets
+/// the place of each node's column.
+pub fn place_filter(
+    table: &Name,
+    filter: Option<u8>,
+    nodes: &[Node],
+    catalog: &Catalog,
+    places: &mut Places,
+) -> Result<u8, BindError>
+    requires few_nodes { length nodes.now ≤ 112 }
+    requires empty { places.old.items ≡ [] }
+    ensures ok { IfOk result (λ number. IsPlacedDelete (tables_of catalog.now) (record { table = table.now; filter = filter; nodes = nodes.now }) number places.new.items) }
+    ensures err { IfErr result (λ e. option_map error_of (delete_refusal (tables_of catalog.now) (record { table = table.now; filter = filter; nodes = nodes.now })) ≡ Some e) }
+{
+    let Some(number) = catalog.table(table) else {
+        return Err(unknown_table(table));
+    };
+    let columns = catalog.columns(number).as_slice();
+    if let Err(error) = place_nodes(columns, table, nodes, places) {
+        return Err(error);
+    }
+    if !types_fit(columns, nodes, places.as_slice(), filter) {
+        return Err(type_mismatch());
+    }
+    match last_cause(nodes) {
+        Some(error) => Err(error),
+        None => Ok(number),
+    }
+}
+
+/// Binds a DELETE where it lies, as [`place_filter`] does.
 pub fn place_delete(
     delete: &Delete,
     catalog: &Catalog,
@@ -44,20 +73,15 @@ pub fn place_delete(
     ensures ok { IfOk result (λ table. IsPlacedDelete (tables_of catalog.now) (delete_tree delete.now) table places.new.items) }
     ensures err { IfErr result (λ e. option_map error_of (delete_refusal (tables_of catalog.now) (delete_tree delete.now)) ≡ Some e) }
 {
-    let Some(table) = catalog.table(&delete.table) else {
-        return Err(unknown_table(&delete.table));
-    };
-    let columns = catalog.columns(table).as_slice();
-    let nodes = delete.nodes.as_slice();
-    if let Err(error) = place_nodes(columns, &delete.table, nodes, places) {
-        return Err(error);
-    }
-    if !types_fit(columns, nodes, places.as_slice(), delete.filter) {
-        return Err(type_mismatch());
-    }
-    match last_cause(nodes) {
-        Some(error) => Err(error),
-        None => Ok(table),
+    match place_filter(
+        &delete.table,
+        delete.filter,
+        delete.nodes.as_slice(),
+        catalog,
+        places,
+    ) {
+        Ok(table) => Ok(table),
+        Err(error) => Err(error),
     }
 }
 

@@ -86,8 +86,37 @@ fn list_targets(
     }
 }
 
-/// Binds an INSERT where it lies: the answer is the number of its table, and `targets` gets the number
-/// of the column of each value.
+/// Binds an INSERT of these parts where they lie: the answer is the number of its table, and `targets`
+/// gets the number of the column of each value.
+pub fn place_values(
+    table: &Name,
+    names: &[Name],
+    values: &[Literal],
+    ends: &[u16],
+    catalog: &Catalog,
+    targets: &mut ArrayVec<u8, 16>,
+) -> Result<u8, BindError>
+    requires few_names { length names.now ≤ 16 }
+    requires empty { targets.old.items ≡ [] }
+    ensures ok { IfOk result (λ number. IsPlacedInsert (tables_of catalog.now)
+        (record { table = table.now; columns = names.now; values = values.now; ends = ends.now }) number targets.new.items) }
+    ensures err { IfErr result (λ e. option_map error_of (insert_refusal (tables_of catalog.now)
+        (record { table = table.now; columns = names.now; values = values.now; ends = ends.now })) ≡ Some e) }
+{
+    let Some(number) = catalog.table(table) else {
+        return Err(unknown_table(table));
+    };
+    let columns = catalog.columns(number).as_slice();
+    if let Err(error) = list_targets(columns, names, targets) {
+        return Err(error);
+    }
+    if !tuples_fit(columns, targets.as_slice(), values, ends) {
+        return Err(type_mismatch());
+    }
+    Ok(number)
+}
+
+/// Binds an INSERT where it lies, as [`place_values`] does.
 pub fn place_insert(
     insert: &Insert,
     catalog: &Catalog,
@@ -97,22 +126,17 @@ pub fn place_insert(
     ensures ok { IfOk result (λ table. IsPlacedInsert (tables_of catalog.now) (insert_tree insert.now) table targets.new.items) }
     ensures err { IfErr result (λ e. option_map error_of (insert_refusal (tables_of catalog.now) (insert_tree insert.now)) ≡ Some e) }
 {
-    let Some(table) = catalog.table(&insert.table) else {
-        return Err(unknown_table(&insert.table));
-    };
-    let columns = catalog.columns(table).as_slice();
-    if let Err(error) = list_targets(columns, insert.columns.as_slice(), targets) {
-        return Err(error);
-    }
-    if !tuples_fit(
-        columns,
-        targets.as_slice(),
+    match place_values(
+        &insert.table,
+        insert.columns.as_slice(),
         insert.values.as_slice(),
         insert.ends.as_slice(),
+        catalog,
+        targets,
     ) {
-        return Err(type_mismatch());
+        Ok(table) => Ok(table),
+        Err(error) => Err(error),
     }
-    Ok(table)
 }
 
 /// Binds an INSERT, or answers the first cause against it. The answer is given by value;

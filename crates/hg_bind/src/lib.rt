@@ -31,11 +31,11 @@ mod tests;
 mod update;
 mod width;
 
-pub use create::refuse_table;
-pub use create_index::place_index;
-pub use delete::{BoundDelete, bind_delete, place_delete};
+pub use create::{refuse_columns, refuse_table};
+pub use create_index::{place_index, place_key};
+pub use delete::{BoundDelete, bind_delete, place_delete, place_filter};
 pub use errors::BindError;
 pub use from::{place_in_from, place_of_name};
-pub use insert::{BoundInsert, bind_insert, place_insert};
+pub use insert::{BoundInsert, bind_insert, place_insert, place_values};
 pub use nodes::Places;
-pub use update::{BoundUpdate, bind_update, place_update};
+pub use update::{BoundUpdate, bind_update, place_sets, place_update};

@@ -105,8 +105,53 @@ fn types_fit(
         && filter_fits(kinds.as_slice(), filter)
 }
 
-/// Binds an UPDATE where it lies: the answer is the number of its table, `targets` gets the number of
-/// the column of each SET item, and `places` the place of each node's column.
+/// Binds an UPDATE of these parts where they lie: the answer is the number of its table, `targets` gets
+/// the number of the column of each SET item, and `places` the place of each node's column.
+pub fn place_sets(
+    table: &Name,
+    sets: &[(Name, u8)],
+    filter: Option<u8>,
+    nodes: &[Node],
+    catalog: &Catalog,
+    targets: &mut ArrayVec<u8, 16>,
+    places: &mut Places,
+) -> Result<u8, BindError>
+    requires few_sets { length sets.now ≤ 16 }
+    requires few_nodes { length nodes.now ≤ 112 }
+    requires no_targets { targets.old.items ≡ [] }
+    requires no_places { places.old.items ≡ [] }
+    ensures ok { IfOk result (λ number. IsPlacedUpdate (tables_of catalog.now)
+        (record { table = table.now; sets = sets.now; filter = filter; nodes = nodes.now }) number targets.new.items places.new.items) }
+    ensures err { IfErr result (λ e. option_map error_of (update_refusal (tables_of catalog.now)
+        (record { table = table.now; sets = sets.now; filter = filter; nodes = nodes.now })) ≡ Some e) }
+{
+    let Some(number) = catalog.table(table) else {
+        return Err(unknown_table(table));
+    };
+    let columns = catalog.columns(number).as_slice();
+    if let Err(error) = list_targets(columns, sets, targets) {
+        return Err(error);
+    }
+    if let Err(error) = place_nodes(columns, table, nodes, places) {
+        return Err(error);
+    }
+    if !types_fit(
+        columns,
+        targets.as_slice(),
+        sets,
+        nodes,
+        places.as_slice(),
+        filter,
+    ) {
+        return Err(type_mismatch());
+    }
+    match last_cause(nodes) {
+        Some(error) => Err(error),
+        None => Ok(number),
+    }
+}
+
+/// Binds an UPDATE where it lies, as [`place_sets`] does.
 pub fn place_update(
     update: &Update,
     catalog: &Catalog,
@@ -118,31 +163,17 @@ pub fn place_update(
     ensures ok { IfOk result (λ table. IsPlacedUpdate (tables_of catalog.now) (update_tree update.now) table targets.new.items places.new.items) }
     ensures err { IfErr result (λ e. option_map error_of (update_refusal (tables_of catalog.now) (update_tree update.now)) ≡ Some e) }
 {
-    let Some(table) = catalog.table(&update.table) else {
-        return Err(unknown_table(&update.table));
-    };
-    let columns = catalog.columns(table).as_slice();
-    let sets = update.sets.as_slice();
-    if let Err(error) = list_targets(columns, sets, targets) {
-        return Err(error);
-    }
-    let nodes = update.nodes.as_slice();
-    if let Err(error) = place_nodes(columns, &update.table, nodes, places) {
-        return Err(error);
-    }
-    if !types_fit(
-        columns,
-        targets.as_slice(),
-        sets,
-        nodes,
-        places.as_slice(),
+    match place_sets(
+        &update.table,
+        update.sets.as_slice(),
         update.filter,
+        update.nodes.as_slice(),
+        catalog,
+        targets,
+        places,
     ) {
-        return Err(type_mismatch());
-    }
-    match last_cause(nodes) {
-        Some(error) => Err(error),
-        None => Ok(table),
+        Ok(table) => Ok(table),
+        Err(error) => Err(error),
     }
 }
 

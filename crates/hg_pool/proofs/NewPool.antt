@@ -105,7 +105,7 @@ new-shown c d s h =
     (λ q. ap (λ t. if t && tells v q then Some (held_in v.frame v.place v.page q) else None) (free q))
     (λ q. ap (λ t. t && (v.frame (v.place q)).pinned) (out q))
     h.pins next (λ q. ap (λ t. t && (v.frame (v.place q)).lent) (out q))
-    (ap no_heaps h.frames.count)
+    (λ i. no_heaps (h.frames.count i) (h.max i))
     (ap (λ (a : Answers). counts_of d (record s { answers = a })) h.answers)
 
 pub new-no_pins : (c : Config) (d : Disks) (v : Space) → v ≡ new_space c d → NoPins v

@@ -63,7 +63,7 @@ regrouped a frame n h each =
           paged = λ l. absurd (false≢true (sym g.home ∙ l));
         }
       ];
-      same = shown-same w b (record { told = refl; limit = refl; device_limit = refl; taken = refl; next = refl; pins = refl; current = refl })
+      same = shown-same w b (record { told = refl; limit = refl; device_limit = refl; taken = refl; next = refl; pins = refl; current = refl; most = refl })
           (λ q. elim (each (a.place q)) [
             | inl e ↦ same-at w b q (a.frame (a.place q)) (a.frame (a.place q)) refl e
                 (same-here a.told q (a.frame (a.place q)) (a.frame (a.place q)) a.page a.page refl refl refl refl (λ t out. refl))
@@ -125,7 +125,7 @@ resized-sound d s fr n h pins lent least most r free clean =
     let each = stays-or-goes s.frames fr n r free clean in
     let busy : (f : ℕ) → is_busy (frame_at fr.items f) ≡ false = λ f. still-free (frame_at s.frames.items f) (frame_at fr.items f) (free f) (each f) in
     let keeps = regrouped (picture_of d s) (frame_at fr.items) (length fr.items) h.coherent each in record {
-      coherent = keeps.coherent;
+      coherent = subst (λ m. IsCoherent (record (picture_of d s) { frame = frame_at fr.items; current = length fr.items; most = m })) (sym r.max) keeps.coherent;
       shape = record {
         counted = pinned-none fr.items (λ f. (not-or (frame_at fr.items f).pinned (frame_at fr.items f).lent (busy f)).0) ∙ sym pins;
         few = h.shape.few;
@@ -152,7 +152,8 @@ pub resized-shown : (d : Disks) (s : Store) (fr : FramesSeen) (n : ℕ) → IsSo
     → ((f : ℕ) → is_busy (frame_at s.frames.items f) ≡ false) → ((f : ℕ) → n ≤ f → IsClean (frame_at s.frames.items f))
     → shown (picture_of d (record s { frames = fr })) ≡ with_current (shown (picture_of d s)) n
 resized-shown d s fr n h r free clean =
-    (regrouped (picture_of d s) (frame_at fr.items) (length fr.items) h.coherent (stays-or-goes s.frames fr n r free clean)).same
+    (λ i. shown (record (picture_of d (record s { frames = fr })) { most = r.max i }))
+    ∙ (regrouped (picture_of d s) (frame_at fr.items) (length fr.items) h.coherent (stays-or-goes s.frames fr n r free clean)).same
     ∙ ap (with_current (shown (picture_of d s))) r.count
 
 -- where no frame is out, none is pinned or handed out

@@ -34,7 +34,7 @@ cleaned a f p now n h e put kept =
             clean = λ r d _ l t. let one : ◌≡◌ {A = Option PageId} (Some p) (Some r) = sym e ∙ d in
                 let same : p ≡ r = cc in sym (put t) ∙ ap (λ k. now (key k)) same;
           });
-      same = shown-same a b (record { told = refl; limit = refl; device_limit = refl; taken = refl; next = refl; pins = refl; current = refl })
+      same = shown-same a b (record { told = refl; limit = refl; device_limit = refl; taken = refl; next = refl; pins = refl; current = refl; most = refl })
           (λ q. same-frame a b f x q refl refl
           (λ here. same-here a.told q (a.frame f) x a.page now refl refl refl refl
           (λ t out. kept t q (not-found a f p q h e (ap (λ k. is_key_of q (a.frame k).page) here ∙ out))))
@@ -49,7 +49,7 @@ write-failed a f p now n h e dirty kept =
     let b : Picture = record a { page = now; counts = n } in record {
       coherent = λ g. fits-kept a b g (a.frame g) (h g) refl (λ r d. refl) (λ r d. refl)
           (λ r d clean t. kept t (key r) (λ s. false≢true (sym clean ∙ ap (λ k. (a.frame k).dirty) (sym ((h g).found r d) ∙ ap a.place s ∙ (h f).found p e) ∙ dirty)));
-      same = shown-same a b (record { told = refl; limit = refl; device_limit = refl; taken = refl; next = refl; pins = refl; current = refl })
+      same = shown-same a b (record { told = refl; limit = refl; device_limit = refl; taken = refl; next = refl; pins = refl; current = refl; most = refl })
           (λ q. same-at a b q (a.frame (a.place q)) (a.frame (a.place q)) refl refl
           (same-here a.told q (a.frame (a.place q)) (a.frame (a.place q)) a.page now refl refl refl refl (λ t out. kept t q (not-found a f p q h e out))));
     }
@@ -101,7 +101,7 @@ emptied a f h clean out home =
             apart = λ _. home;
             paged = λ l. absurd (false≢true (sym home ∙ l));
           });
-      same = shown-same a b (record { told = refl; limit = refl; device_limit = refl; taken = refl; next = refl; pins = refl; current = refl })
+      same = shown-same a b (record { told = refl; limit = refl; device_limit = refl; taken = refl; next = refl; pins = refl; current = refl; most = refl })
           (λ q. same-frame a b f x q refl refl
           (λ here. record {
             pinned = sym (ap (λ s. is_key_of q y.page && s) out ∙ and-false (is_key_of q y.page));
@@ -129,7 +129,7 @@ blurred a f x now n h none none' home kept =
             apart = λ _. home;
             paged = λ l. absurd (false≢true (sym home ∙ l));
           });
-      same = shown-same a b (record { told = refl; limit = refl; device_limit = refl; taken = refl; next = refl; pins = refl; current = refl })
+      same = shown-same a b (record { told = refl; limit = refl; device_limit = refl; taken = refl; next = refl; pins = refl; current = refl; most = refl })
           (λ q. away a b f x q refl refl (λ t. kept t q) (key-of-none q (a.frame f).page none) (key-of-none q x.page none'));
     }
 
@@ -153,7 +153,7 @@ loaded a f p bytes now n h none taken out whole same kept =
             paged = λ l. absurd (false≢true l);
             clean = λ r d _ l t. same t ∙ sym (kept t (key p)) ∙ ap (λ k. now (key k)) (one r d);
           });
-      same = shown-same a b (record { told = refl; limit = refl; device_limit = refl; taken = refl; next = refl; pins = refl; current = refl })
+      same = shown-same a b (record { told = refl; limit = refl; device_limit = refl; taken = refl; next = refl; pins = refl; current = refl; most = refl })
           (λ q. elim (eqb_tells q (key p)) [
             | inl e ↦ same-at a b q (a.frame (a.place q)) x refl
                 (ap (λ k. at a.frame f x (at a.place (key p) f k)) e.1 ∙ ap (at a.frame f x) (at-here a.place (key p) f) ∙ at-here a.frame f x)

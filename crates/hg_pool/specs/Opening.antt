@@ -43,7 +43,7 @@ new_space c d = record {
   pins = 0;
   next = λ _. None;
   of_heap = λ _. false;
-  heaps = no_heaps c.pool;
+  heaps = no_heaps c.pool c.max;
   counts = record { main_device = d.main.faults; temp_device = d.temp.faults; main = 0; temp = 0; main_full = 0; temp_full = 0 };
 }
 

@@ -57,6 +57,7 @@ pub record Picture : Type 0 where
   pub pins : ℕ
   -- how many frames are in use
   pub current : ℕ
+  pub most : ℕ
   pub counts : Counts
 
 -- whether this is the page with that key
@@ -85,9 +86,10 @@ tells v q = (v.told || is_pinned v.frame v.place q) && not (is_lent v.frame v.pl
 abbrev pub bytes_told : Picture → ℕ → Option (List ℕ)
 bytes_told v q = if v.taken q && tells v q then Some (held_in v.frame v.place v.page q) else None
 
--- no heaps, and the numbers of a pool that has none
-abbrev pub no_heaps : ℕ → Heaps
-no_heaps current = record { heap = λ _. None; current = current; cap = λ _. 0; peak = λ _. 0 }
+-- no heaps, and the numbers of a pool that has none: so many frames in use, and for each request as many pages at
+-- most as frames are reserved
+abbrev pub no_heaps : (current most : ℕ) → Heaps
+no_heaps current most = record { heap = λ _. None; current = current; cap = λ _. most; peak = λ _. 0 }
 
 abbrev pub shown : Picture → Space
 shown v = record {
@@ -100,7 +102,7 @@ shown v = record {
   pins = v.pins;
   next = v.next;
   of_heap = is_lent v.frame v.place;
-  heaps = no_heaps v.current;
+  heaps = no_heaps v.current v.most;
   counts = v.counts;
 }
 
@@ -126,5 +128,6 @@ picture_of d s = record {
   page = page_on d;
   pins = s.pins;
   current = length s.frames.items;
+  most = s.frames.max;
   counts = counts_of d s;
 }

@@ -25,6 +25,7 @@ pub record SameFront (a b : Picture) : Type 0 where
   pub next : b.next ≡ a.next
   pub pins : b.pins ≡ a.pins
   pub current : b.current ≡ a.current
+  pub most : b.most ≡ a.most
 
 choose : (t s : Bool) (x y : List ℕ) → (s ≡ true → x ≡ y) → ◌≡◌ {A = Option (List ℕ)} (if t && s then Some x else None) (if t && s then Some y else None)
 choose true true x y e = ap Some (e refl)
@@ -60,7 +61,7 @@ shown-same a b front h = λ i. record (shown b) {
   pins = front.pins i;
   next = front.next i;
   of_heap = λ q. (h q).lent i;
-  heaps = record (shown b).heaps { current = front.current i };
+  heaps = record (shown b).heaps { current = front.current i; cap = λ _. front.most i };
 }
 
 -- where all pages but one show the same, the bytes that are told change at its key alone

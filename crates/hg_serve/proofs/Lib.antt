@@ -10,3 +10,4 @@ pub mod Closing
 pub mod Endings
 pub mod Breaking
 pub mod Feeds
+pub mod Outcomes

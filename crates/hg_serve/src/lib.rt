@@ -22,7 +22,13 @@ mod output;
 mod serving;
 mod session;
 mod statuses;
+mod top;
 
 pub use commands::built;
-pub use serving::read_and_answer;
+pub use hg_engine::{Config, Devices, Engine};
+pub use serving::serve;
 pub use statuses::Status;
+pub use top::{Outcome, run};
+
+#[cfg(test)]
+mod tests;

@@ -3,7 +3,8 @@ ghost use Rattle.std.specs.Prelude.{◌≡◌, ◌≢◌, ◌≤◌, ◌<◌, �
 ghost use Rattle.hg_io.specs.Count.{raised, Rose, HasCause};
 ghost use Rattle.hg_io.specs.Bytes.{Reads};
 ghost use Rattle.hg_machine.specs.Plain.State.{State};
-ghost use Rattle.hg_machine.specs.Plain.Outcome.{Took};
+ghost use Rattle.hg_engine.specs.Shown.{IsEngineOf, faults_of, is_pending, said_by_engine, tells_of};
+ghost use Rattle.hg_machine.specs.Plain.Outcome.{Took, AnswersAll, AnswersWholeLines, AnswersUpToLimit, AnswersInPart};
 ghost use Rattle.hg_reply.specs.Steps.{NoneFell};
 ghost use Rattle.hg_serve.specs.Ending.{Ends, ReadsSome, TakesSoMany, outside};
 ghost use Rattle.hg_serve.specs.Output.{Stops, moment};
@@ -11,7 +12,8 @@ ghost use Rattle.hg_serve.specs.Run.{Reaches, StopsAt};
 
 use crate::session::Session;
 use crate::statuses::Status;
-use hg_io::{Failed, Sink, Source};
+use hg_engine::Engine;
+use hg_io::{Failed, PageDevice, Sink, Source};
 use hg_reply::Machine;
 
 /// How many bytes of a script are taken at most.
@@ -34,7 +36,7 @@ fn read_some<S: Source>(source: &mut S, buffer: &mut [u8], room: usize) -> Resul
 
 /// Serves the script of the source to its end, to its limit, or until source or sink fails. The reply
 /// lines that wait are written before the source is asked for more.
-pub fn read_and_answer<E: Machine, S: Source, K: Sink>(
+fn read_and_answer<E: Machine, S: Source, K: Sink>(
     engine: &mut E,
     source: &mut S,
     sink: &mut K,
@@ -81,4 +83,71 @@ pub fn read_and_answer<E: Machine, S: Source, K: Sink>(
         Ok(()) => Status::TooLong,
         Err(Failed) => Status::SinkFault,
     }
+}
+
+/// Serves the script of `source` by the engine, and writes the replies to `sink`. Nothing is pending in
+/// the engine, before and after: where the sink fails, the command at work is dropped.
+///
+/// In the clauses, the outside is what source, sink and engine tell at one moment: the bytes left, the
+/// count of bytes given, the bytes written, and the devices' counts of faults. The replies are those of
+/// the machine from whatever state the engine stood for, to one that it stands for afterwards.
+pub fn serve<S: Source, K: Sink, M: PageDevice, T: PageDevice>(
+    engine: &mut Engine<M, T>,
+    source: &mut S,
+    sink: &mut K,
+) -> Status
+    requires idle { is_pending engine.old.database ≡ false }
+
+    // There is a state that the engine stood for.
+    ensures stood { (s : State) × IsEngineOf M.PageDevice T.PageDevice engine.old.database s }
+
+    // The script was read to its end, and what is written is the text of a run of the machine over all
+    // its lines, with an error line exactly where the status is Errors.
+    ensures clean { result ≡ Status.Clean → (first : State) → IsEngineOf M.PageDevice T.PageDevice engine.old.database first
+        → AnswersAll (Reaches (IsEngineOf M.PageDevice T.PageDevice) (tells_of M.PageDevice T.PageDevice engine.old.database) engine.new.database first)
+        (outside (S.left source.old) (S.given source.old) (K.written sink.old) (faults_of M.PageDevice T.PageDevice engine.old.database))
+        (outside (S.left source.new) (S.given source.new) (K.written sink.new) (faults_of M.PageDevice T.PageDevice engine.new.database)) false }
+    ensures errors { result ≡ Status.Errors → (first : State) → IsEngineOf M.PageDevice T.PageDevice engine.old.database first
+        → AnswersAll (Reaches (IsEngineOf M.PageDevice T.PageDevice) (tells_of M.PageDevice T.PageDevice engine.old.database) engine.new.database first)
+        (outside (S.left source.old) (S.given source.old) (K.written sink.old) (faults_of M.PageDevice T.PageDevice engine.old.database))
+        (outside (S.left source.new) (S.given source.new) (K.written sink.new) (faults_of M.PageDevice T.PageDevice engine.new.database)) true }
+
+    // A fault only where that count rose; after a source fault the lines read whole were answered, and
+    // no part of a line was run; after a sink fault the run stopped, and a front of its replies was written.
+    ensures source_fault { result ≡ Status.SourceFault → Rose (S.faults source.old) (S.faults source.new) }
+    ensures source_fault_answers { result ≡ Status.SourceFault → (first : State) → IsEngineOf M.PageDevice T.PageDevice engine.old.database first
+        → AnswersWholeLines (Reaches (IsEngineOf M.PageDevice T.PageDevice) (tells_of M.PageDevice T.PageDevice engine.old.database) engine.new.database first)
+        (outside (S.left source.old) (S.given source.old) (K.written sink.old) (faults_of M.PageDevice T.PageDevice engine.old.database))
+        (outside (S.left source.new) (S.given source.new) (K.written sink.new) (faults_of M.PageDevice T.PageDevice engine.new.database)) }
+    ensures sink_fault { result ≡ Status.SinkFault → Rose (K.faults sink.old) (K.faults sink.new) }
+    ensures sink_fault_answers { result ≡ Status.SinkFault → (first : State) → IsEngineOf M.PageDevice T.PageDevice engine.old.database first
+        → AnswersInPart (StopsAt (IsEngineOf M.PageDevice T.PageDevice) (tells_of M.PageDevice T.PageDevice engine.old.database) engine.new.database first)
+        (outside (S.left source.old) (S.given source.old) (K.written sink.old) (faults_of M.PageDevice T.PageDevice engine.old.database))
+        (outside (S.left source.new) (S.given source.new) (K.written sink.new) (faults_of M.PageDevice T.PageDevice engine.new.database)) }
+
+    // The limit of 2^32 bytes, both ways: a sink fault alone comes before it.
+    ensures too_long { result ≡ Status.TooLong → (first : State) → IsEngineOf M.PageDevice T.PageDevice engine.old.database first
+        → AnswersUpToLimit (Reaches (IsEngineOf M.PageDevice T.PageDevice) (tells_of M.PageDevice T.PageDevice engine.old.database) engine.new.database first)
+        (outside (S.left source.old) (S.given source.old) (K.written sink.old) (faults_of M.PageDevice T.PageDevice engine.old.database))
+        (outside (S.left source.new) (S.given source.new) (K.written sink.new) (faults_of M.PageDevice T.PageDevice engine.new.database)) }
+    ensures too_long_always { S.given source.new < 2 ^ 64 - 1 → S.given source.new ≡ S.given source.old + 2 ^ 32
+        → (result ≡ Status.TooLong) ⊎ (result ≡ Status.SinkFault) }
+
+    // After a sink fault no turn is given any more: of what the engine said, at most what waits at most
+    // and one reply were not written.
+    ensures sink_fault_stops { result ≡ Status.SinkFault
+        → Stops (moment (K.written sink.old) (faults_of M.PageDevice T.PageDevice engine.old.database) (said_by_engine engine.old.database))
+        (moment (K.written sink.new) (faults_of M.PageDevice T.PageDevice engine.new.database) (said_by_engine engine.new.database)) [] }
+
+    // The words of the command line and the opening are not its own.
+    ensures no_usage { result ≢ Status.Usage }
+    ensures no_memory { result ≢ Status.NoMemory }
+
+    ensures idle { is_pending engine.new.database ≡ false }
+    ensures later { NoneFell (faults_of M.PageDevice T.PageDevice engine.old.database) (faults_of M.PageDevice T.PageDevice engine.new.database) }
+    ensures source_later { S.faults source.old ≤ S.faults source.new }
+    ensures sink_later { K.faults sink.old ≤ K.faults sink.new }
+{
+    engine.database.stands_for_a_state();
+    read_and_answer(&mut engine.database, source, sink)
 }

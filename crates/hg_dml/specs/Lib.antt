@@ -1,0 +1,9 @@
+pub mod Lent
+pub mod Seen
+pub mod SeenLaws
+pub mod Putting
+pub mod Rows
+pub mod Inserting
+pub mod Steps
+pub mod Tuples
+pub mod Fitting

@@ -1,0 +1,134 @@
+-- Laws of the rows that a snapshot sees.
+use Rattle.std.specs.Prelude.{◌≡◌, ℕ, ◌≤◌, nat_lt, nat_le, Bool, true, false, List, [], ◌∷◌, ◌++◌, Option, Some, None, MatchOption, ⊤, map, if◌then◌else◌}
+use Rattle.std.specs.List.{filter, AllByRecursion}
+use Rattle.std.specs.List.Sorted.{IsPermutation}
+use Rattle.std.proofs.Common.{sym, ◌∙◌, ap, subst, refl, arith, append_assoc, length-append}
+use Rattle.std.proofs.lemmas.Bool.Decides.{nat_tests}
+use Rattle.std.proofs.lemmas.List.{append-nil, map-append}
+use Rattle.std.proofs.lemmas.List.Elements.{filter-append}
+use Rattle.std.proofs.lemmas.List.Sorted.{IsPermutation-refl, IsPermutation-trans, IsPermutation-sym, IsPermutation-middle, IsPermutation-to_front, IsPermutation-append_left}
+use Rattle.hg_base.specs.declared.Place.{Place}
+use Rattle.hg_model.specs.Visible.{is_alive}
+use Rattle.hg_model.specs.declared.values.Value.{Value}
+use Rattle.hg_table.specs.Versions.{Placed}
+use Rattle.hg_table.specs.Calls.{PutsIn, newborn}
+use Rattle.hg_dml.specs.Seen.{is_seen, row_of, seen_rows, IsPast}
+use Rattle.hg_dml.specs.Putting.{Joined}
+
+lt-no : (a b : ℕ) → b ≤ a → nat_lt a b ≡ false
+lt-no a b h = grind (arith, nat_tests)
+
+le-yes : (a b : ℕ) → a ≤ b → nat_le a b ≡ true
+le-yes a b h = grind (arith, nat_tests)
+
+-- a later snapshot sees a past version as an earlier one does
+alive-later : (c d : ℕ → Bool) (n m : ℕ) (died : Option ℕ) → ((k : ℕ) → k ≤ n → d k ≡ c k) → n ≤ m
+    → MatchOption died ⊤ (λ k. k ≤ n) → is_alive d m died ≡ is_alive c n died
+alive-later c d n m None agree later past = refl
+alive-later c d n m (Some k) agree later past = rw (agree k past, lt-no n k past, lt-no m k (omega arith)) refl
+
+seen-later : (c d : ℕ → Bool) (n m : ℕ) (v : Placed) → ((k : ℕ) → k ≤ n → d k ≡ c k) → n ≤ m → IsPast n v → is_seen d m v ≡ is_seen c n v
+seen-later c d n m v agree later past =
+    rw (
+      agree v.version.born past.born,
+      alive-later c d n m v.version.died agree later past.died,
+      le-yes v.version.born n past.born,
+      le-yes v.version.born m (let b = past.born in omega arith),
+    ) refl
+
+pub seen_rows-cons : (c : ℕ → Bool) (n : ℕ) (v : Placed) (vs : List Placed)
+    → seen_rows c n (v ∷ vs) ≡ (if is_seen c n v then row_of v ∷ seen_rows c n vs else seen_rows c n vs)
+seen_rows-cons c n v vs = elim (is_seen c n v) as (λ b. map row_of (if b then v ∷ filter (is_seen c n) vs else filter (is_seen c n) vs) ≡ (if b then row_of v ∷ seen_rows c n vs else seen_rows c n vs)) [
+  | true ↦ refl
+  | false ↦ refl
+]
+
+pub seen_rows-later : (c d : ℕ → Bool) (n m : ℕ) (vs : List Placed) → ((k : ℕ) → k ≤ n → d k ≡ c k) → n ≤ m
+    → AllByRecursion (IsPast n) vs → seen_rows d m vs ≡ seen_rows c n vs
+seen_rows-later c d n m [] agree later past = refl
+seen_rows-later c d n m (v ∷ vs) agree later past =
+    seen_rows-cons d m v vs
+    ∙ ap (λ b. if b then row_of v ∷ seen_rows d m vs else seen_rows d m vs) (seen-later c d n m v agree later past.0)
+    ∙ ap (λ rs. if is_seen c n v then row_of v ∷ rs else rs) (seen_rows-later c d n m vs agree later past.1)
+    ∙ sym (seen_rows-cons c n v vs)
+
+pub past-later : (n m : ℕ) (vs : List Placed) → n ≤ m → AllByRecursion (IsPast n) vs → AllByRecursion (IsPast m) vs
+past-later n m [] later past = tt
+past-later n m (v ∷ vs) later past = (past-one n m v later past.0, past-later n m vs later past.1)
+  where
+    died-later : (n m : ℕ) (died : Option ℕ) → n ≤ m → MatchOption died ⊤ (λ k. k ≤ n) → MatchOption died ⊤ (λ k. k ≤ m)
+    died-later n m None later past = tt
+    died-later n m (Some k) later past = omega arith
+
+    past-one : (n m : ℕ) (v : Placed) → n ≤ m → IsPast n v → IsPast m v
+    past-one n m v later past = record { born = let b = past.born in omega arith; died = died-later n m v.version.died later past.died }
+
+pub seen_rows-append : (c : ℕ → Bool) (n : ℕ) (xs ys : List Placed) → seen_rows c n (xs ++ ys) ≡ seen_rows c n xs ++ seen_rows c n ys
+seen_rows-append c n xs ys =
+    ap (map row_of) (filter-append (is_seen c n) xs ys) ∙ map-append row_of (filter (is_seen c n) xs) (filter (is_seen c n) ys)
+
+past-middle : (n : ℕ) (xs : List Placed) (v : Placed) (ys : List Placed) → IsPast n v → AllByRecursion (IsPast n) (xs ++ ys)
+    → AllByRecursion (IsPast n) (xs ++ v ∷ ys)
+past-middle n [] v ys here past = (here, past)
+past-middle n (x ∷ xs) v ys here past = (past.0, past-middle n xs v ys here past.1)
+
+-- who does not see the stamp sees no change
+newborn-unseen : (c : ℕ → Bool) (n stamp : ℕ) (row : List Value) (p : Place) (xs ys : List Placed) → c stamp ≡ false
+    → seen_rows c n (xs ++ newborn row stamp p ∷ ys) ≡ seen_rows c n (xs ++ ys)
+newborn-unseen c n stamp row p xs ys hidden =
+    let v : Placed = newborn row stamp p in
+    let none : is_seen c n v ≡ false = rw hidden refl in
+    seen_rows-append c n xs (v ∷ ys)
+    ∙ ap (λ rs. seen_rows c n xs ++ rs) (seen_rows-cons c n v ys ∙ ap (λ b. if b then row_of v ∷ seen_rows c n ys else seen_rows c n ys) none)
+    ∙ sym (seen_rows-append c n xs ys)
+
+-- who sees the stamp sees one row more
+newborn-seen : (c : ℕ → Bool) (n stamp : ℕ) (row : List Value) (p : Place) (xs ys : List Placed) → c stamp ≡ true → stamp ≤ n
+    → IsPermutation (seen_rows c n (xs ++ newborn row stamp p ∷ ys)) (seen_rows c n (xs ++ ys) ++ row ∷ [])
+newborn-seen c n stamp row p xs ys shown later =
+    let v : Placed = newborn row stamp p in
+    let one : is_seen c n v ≡ true = rw (shown, le-yes stamp n later) refl in
+    let us : List (List Value) = seen_rows c n xs in
+    let ws : List (List Value) = seen_rows c n ys in
+    let is : seen_rows c n (xs ++ v ∷ ys) ≡ us ++ row ∷ ws =
+    seen_rows-append c n xs (v ∷ ys) ∙ ap (λ rs. us ++ rs) (seen_rows-cons c n v ys ∙ ap (λ b. if b then row ∷ ws else ws) one) in
+    let P : List (List Value) → Type 0 = λ rs. IsPermutation rs ((us ++ ws) ++ row ∷ []) in
+    let moved : P (us ++ row ∷ ws) = IsPermutation-trans (us ++ row ∷ ws) (row ∷ (us ++ ws)) ((us ++ ws) ++ row ∷ [])
+    (IsPermutation-middle us row ws) (IsPermutation-sym ((us ++ ws) ++ row ∷ []) (row ∷ (us ++ ws)) (IsPermutation-to_front (us ++ ws) row)) in
+    let Q : List (List Value) → Type 0 = λ rs. IsPermutation (seen_rows c n (xs ++ v ∷ ys)) (rs ++ row ∷ []) in
+    subst Q (sym (seen_rows-append c n xs ys)) (subst P (sym is) moved)
+
+pub joined-none : (stamp : ℕ) (vs : List Placed) → Joined stamp vs vs []
+joined-none stamp vs = record {
+  unseen = λ c n hidden. refl;
+  seen = λ c n shown later. subst (λ rs. IsPermutation (seen_rows c n vs) rs) (sym (append-nil (seen_rows c n vs))) (IsPermutation-refl (seen_rows c n vs));
+  past = λ n later past. past;
+  count = omega arith;
+}
+
+joined-here : (stamp : ℕ) (row : List Value) (p : Place) (xs ys : List Placed) → Joined stamp (xs ++ ys) (xs ++ newborn row stamp p ∷ ys) (row ∷ [])
+joined-here stamp row p xs ys = record {
+  unseen = λ c n hidden. newborn-unseen c n stamp row p xs ys hidden;
+  seen = λ c n shown later. newborn-seen c n stamp row p xs ys shown later;
+  past = λ n later past. past-middle n xs (newborn row stamp p) ys (record { born = later; died = tt }) past;
+  count = omega (arith, length-append xs ys, length-append xs (newborn row stamp p ∷ ys));
+}
+
+pub joined-one : (stamp : ℕ) (row : List Value) (p : Place) (old new : List Placed) → PutsIn old new (newborn row stamp p) → Joined stamp old new (row ∷ [])
+joined-one stamp row p old new puts =
+    subst (λ o. Joined stamp o new (row ∷ [])) (sym puts.was)
+    (subst (λ n. Joined stamp (puts.before ++ puts.after) n (row ∷ [])) (sym puts.now) (joined-here stamp row p puts.before puts.after))
+
+-- rows that joined in two steps
+pub joined-then : (stamp : ℕ) (a b c : List Placed) (xs ys : List (List Value)) → Joined stamp a b xs → Joined stamp b c ys → Joined stamp a c (xs ++ ys)
+joined-then stamp a b c xs ys p q = record {
+  unseen = λ m n hidden. q.unseen m n hidden ∙ p.unseen m n hidden;
+  seen = λ m n shown later.
+      let one : IsPermutation (seen_rows m n c) (seen_rows m n b ++ ys) = q.seen m n shown later in
+      let two : IsPermutation (seen_rows m n b ++ ys) ((seen_rows m n a ++ xs) ++ ys) =
+      IsPermutation-append_left ys (seen_rows m n b) (seen_rows m n a ++ xs) (p.seen m n shown later) in
+      subst (λ rs. IsPermutation (seen_rows m n c) rs) (append_assoc (seen_rows m n a) xs ys)
+      (IsPermutation-trans (seen_rows m n c) (seen_rows m n b ++ ys) ((seen_rows m n a ++ xs) ++ ys) one two);
+  past = λ n later past. q.past n later (p.past n later past);
+  count = let one = p.count in let two = q.count in omega (arith, length-append xs ys);
+}
