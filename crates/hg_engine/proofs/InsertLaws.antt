@@ -257,14 +257,14 @@ module _ (state : State) (texts : List ℕ) (i : InsertTree) (t : Table) (none :
     unfolding insertion
     inserts-failed new f spent = failed (device_fault f) begun (device_failed f refl) refl spent
 
+    inserts-over : (new : State) → state.main_limit < state.used + (insertion state texts i).need.main → Spends (ended_allowance (insertion state texts i)) i.table state new
+        → Inserts state texts i (file_full Main ∷ []) new
+    unfolding insertion
+    inserts-over new full spent = failed (file_full Main) begun (main_is_full refl full refl) refl spent
+
     pub inserts-full : (new : State) → state.main_limit < state.used + insert_count i → Spends (ended_allowance (insertion state texts i)) i.table state new
         → Inserts state texts i (file_full Main ∷ []) new
-    inserts-full new full spent = at-last new (let e = needs-enough in omega arith) spent
-      where
-        at-last : (new : State) → state.main_limit < state.used + (insertion state texts i).need.main → Spends (ended_allowance (insertion state texts i)) i.table state new
-            → Inserts state texts i (file_full Main ∷ []) new
-        unfolding insertion
-        at-last new full spent = failed (file_full Main) (cause-none state.stamps (tables_seen state) i stands few) (main_is_full refl full refl) refl spent
+    inserts-full new full spent = inserts-over new (let e = needs-enough in omega (arith, e, full)) spent
 
 -- an INSERT that is refused before its stamp
 pub inserts-unmade : (state : State) (texts : List ℕ) (i : InsertTree) (r : Refusal) → insert_cause state.stamps (tables_seen state) i ≡ Some r

@@ -10,6 +10,7 @@ pub mod InsertLaws
 pub mod ScanLaws
 pub mod Saying
 pub mod Words
+pub mod NewTables
 pub mod ReadLaws
 pub mod PoolLaws
 pub mod EngineSteps

@@ -1,7 +1,7 @@
 -- Tables by their names: what is found in a catalog is found in a state with the same tables, whatever rows
 -- they have.
-use Rattle.std.specs.Prelude.{◌≡◌, ℕ, zero, suc, ◌+◌, ◌<◌, nat_lt, Bool, true, false, List, [], ◌∷◌, Option, Some, None, is_some, map, length, option_map, slice_get, slice_set, position, if◌then◌else◌, not}
-use Rattle.std.specs.List.{find, position_or_len}
+use Rattle.std.specs.Prelude.{◌≡◌, ℕ, zero, suc, ◌+◌, ◌<◌, ◌≤◌, nat_lt, Bool, true, false, List, [], ◌∷◌, Option, Some, None, is_some, map, length, option_map, slice_get, slice_set, position, if◌then◌else◌, not}
+use Rattle.std.specs.List.{find, position_or_len, AllByRecursion}
 use Rattle.std.proofs.Common.{sym, ◌∙◌, ap, subst, refl, arith, cond}
 use Rattle.std.proofs.lemmas.Bool.{false≢true}
 use Rattle.std.proofs.lemmas.Bool.Decides.{nat_tests}
@@ -54,6 +54,33 @@ pub first-holds : {X : Type 0} (p : X → Bool) (xs : List X) (k : ℕ) (x : X) 
 first-holds p [] k x h at = absurd h
 first-holds p (y ∷ ys) zero x h at = let same : y ≡ x = cc in subst (λ w. p w ≡ true) same h
 first-holds p (y ∷ ys) (suc k) x h at = first-holds p ys k x h.1 at
+
+-- where no number is, none passes
+least-none : {X : Type 0} (p : X → Bool) (xs : List X) → length xs ≤ position_or_len p xs → AllByRecursion (λ x. p x ≡ false) xs
+least-none p [] h = tt
+least-none p (x ∷ xs) h = by (p x) refl (least-none p xs)
+  where
+    by : (b : Bool) → p x ≡ b → (length xs ≤ position_or_len p xs → AllByRecursion (λ y. p y ≡ false) xs) → (p x ≡ false) × AllByRecursion (λ y. p y ≡ false) xs
+    by true e rest =
+        let is : position_or_len p (x ∷ xs) ≡ 0 = ap (λ b. cond (not b) (1 + position_or_len p xs) 0) e in absurd (omega arith)
+    by false e rest =
+        let is : position_or_len p (x ∷ xs) ≡ suc (position_or_len p xs) = ap (λ b. cond (not b) (1 + position_or_len p xs) 0) e ∙ omega arith in
+        (e, rest (omega arith))
+
+pub position-none : {X : Type 0} (p : X → Bool) (xs : List X) → position p xs ≡ None → AllByRecursion (λ x. p x ≡ false) xs
+position-none p xs e = by (nat_lt (position_or_len p xs) (length xs)) refl e
+  where
+    by : (b : Bool) → nat_lt (position_or_len p xs) (length xs) ≡ b → cond b (Some (position_or_len p xs)) None ≡ None → AllByRecursion (λ x. p x ≡ false) xs
+    by true t e = absurd (none-some (position_or_len p xs) (sym e))
+    by false t e = least-none p xs (grind (arith, nat_tests))
+
+none-named : (cs : List CatalogTable) (name : List ℕ) → AllByRecursion (λ (c : CatalogTable). same_name c.name name ≡ false) cs → table_named (map table_of cs) name ≡ None
+none-named [] name h = refl
+none-named (c ∷ cs) name h = ap (λ b. if b then Some (table_of c) else table_named (map table_of cs) name) h.0 ∙ none-named cs name h.1
+
+-- no number, no table
+pub number-none : (c : Contents) (name : List ℕ) → table_number c name ≡ None → table_named (tables_of c) name ≡ None
+number-none c name e = none-named c.tables name (position-none (λ (t : CatalogTable). same_name t.name name) c.tables e)
 
 -- the table of the number that a catalog gives is the first of its name in the state too
 pub number-first : (c : Contents) (tables : List TableState) (name : List ℕ) (k : ℕ) → map rowless tables ≡ map table_of c.tables

@@ -10,7 +10,7 @@ use Rattle.hg_model.specs.LineReading.{ReadsLine, ReadAs, read}
 use Rattle.hg_model.specs.Reading.{Reads, Statement, statement, has_bad_number}
 use Rattle.hg_model.specs.Script.{Line, text_of_line}
 use Rattle.hg_model.specs.Statements.{CommandTree, CreateTable, InsertRows, Pool, TableTree, InsertTree}
-use Rattle.hg_model.specs.Tokens.{Token, Word, Digits, Letters, Sign, Spells, at_end, comment, blank, word, number, text, sign}
+use Rattle.hg_model.specs.Tokens.{Token, Word, Digits, Letters, Sign, Spells, at_end, comment, blank, word, number, text as text_token, sign}
 use Rattle.hg_model.specs.Value.{is_printable}
 use Rattle.hg_model.specs.declared.trees.Literal.{Literal}
 use Rattle.hg_model.specs.declared.trees.NewColumn.{NewColumn}
@@ -74,7 +74,7 @@ all-shown ts bytes (comment bs) = tt
 all-shown ts bytes (blank us b bs is rest) = all-shown ts bs rest
 all-shown ts bytes (word us w bs is apart rest) = (tt, all-shown us bs rest)
 all-shown ts bytes (number us ds bs is apart rest) = (tt, all-shown us bs rest)
-all-shown ts bytes (text us t bs is apart rest) = (is, all-shown us bs rest)
+all-shown ts bytes (text_token us t bs is apart rest) = (is, all-shown us bs rest)
 all-shown ts bytes (sign us s bs is apart rest) = (tt, all-shown us bs rest)
 
 all-left : (P : Token → Type 0) (xs ys : List Token) → AllByRecursion P (xs ++ ys) → AllByRecursion P xs
@@ -97,21 +97,21 @@ constant-shown null h hx = hx
 
 constants-shown : {x : List ℕ} {ts : List Token} {y : List ℕ} {vs : List Literal} → Constants x ts y vs → AllByRecursion ShowsText ts → IsShown x → IsShown y
 constants-shown (one c) h hx = constant-shown c h hx
-constants-shown (more {ts = as} {us = bs} first last) h hx =
-    constant-shown last (all-right ShowsText as (comma ∷ bs) h).1 (constants-shown first (all-left ShowsText as (comma ∷ bs) h) hx)
+constants-shown (more {ts = hs} {us = bs} first last) h hx =
+    constant-shown last (all-right ShowsText hs (comma ∷ bs) h).1 (constants-shown first (all-left ShowsText hs (comma ∷ bs) h) hx)
 
 tuples-shown : {x : List ℕ} {ts : List Token} {y : List ℕ} {vs : List Literal} {es : List ℕ} → Tuples x ts y vs es → AllByRecursion ShowsText ts → IsShown x → IsShown y
-tuples-shown (one {ts = as} c) h hx = constants-shown c (all-left ShowsText as (close_sign ∷ []) h.1) hx
-tuples-shown (more {ts = as} {us = bs} first last) h hx =
-    let behind = (all-right ShowsText as (comma ∷ open_sign ∷ (bs ++ close_sign ∷ [])) h).1.1 in
-    constants-shown last (all-left ShowsText bs (close_sign ∷ []) behind) (tuples-shown first (all-left ShowsText as (comma ∷ open_sign ∷ (bs ++ close_sign ∷ [])) h) hx)
+tuples-shown (one {ts = hs} c) h hx = constants-shown c (all-left ShowsText hs (close_sign ∷ []) h.1) hx
+tuples-shown (more {ts = hs} {us = bs} first last) h hx =
+    let behind = (all-right ShowsText hs (comma ∷ open_sign ∷ (bs ++ close_sign ∷ [])) h).1.1 in
+    constants-shown last (all-left ShowsText bs (close_sign ∷ []) behind) (tuples-shown first (all-left ShowsText hs (comma ∷ open_sign ∷ (bs ++ close_sign ∷ [])) h) hx)
 
 command-shown : {ts : List Token} {i : InsertTree} {texts : List ℕ} → IsCommand ts (InsertRows i) texts → AllByRecursion ShowsText ts → IsShown texts
-command-shown (insert {ts = as} {us = bs} t name listed tuples) h = tuples-shown tuples (all-right ShowsText as (Word (codes "values") ∷ bs) h.1.1.1).1 refl
+command-shown (insert {ts = hs} {us = bs} t name listed tuples) h = tuples-shown tuples (all-right ShowsText hs (Word (codes "values") ∷ bs) h.1.1.1).1 refl
 
 line-shown : {ts : List Token} {i : InsertTree} {texts : List ℕ} → IsLine ts (InsertRows i) texts → AllByRecursion ShowsText ts → IsShown texts
 line-shown (bare command) h = command-shown command h
-line-shown (ended {ts = as} command) h = command-shown command (all-left ShowsText as (semicolon ∷ []) h)
+line-shown (ended {ts = hs} command) h = command-shown command (all-left ShowsText hs (semicolon ∷ []) h)
 
 -- the texts of an INSERT have printable bytes alone
 pub texts-shown : (max : ℕ) (i : InsertTree) (texts : List ℕ) → IsReadAs max (InsertRows i) texts → IsTrue (list_all is_printable texts)

@@ -69,11 +69,11 @@ same-here a pins = record { told = refl; limit = refl; device_limit = refl; pins
 -- ---- what lines count
 
 -- how often lines say that each device failed, and that each file is full
-pub record Says (lines : List ReplyLine) (main temp main_full temp_full : ℕ) : Type 0 where
-  pub main : code_lines 17 lines ≡ main
-  pub temp : code_lines 18 lines ≡ temp
-  pub main_full : code_lines 19 lines ≡ main_full
-  pub temp_full : code_lines 20 lines ≡ temp_full
+pub record Says (lines : List ReplyLine) (a b c d : ℕ) : Type 0 where
+  pub main : code_lines 17 lines ≡ a
+  pub temp : code_lines 18 lines ≡ b
+  pub main_full : code_lines 19 lines ≡ c
+  pub temp_full : code_lines 20 lines ≡ d
 
 -- a line that says none of these
 pub record IsQuiet (line : ReplyLine) : Type 0 where

@@ -246,7 +246,7 @@ module _ (a b : Space) (old new : Tables) (scan : Scan) (is : old.scan ≡ Some 
               more = on.more;
               rows = λ told g hg. absurd (false≢true (sym untold ∙ sym steady.told ∙ told));
             }) scanned,
-            subst (λ s. ContinuesSo a.told s (row None values ∷ []) _) (sym (working-is before st))
+            subst (λ s. ContinuesSo a.told s (row None values ∷ []) (state_of a old.max old.mpl old.stamps (Some (record { table = scan.table; at = Some f.place; budget = f.budget })) st.tables [])) (sym (working-is before st))
                 (call-row a old.max old.mpl old.stamps scan st.tables a.told st.left (keyless values ∷ []) [] values (λ t. absurd (false≢true (sym untold ∙ t))) (IsPermutation-refl (keyless values ∷ []))),
           )
       by before st true told =
@@ -271,7 +271,7 @@ module _ (a b : Space) (old new : Tables) (scan : Scan) (is : old.scan ≡ Some 
                     seen = IsPermutation-refl others;
                   });
             }) scanned,
-            subst (λ s. ContinuesSo a.told s (row None values ∷ []) _) (sym (working-is before st))
+            subst (λ s. ContinuesSo a.told s (row None values ∷ []) (state_of a old.max old.mpl old.stamps (Some (record { table = scan.table; at = Some f.place; budget = f.budget })) st.tables others)) (sym (working-is before st))
                 (call-row a old.max old.mpl old.stamps scan st.tables a.told st.left st.left others values (λ t. refl) (subst (λ l. IsPermutation st.left (map keyless l)) found.rows h.seen)),
           )
 
@@ -289,7 +289,7 @@ module _ (a b : Space) (old new : Tables) (scan : Scan) (is : old.scan ≡ Some 
         let work = subst (λ c. LeftStands a old.stamps old.catalog.tables st.pages c st.left) is st.work in (
           state_of a old.max old.mpl old.stamps None st.tables [],
           moved before st None [] tt scanned,
-          subst (λ s. ContinuesSo a.told s (ended None ∷ []) _) (sym (working-is before st)) (call-end a old.max old.mpl old.stamps scan st.tables a.told st.left (λ told.
+          subst (λ s. ContinuesSo a.told s (ended None ∷ []) (state_of a old.max old.mpl old.stamps None st.tables [])) (sym (working-is before st)) (call-end a old.max old.mpl old.stamps scan st.tables a.told st.left (λ told.
               let h = work.rows told e.entry e.at_entry in
               let empty = nothing e.entry (st.pages scan.table) h.done h.rest e.at_entry h.position h.few in
               none-in st.left (subst (λ l. IsPermutation st.left (map keyless l)) empty h.seen))),
@@ -301,7 +301,7 @@ module _ (a b : Space) (old new : Tables) (scan : Scan) (is : old.scan ≡ Some 
     to = λ before st. (
       state_of a old.max old.mpl old.stamps None st.tables [],
       moved before st None [] tt scanned,
-      subst (λ s. ContinuesSo a.told s (line_of f ∷ closed None ∷ []) _) (sym (working-is before st)) (by-cause f st.tables st.left cause),
+      subst (λ s. ContinuesSo a.told s (line_of f ∷ closed None ∷ []) (state_of a old.max old.mpl old.stamps None st.tables [])) (sym (working-is before st)) (by-cause f st.tables st.left cause),
     );
   }
     where
@@ -345,4 +345,4 @@ turn-found a b x scan state f is st cause checks names =
     let e = found-at a x.stamps x.catalog.tables st.tables st.pages scan.table st.stand (scan-inside a x scan state is st) in
     let chain = scan-chain a x scan state is st e.entry e.at_entry in
     let on : IsScanned a x.catalog.tables scan (st.pages scan.table) = record { entry = e.entry; at = e.at_entry; chain = chain } in
-    (line-found a b x scan (st.pages scan.table) f is on cause checks (names e.entry (st.pages scan.table) e.at_entry chain), (λ no. absurd (false≢true no)), tt)
+    (line-found a b x scan (st.pages scan.table) f is on cause checks (names e.entry (st.pages scan.table) e.at_entry chain), ((λ no. absurd (false≢true no)), tt))

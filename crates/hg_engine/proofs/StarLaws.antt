@@ -145,6 +145,13 @@ length-from : (alias : List ℕ) (place : ℕ) (columns : List Column) → lengt
 length-from alias place [] = refl
 length-from alias place (c ∷ cs) = ap suc (length-from alias (suc place) cs)
 
+lengths-from : (alias : List ℕ) (place : ℕ) (columns : List Column) → column_lengths (columns_from 0 alias place columns) ≡ declared columns
+lengths-from alias place [] = refl
+lengths-from alias place (c ∷ cs) =
+    sum_by-cons (λ (f : FromColumn). type_length f.column.ty) (record { table = 0; alias = alias; place = place; column = c }) (columns_from 0 alias (suc place) cs)
+    ∙ ap (λ n. type_length c.ty + n) (lengths-from alias (suc place) cs)
+    ∙ sym (sum_by-cons (λ (d : Column). type_length d.ty) c cs)
+
 -- the causes against a star, of what they rest on
 abbrev causes : (table : List ℕ) → (there wide : Bool) → (first third : ℕ) → Option Refusal
 causes table there wide first third =

@@ -19,13 +19,6 @@ from_one table alias = record { table = table; alias = alias; on = None }
 abbrev pub declared : List Column → ℕ
 declared columns = sum_by (λ (c : Column). type_length c.ty) columns
 
-lengths-from : (alias : List ℕ) (place : ℕ) (columns : List Column) → column_lengths (columns_from 0 alias place columns) ≡ declared columns
-lengths-from alias place [] = refl
-lengths-from alias place (c ∷ cs) =
-    sum_by-cons (λ (f : FromColumn). type_length f.column.ty) (record { table = 0; alias = alias; place = place; column = c }) (columns_from 0 alias (suc place) cs)
-    ∙ ap (λ n. type_length c.ty + n) (lengths-from alias (suc place) cs)
-    ∙ sym (sum_by-cons (λ (d : Column). type_length d.ty) c cs)
-
 -- what stands against the star, of its table being there and of its columns
 abbrev pub star_cause : (table : List ℕ) → Bool → List Column → Option Refusal
 star_cause table there columns = if there then (if nat_lt 3900 (declared columns) then Some RowTooLong else None) else Some (UnknownTable table)

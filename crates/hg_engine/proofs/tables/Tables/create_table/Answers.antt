@@ -4,7 +4,7 @@ use Rattle.hg_machine.specs.Plain.Replies.{created}
 use Rattle.hg_reply.specs.Asked.{table_at}
 use Rattle.hg_engine.proofs.CreateLaws.{create-made}
 use Rattle.hg_engine.proofs.Saying.{tells-one, counted-plain, sound-line}
-use Rattle.hg_engine.proofs.create.Tables.create_table.Goals as goal
+use Rattle.hg_engine.proofs.tables.Tables.create_table.Goals as goal
 
 pub returns-clause-step : goal.returns-clause-step
 returns-clause-step c = (

@@ -4,7 +4,7 @@ use Rattle.hg_engine.specs.Stepping.{line_of}
 use Rattle.hg_engine.specs.declared.next.Found.{Found}
 use Rattle.hg_engine.proofs.ScanLaws.{scan-inside, scan-is, scan-way, scan-more, turn-gives, turn-ends, turn-faults, at-some, at-none, given-some, turn-found}
 use Rattle.hg_engine.proofs.Saying.{tells-one, tells-two, counted-plain, scan-counted, or-false, same-space, error-of-fault, sound-line}
-use Rattle.hg_engine.proofs.select.Tables.turn.Goals as goal
+use Rattle.hg_engine.proofs.tables.Tables.turn.Goals as goal
 
 pub next-requires-clause-start : goal.next-requires-clause-start
 next-requires-clause-start g c e he told =
