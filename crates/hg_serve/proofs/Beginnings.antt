@@ -1,13 +1,13 @@
 -- how a line begins, by what it is read as
-use Rattle.std.proofs.Common.{◌≡◌, ℕ, ◌<◌, ◌≤◌, Bool, true, false, List, [], ◌∷◌, length, take, refl, sym, ap, ◌∙◌, subst}
+use Rattle.std.proofs.Common.{◌≡◌, ℕ, ◌<◌, ◌≤◌, Bool, true, false, List, [], ◌∷◌, length, take, refl, sym, ap, subst}
 use Rattle.hg_base.specs.declared.File.{File}
 use Rattle.hg_base.specs.declared.File.TheVariants as file
 use Rattle.hg_machine.specs.Plain.Begin.{BeginsCommand, BeginsLine, is_blank, is_too_long, is_no_command, has_bad_number, has_too_many, is_not_built, asks}
 use Rattle.hg_machine.specs.Plain.Loose.{Loosely, with_any_rows, finds_damage, misses_doubles, looks_at_pages, LineLooks}
-use Rattle.hg_machine.specs.Plain.Refused.{syntax_error, line_too_long}
+use Rattle.hg_machine.specs.Plain.Refused.{line_too_long}
 use Rattle.hg_machine.specs.Plain.Replies.{ReplyLine, is_code, fault_code}
 use Rattle.hg_machine.specs.Plain.State.{State}
-use Rattle.hg_model.specs.LineReading.{ReadsLine, TooLong, ReadAs, too_long, read}
+use Rattle.hg_model.specs.LineReading.{ReadsLine, ReadAs, too_long, read}
 use Rattle.hg_model.specs.Reading.{Reading, Reads, Blank, Statement}
 use Rattle.hg_model.specs.Script.{Line, text_of_line, IsNotTooLong}
 use Rattle.hg_model.specs.Statements.{CommandTree}
@@ -15,12 +15,12 @@ use Rattle.hg_parse.specs.Keeping.{Kept}
 use Rattle.hg_parse.specs.Statements.{reading_in}
 use Rattle.hg_parse.specs.declared.statement.ParseError.{ParseError}
 use Rattle.hg_parse.specs.declared.statement.ParseError.TheVariants as error
-use Rattle.std.specs.Prelude.{Result, Ok, Err, Option, Some, None}
+use Rattle.std.specs.Prelude.{Err}
 use Rattle.hg_reply.specs.Built.{is_built}
 use Rattle.hg_reply.specs.Asked.{IsReadAs}
-use Rattle.hg_reply.specs.Steps.{BeginsSo, manner}
+use Rattle.hg_reply.specs.Steps.{BeginsSo}
 use Rattle.hg_serve.specs.Asking.{Beginning, BeginsRead, is_there, is_not_there, refusal_of}
-use Rattle.hg_serve.proofs.LineLemmas.{short-whole, long-whole}
+use Rattle.hg_serve.proofs.LineLemmas.{short-whole}
 
 -- the machine's own beginning is one in either manner
 begins-plainly : (tells : Bool) (line : Line) (old new : State) (rs : List ReplyLine) → BeginsLine is_built old line rs new

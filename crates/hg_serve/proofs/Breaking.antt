@@ -7,7 +7,7 @@ use Rattle.hg_model.specs.Script.{Line}
 use Rattle.hg_reply.specs.Steps.{Moves, Counted, manner}
 use Rattle.hg_serve.specs.Asking.{Beginning}
 use Rattle.hg_serve.specs.Output.{Moment, Passes, TellsInPart, Stops}
-use Rattle.hg_serve.specs.Session.{BreaksOff, StopsWork, StoppingTurns, StoppingLine, some_given, all_given, stopped}
+use Rattle.hg_serve.specs.Session.{BreaksOff, StopsWork, StoppingTurns, StoppingLine, stopped}
 use Rattle.hg_serve.specs.Serving.{Running, Halting}
 use Rattle.hg_serve.proofs.Moving.{Giving}
 use Rattle.hg_serve.proofs.Running.{closes-well, some-stops, stops-line, stops-begun}

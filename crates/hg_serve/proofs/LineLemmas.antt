@@ -2,7 +2,7 @@
 use Rattle.std.proofs.Common.{◌≡◌, ◌≢◌, ℕ, ◌<◌, ◌≤◌, Bool, true, false, List, [], ◌∷◌, ◌++◌, length, take, ◌==◌, if◌then◌else◌, refl, sym, ap, ◌∙◌, arith, length-take}
 use Rattle.std.proofs.lemmas.Bool.Decides.{nat_tests}
 use Rattle.std.proofs.lemmas.List.{take_all}
-use Rattle.hg_model.specs.Script.{Line, without_return, text_of_line}
+use Rattle.hg_model.specs.Script.{without_return, text_of_line}
 
 either_cons : (x : ℕ) (t : Bool) (xs ys : List ℕ) → x ∷ (if t then xs else ys) ≡ (if t then x ∷ xs else x ∷ ys)
 either_cons x true xs ys = refl

@@ -1,5 +1,5 @@
 -- how the moves of an engine add up to turns, lines and scripts
-use Rattle.std.proofs.Common.{◌≡◌, ℕ, Bool, true, false, List, [], ◌∷◌, ◌++◌, refl, sym, ◌∙◌, subst}
+use Rattle.std.proofs.Common.{◌≡◌, Bool, true, false, List, [], ◌∷◌, ◌++◌, refl, sym, ◌∙◌, subst}
 use Rattle.hg_machine.specs.Plain.Replies.{ReplyLine}
 use Rattle.hg_machine.specs.Plain.Run.{is_pending, dropped}
 use Rattle.hg_machine.specs.Plain.State.{State}

@@ -2,7 +2,6 @@
 use Rattle.std.specs.Prelude.{◌≡◌, ℕ, Bool, true, false, List, [], ◌∷◌}
 use Rattle.hg_machine.specs.Plain.Refused.{syntax_error, bad_number, too_many_line}
 use Rattle.hg_machine.specs.Plain.Replies.{ReplyLine}
-use Rattle.hg_machine.specs.Plain.Run.{Manner, RunsLine}
 use Rattle.hg_machine.specs.Plain.State.{State}
 use Rattle.hg_model.specs.Script.{Line}
 use Rattle.hg_model.specs.Statements.{CommandTree}

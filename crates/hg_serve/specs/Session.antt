@@ -1,5 +1,5 @@
 -- What a session promises from line to line, over any engine.
-use Rattle.std.specs.Prelude.{◌≡◌, ℕ, Bool, List, [], ◌∷◌, ◌++◌, if◌then◌else◌}
+use Rattle.std.specs.Prelude.{◌≡◌, ℕ, Bool, List, ◌++◌, if◌then◌else◌}
 use Rattle.hg_machine.specs.Plain.Replies.{ReplyLine}
 use Rattle.hg_machine.specs.Plain.Run.{Manner, GivesTurns, Finishes, RunsLine, lines_of_turns, is_pending, dropped}
 use Rattle.hg_machine.specs.Plain.State.{State}

@@ -1,7 +1,5 @@
-use Rattle.std.proofs.Common.{◌≡◌, [], ◌∷◌, refl, sym, ap, ◌∙◌, subst, true, false}
+use Rattle.std.proofs.Common.{[], ◌∷◌, refl, sym, ap, ◌∙◌}
 use Rattle.hg_machine.specs.Plain.Refused.{syntax_error}
-use Rattle.hg_parse.specs.Kept.{kept}
-use Rattle.hg_parse.specs.Statements.{tree_in}
 use Rattle.hg_reply.specs.Built.{is_built}
 use Rattle.hg_serve.specs.Asking.{is_there, is_not_there}
 use Rattle.hg_serve.proofs.Beginnings.{read-same, begins-same}
