@@ -11,8 +11,8 @@ use Rattle.hg_base.specs.Space.{Space, Counts, NoPins, at, key_in, taken_in, tak
 use Rattle.hg_base.specs.Lines.{NoneMine, has_page, last_of}
 use Rattle.hg_base.specs.Steadiness.{Mine, Steady}
 use Rattle.hg_base.specs.SteadyLaws.{Steady_same, Steady_then, Steady_wider, main_failed, temp_failed}
-use Rattle.hg_base.specs.TakenLaws.{AreDistinctPages, taken_below-new}
-use Rattle.hg_base.specs.declared.File.TheVariants.{Main}
+use Rattle.hg_base.specs.TakenLaws.{AreDistinctPages, taken_below-new, taken_below-other, key_in-apart}
+use Rattle.hg_base.specs.declared.File.TheVariants.{Main, Temp}
 use Rattle.hg_base.specs.declared.Place.{Place}
 use Rattle.hg_base.specs.declared.Table.{Table}
 use Rattle.hg_model.specs.declared.values.Value.{Value}
@@ -196,6 +196,15 @@ module _ (a b c : Space) (mid new : Table) (pages now : List ℕ) (m n stamp : �
         | inr here ↦ ap c.of_heap here ∙ among-no-heap c put.now place.page put.chain.line.no_heap place-among
       ]) (g.none_lent none)
 
+  -- no temporary page was taken
+  step-temp : taken_in c Temp ≡ taken_in b Temp
+  step-temp = elim o.pages [
+    | inl k ↦ (λ i. taken_below (k.taken i) Temp (c.limit Temp)) ∙ ap (λ l. taken_below b.taken Temp (l Temp)) o.steady.limit
+    | inr k ↦ (λ i. taken_below (k.taken i) Temp (c.limit Temp))
+        ∙ taken_below-other b.taken Temp (c.limit Temp) (key_in Main place.page) true (λ j h e. key_in-apart place.page j (sym e))
+        ∙ ap (λ l. taken_below b.taken Temp (l Temp)) o.steady.limit
+  ]
+
   step-grows : Grows a c new pages put.now (m + 1)
   step-grows = record {
     chain = put.chain;
@@ -205,6 +214,7 @@ module _ (a b c : Space) (mid new : Table) (pages now : List ℕ) (m n stamp : �
     none_lent = step-none-lent;
     more = let up = g.more in let more = one-more.0 in omega arith;
     few = let up = g.few in let more = one-more.1 in omega arith;
+    temp = step-temp ∙ g.temp;
   }
 
 -- no row was put
@@ -219,6 +229,7 @@ puts-none a t pages stamp columns pins chain = record {
     none_lent = λ none. none;
     more = omega arith;
     few = omega arith;
+    temp = refl;
   };
   joined = λ versions table. (versions, table, joined-none stamp versions);
 }
@@ -257,6 +268,7 @@ puts-still a b c old new pages stamp columns rows p steady taken =
         none_lent = λ none. none-lent-after none_mine b c steady (λ q no. absurd no) (g.none_lent none);
         more = let up = g.more in omega arith;
         few = let up = g.few in omega arith;
+        temp = (λ i. taken_below (taken i) Temp (c.limit Temp)) ∙ ap (λ l. taken_below b.taken Temp (l Temp)) steady.limit ∙ g.temp;
       };
       joined = λ versions table.
           let before = p.joined versions table in

@@ -7,7 +7,7 @@ use Rattle.hg_base.specs.Space.{Space, key_in, taken_in}
 use Rattle.hg_base.specs.Lines.{has_page}
 use Rattle.hg_base.specs.Causes.{Rose, MainFailed, TempFailed}
 use Rattle.hg_base.specs.Steadiness.{Mine, Steady, these_pages}
-use Rattle.hg_base.specs.declared.File.TheVariants.{Main}
+use Rattle.hg_base.specs.declared.File.TheVariants.{Main, Temp}
 use Rattle.hg_base.specs.declared.Table.{Table}
 use Rattle.hg_base.specs.declared.pages.PageFault.{PageFault}
 use Rattle.hg_base.specs.declared.pages.PageFault.TheVariants as fault
@@ -50,6 +50,7 @@ pub record Grows (a b : Space) (new : Table) (pages now : List ℕ) (n : ℕ) : 
   pub none_lent : NoneLent a → NoneLent b
   pub more : taken_in a Main ≤ taken_in b Main
   pub few : taken_in b Main ≤ taken_in a Main + n
+  pub temp : taken_in b Temp ≡ taken_in a Temp
 
 -- these rows were put into the table
 pub record Puts (a b : Space) (old new : Table) (pages : List ℕ) (stamp : ℕ) (columns : List Column) (rows : List (List Value)) : Type 0 where

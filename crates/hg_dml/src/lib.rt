@@ -1,7 +1,7 @@
 //! What INSERT makes of a table: its rows are looked at whole before a page is touched, and only then put
 //! into the table under a stamp, which is committed at the end. It stands on `hg_table` and `hg_catalog`
 //! (and `hg_base`, `hg_model`, `hg_value`). The contract that the layers above use is that of
-//! [`insert_rows`].
+//! `insert_rows`.
 //!
 //! ```text
 //! values of all rows -- NULL where it is not allowed, by columns --> 12

@@ -13,10 +13,10 @@ use Rattle.hg_table.specs.Calls.{none_mine}
 use Rattle.hg_table.specs.Places.{behind, first_seen, Finds as FindsFirst}
 use Rattle.hg_table.specs.Versions.{Placed, IsTable}
 use Rattle.hg_table.specs.TableLaws.{table_stays, on_pages, behind-here}
-use Rattle.hg_engine.specs.Seen.{is_seen, row_of, seen_rows}
+use Rattle.hg_dml.specs.Seen.{is_seen, row_of, seen_rows}
 use Rattle.hg_engine.specs.Scanning.{Position, Finds}
-use Rattle.hg_engine.proofs.PutLaws.{none-mine}
-use Rattle.hg_engine.proofs.SeenLaws.{seen_rows-cons}
+use Rattle.hg_engine.proofs.PageLaws.{none-mine}
+use Rattle.hg_dml.specs.SeenLaws.{seen_rows-cons}
 
 -- what the search says
 abbrev pub Searched : Space → Table → ℕ → Option Place → (ℕ → Bool) → ℕ → Option Place → List Value → List Value → Type 0

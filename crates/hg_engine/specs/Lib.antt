@@ -1,10 +1,8 @@
-pub mod Lent
-pub mod Seen
 pub mod Scanning
 pub mod Standing
-pub mod Putting
-pub mod Named
+pub mod Steps
+pub mod Stars
 pub mod Stepping
-pub mod Opened
 pub mod Shown
 pub mod ShownLaws
+pub mod Opened

@@ -12,7 +12,7 @@ use Rattle.hg_base.specs.Causes.{MainFailed, TempFailed}
 use Rattle.hg_model.specs.declared.values.Value.{Value}
 use Rattle.hg_table.specs.Versions.{Placed, IsTable}
 use Rattle.hg_table.specs.Places.{behind}
-use Rattle.hg_engine.specs.Seen.{seen_rows}
+use Rattle.hg_dml.specs.Seen.{seen_rows}
 use Rattle.hg_engine.specs.declared.next.Found.{Found}
 
 -- a scan passed the first of the versions and has the rest before it

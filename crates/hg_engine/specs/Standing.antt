@@ -1,76 +1,130 @@
--- Which state of the plain machine an engine stands for. Our own rule: its tables are the rows that the
--- last stamp sees, the pages in use are the main pages that are taken, and the stamps given are those
--- that were drawn. Between two steps no pin is out and no page is lent. Where the space does not tell
--- its bytes nothing is said of rows.
-use Rattle.std.specs.Prelude.{◌≡◌, ◌≢◌, ℕ, ◌<◌, ⊤, Bool, true, List, length, Option, None, Some, slice_get}
+-- Which state of the plain machine an engine stands for. Our own rule: its tables are those of the catalog,
+-- with the rows that the last stamp sees; the pages in use are those that are taken, and the stamps given
+-- are those that were drawn. Between two steps no pin is out and no page is lent. Where the space does not
+-- tell its bytes nothing is said of rows and of versions.
+use Rattle.std.specs.Prelude.{◌≡◌, ◌≢◌, ℕ, ◌<◌, ◌≤◌, ⊤, Bool, true, false, List, [], ◌∷◌, length, map, Option, None, Some, slice_get}
 use Rattle.std.specs.List.{AllByRecursion}
 use Rattle.std.specs.List.Sorted.{IsPermutation}
 use Rattle.hg_base.specs.Space.{Space, NoPins, taken_in}
 use Rattle.hg_base.specs.Lines.{has_page}
-use Rattle.hg_base.specs.declared.File.TheVariants.{Main}
+use Rattle.hg_base.specs.declared.File.TheVariants.{Main, Temp}
+use Rattle.hg_bind.specs.Bound.{table_of}
+use Rattle.hg_catalog.specs.Contents.{Contents, CatalogTable}
+use Rattle.hg_machine.specs.Plain.Replies.{CursorName}
+use Rattle.hg_machine.specs.Plain.State.{State, TableState, CursorState, Task, Fetches}
+use Rattle.hg_model.specs.Order.{Pair}
+use Rattle.hg_model.specs.Tables.{Table}
 use Rattle.hg_model.specs.declared.values.Value.{Value}
-use Rattle.hg_machine.specs.State.{State, TableState}
 use Rattle.hg_table.specs.Marks.{last, committed}
 use Rattle.hg_table.specs.Calls.{StandsOn}
 use Rattle.hg_table.specs.Chains.{IsChain}
-use Rattle.hg_table.specs.Versions.{Placed, IsTable}
-use Rattle.hg_engine.specs.Lent.{NoneLent}
-use Rattle.hg_engine.specs.Seen.{seen_rows, IsPast}
+use Rattle.hg_table.specs.Agreement.{IsTableOver}
+use Rattle.hg_table.specs.Versions.{Placed}
+use Rattle.hg_dml.specs.Lent.{NoneLent}
+use Rattle.hg_dml.specs.Seen.{seen_rows, IsPast}
 use Rattle.hg_engine.specs.Scanning.{Position}
-use Rattle.hg_engine.specs.declared.entries.Entry.{Entry}
 use Rattle.hg_engine.specs.declared.scan.Scan.{Scan}
 
--- the rows are those of the versions that the last stamp sees, in any order
-pub record HasRows (s : Space) (marks : List Bool) (e : Entry) (pages : List ℕ) (rows : List (List Value)) : Type 0 where
-  pub versions : List Placed
-  pub table : IsTable s e.data (length e.columns.items) pages versions
-  pub past : AllByRecursion (IsPast (last marks)) versions
-  pub seen : IsPermutation rows (seen_rows (committed marks) (last marks) versions)
+-- ---- tables
 
--- a table with its name, its columns and its rows
-pub record TableStands (s : Space) (marks : List Bool) (e : Entry) (t : TableState) (pages : List ℕ) : Type 0 where
-  pub name : t.name ≡ e.name
-  pub columns : t.columns ≡ e.columns.items
-  pub chain : IsChain s e.data pages
-  pub rows : s.told ≡ true → HasRows s marks e pages t.rows
+-- the rows are those of the versions that the last stamp sees, in any order
+pub record HasRows (s : Space) (marks : List Bool) (c : CatalogTable) (t : TableState) (pages : List ℕ) : Type 0 where
+  pub versions : List Placed
+  pub table : IsTableOver s c.pages c.columns pages versions
+  pub past : AllByRecursion (IsPast (last marks)) versions
+  pub seen : IsPermutation t.table.rows (seen_rows (committed marks) (last marks) versions)
+  pub count : t.versions ≡ length versions
+
+-- a table of the catalog with its rows and its versions
+pub record TableStands (s : Space) (marks : List Bool) (c : CatalogTable) (t : TableState) (pages : List ℕ) : Type 0 where
+  pub chain : IsChain s c.pages pages
+  pub rows : s.told ≡ true → HasRows s marks c t pages
+
+-- a table of the machine by its name and its columns
+abbrev pub rowless : TableState → Table
+rowless t = record { name = t.table.name; columns = t.table.columns; rows = [] }
 
 -- all tables in order, by their numbers; no page is of two of them
-pub record TablesStand (s : Space) (marks : List Bool) (entries : List Entry) (tables : List TableState) (pages : ℕ → List ℕ) : Type 0 where
-  pub count : length tables ≡ length entries
-  pub each : (k : ℕ) (e : Entry) (t : TableState) → slice_get entries k ≡ Some e → slice_get tables k ≡ Some t
-      → TableStands s marks e t (pages k)
-  pub apart : (j k x : ℕ) → j < length entries → k < length entries → j ≢ k → has_page (pages j) x ≡ true → has_page (pages k) x ≡ true → ⊥
+pub record TablesStand (s : Space) (marks : List Bool) (catalog : List CatalogTable) (tables : List TableState) (pages : ℕ → List ℕ) : Type 0 where
+  pub shape : map rowless tables ≡ map table_of catalog
+  pub each : (k : ℕ) (c : CatalogTable) (t : TableState) → slice_get catalog k ≡ Some c → slice_get tables k ≡ Some t
+      → TableStands s marks c t (pages k)
+  pub apart : (j k x : ℕ) → j < length catalog → k < length catalog → j ≢ k → has_page (pages j) x ≡ true → has_page (pages k) x ≡ true → ⊥
+
+-- ---- the SELECT at work
+
+-- a row of an answer without keys
+abbrev pub keyless : List Value → Pair
+keyless row = record { row = row; keys = [] }
 
 -- what a scan has still to give: the rows of the versions behind its place that the last stamp sees
-pub record HasLeft (s : Space) (marks : List Bool) (e : Entry) (pages : List ℕ) (scan : Scan) (left : List (List Value)) : Type 0 where
+pub record HasLeft (s : Space) (marks : List Bool) (c : CatalogTable) (pages : List ℕ) (scan : Scan) (left : List Pair) : Type 0 where
   pub done : List Placed
   pub rest : List Placed
-  pub position : Position s e.data (length e.columns.items) pages done rest scan.at
+  pub position : Position s c.pages (length c.columns) pages done rest scan.at
   pub few : length rest < scan.budget
-  pub seen : IsPermutation left (seen_rows (committed marks) (last marks) rest)
+  pub seen : IsPermutation left (map keyless (seen_rows (committed marks) (last marks) rest))
 
 -- a scan of a table: over every space its place is on one of the pages of the table, and a budget is left
-pub record ScanStands (s : Space) (marks : List Bool) (entries : List Entry) (pages : ℕ → List ℕ) (scan : Scan) (left : List (List Value)) : Type 0 where
-  pub table : scan.table < length entries
+pub record ScanStands (s : Space) (marks : List Bool) (catalog : List CatalogTable) (pages : ℕ → List ℕ) (scan : Scan) (left : List Pair) : Type 0 where
+  pub table : scan.table < length catalog
   pub on : StandsOn (pages scan.table) scan.at
   pub more : 0 < scan.budget
-  pub rows : s.told ≡ true → (e : Entry) → slice_get entries scan.table ≡ Some e → HasLeft s marks e (pages scan.table) scan left
+  pub rows : s.told ≡ true → (c : CatalogTable) → slice_get catalog scan.table ≡ Some c → HasLeft s marks c (pages scan.table) scan left
 
--- what the SELECT at work has still to give
-abbrev pub LeftStands : Space → List Bool → List Entry → (ℕ → List ℕ) → Option Scan → Option (List (List Value)) → Type 0
-LeftStands s marks entries pages None None = ⊤
-LeftStands s marks entries pages None (Some left) = ⊥
-LeftStands s marks entries pages (Some scan) None = ⊥
-LeftStands s marks entries pages (Some scan) (Some left) = ScanStands s marks entries pages scan left
+-- what the SELECT at work has still to give, if one is at work
+abbrev pub LeftStands : Space → List Bool → List CatalogTable → (ℕ → List ℕ) → Option Scan → List Pair → Type 0
+LeftStands s marks catalog pages None left = ⊤
+LeftStands s marks catalog pages (Some scan) left = ScanStands s marks catalog pages scan left
 
--- what an engine keeps of its tables, its stamps and the SELECT at work stands for this state
-pub record Stands (s : Space) (entries : List Entry) (marks : List Bool) (scan : Option Scan) (state : State) : Type 0 where
-  pub told : state.told ≡ s.told
+-- its cursor, which has no name; it is in the round, and has the turn
+abbrev pub cursor_with : List Pair → CursorState
+cursor_with left = record { name = None; left = left; is_too_many = false; wanted = None; held = 0; floor = 0; need = 0 }
+
+abbrev pub cursors_at : Option Scan → List Pair → List CursorState
+cursors_at None left = []
+cursors_at (Some scan) left = cursor_with left ∷ []
+
+abbrev pub round_at : Option Scan → List CursorName
+round_at None = []
+round_at (Some scan) = None ∷ []
+
+abbrev pub task_at : Option Scan → Option Task
+task_at None = None
+task_at (Some scan) = Some (Fetches None)
+
+-- ---- the state
+
+-- the state of these tables, with so much left to the SELECT at work
+abbrev pub state_of : Space → (max mpl : ℕ) → List Bool → Option Scan → List TableState → List Pair → State
+state_of s max mpl marks scan tables left = record {
+  tables = tables;
+  indexes = [];
+  cursors = cursors_at scan left;
+  round = round_at scan;
+  waiting = [];
+  task = task_at scan;
+  max = max;
+  current = s.heaps.current;
+  mpl = mpl;
+  stamps = last marks;
+  used = taken_in s Main;
+  over = taken_in s Temp;
+  main_limit = s.limit Main;
+  temp_limit = s.limit Temp;
+}
+
+-- What an engine keeps of its tables, its stamps and the SELECT at work stands for this state. It has no
+-- index; and as many frames are reserved as the pool may have.
+pub record Stands (s : Space) (max mpl : ℕ) (catalog : Contents) (marks : List Bool) (scan : Option Scan) (state : State) : Type 0 where
   pub pins : NoPins s
   pub none_lent : NoneLent s
+  pub most : s.heaps.cap 0 ≡ max
+  pub some_may : 1 ≤ mpl
+  pub no_indexes : catalog.indexes ≡ []
+  pub tables : List TableState
   pub pages : ℕ → List ℕ
-  pub tables : TablesStand s marks entries state.tables pages
-  pub left : LeftStands s marks entries pages scan state.left
-  pub used : state.used ≡ taken_in s Main
-  pub limit : state.limit ≡ s.limit Main
-  pub stamps : state.stamps ≡ last marks
+  pub stand : TablesStand s marks catalog.tables tables pages
+  pub left : List Pair
+  pub work : LeftStands s marks catalog.tables pages scan left
+  pub is : state ≡ state_of s max mpl marks scan tables left

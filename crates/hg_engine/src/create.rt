@@ -1,96 +1,84 @@
 //! Tables are made.
-ghost use Rattle.std.specs.Prelude.{◌≡◌, ◌≤◌, length, MatchBool};
-ghost use Rattle.hg_engine.specs.Stepping.{MayCreate};
+ghost use Rattle.std.specs.Prelude.{◌≡◌, ◌≤◌, length, map};
+ghost use Rattle.hg_model.specs.Creation.{created_column};
 
-use crate::entries::{Entry, all_different, number_of};
+use crate::say::say_refusal;
 use crate::tables::Tables;
 use arrayvec::ArrayVec;
-use hg_base::{NoMemory, Table};
-use hg_model::Name;
-use hg_reply::{Reply, ReplyLine};
+use hg_bind::refuse_columns;
+use hg_base::NoMemory;
+use hg_catalog::Catalog;
+use hg_model::{Column, NewColumn};
+use hg_reply::{Reply, ReplyLine, TableAt};
 use hg_table::Stamps;
 use hg_value::Row;
 use std::alloc::Global;
 
-/// How many tables there may be.
-const TABLES: usize = 64;
-
-/// Whether a table of that name and these columns may be made.
-#[tactic(auto, using(crate::proofs::Creating::taken_name))]
-fn may_create(entries: &[Entry], name: &Name, columns: &[Name]) -> bool
-    ensures { MatchBool result (MayCreate entries.now name.now columns.now) (¬ MayCreate entries.now name.now columns.now) }
+/// The columns of a table that is made.
+fn made_columns(columns: &[NewColumn]) -> ArrayVec<Column, 16>
+    requires { length columns.now ≤ 16 }
+    ensures { result.items ≡ map created_column columns.now }
 {
-    match number_of(entries, name) {
-        Some(_) => false,
-        None => {
-            if entries.len() >= TABLES {
-                return false;
-            }
-            all_different(columns)
-        }
+    let mut made = ArrayVec::new();
+    for column in columns {
+        made.push(Column {
+            name: column.column.name.copy(),
+            ty: column.column.ty,
+            not_null: column.column.not_null || column.primary,
+        });
     }
-}
-
-/// The same names.
-fn copies(names: &[Name]) -> ArrayVec<Name, 16>
-    requires { length names.now ≤ 16 }
-    ensures { result.items ≡ names.now }
-{
-    let mut copies = ArrayVec::new();
-    for name in names {
-        copies.push(name.copy());
-    }
-    copies
+    made
 }
 
 impl Tables {
-    ghost use Rattle.std.specs.Prelude.{◌≡◌, ◌<◌, ◌≤◌, false, [], List, length, MatchBool, None, IfOk};
-    ghost use Rattle.hg_machine.specs.CreateTable.{CreatesTable};
-    ghost use Rattle.hg_machine.specs.Reply.{Reply as ReplyOf};
+    ghost use Rattle.std.specs.Prelude.{◌≡◌, ◌≤◌, ℕ, [], List, length, None, IfOk, true, false};
+    ghost use Rattle.std.specs.List.{list_all};
     ghost use Rattle.hg_base.specs.Space.{Space};
-    ghost use Rattle.hg_reply.specs.Steps.{HasLines, TellOnlyFound};
-    ghost use Rattle.hg_engine.specs.Stepping.{CountedIn, StepsTo};
+    ghost use Rattle.hg_machine.specs.Plain.Replies.{ReplyLine as ReplyLineOf};
+    ghost use Rattle.hg_model.specs.Statements.{CreateTable};
+    ghost use Rattle.hg_reply.specs.Asked.{table_at, IsReadAs};
+    ghost use Rattle.hg_reply.specs.Built.{is_built};
+    ghost use Rattle.hg_reply.specs.Steps.{HasLines, TellOnlyFound, BeginsSo};
+    ghost use Rattle.hg_engine.specs.Stepping.{TablesAre, CountedIn, StepsTo, no_damage};
 
     /// No table, no stamp and no SELECT. All memory that is ever needed is taken here.
-    pub fn new(alloc: Global) -> Result<Tables, NoMemory>
-        ensures entries { IfOk result (λ x. x.entries.items ≡ []) }
+    pub fn new(alloc: Global, max: u32, mpl: u32) -> Result<Tables, NoMemory>
+        ensures catalog { IfOk result (λ x. x.catalog ≡ record { tables = []; indexes = [] }) }
         ensures stamps { IfOk result (λ x. x.stamps ≡ []) }
         ensures scan { IfOk result (λ x. x.scan ≡ None) }
+        ensures max { IfOk result (λ x. x.max ≡ max) }
+        ensures mpl { IfOk result (λ x. x.mpl ≡ mpl) }
     {
-        let Ok(entries) = Vec::with_capacity(alloc, TABLES) else {
-            return Err(NoMemory);
-        };
         Ok(Tables {
-            entries,
+            catalog: Catalog::new(alloc)?,
             stamps: Stamps::new(alloc)?,
             scan: None,
+            max,
+            mpl,
             row: Row::new(),
+            targets: ArrayVec::new(),
         })
     }
 
     /// CREATE TABLE.
-    pub fn create_table(&mut self, name: &Name, columns: &[Name], reply: &mut Reply)
+    pub fn create_table(&mut self, table: &TableAt, reply: &mut Reply)
         requires idle { self.old.scan ≡ None }
-        requires few { length columns.now ≤ 16 }
+        requires some_columns { 1 ≤ length table.now.columns.now }
+        requires plain { is_built (CreateTable (table_at table.now)) ≡ true }
         requires empty { reply.old.text.items ≡ [] }
         requires no_error { reply.old.has_error ≡ false }
-        ensures step { (lines : List ReplyOf) × HasLines reply.new lines × ((s : Space) → CountedIn s s lines)
-            × ((s : Space) → StepsTo s s self.old self.new (λ before lines after. CreatesTable before name.now columns.now lines after) lines)
-            × TellOnlyFound (λ page check. ⊥) lines }
+        ensures step { (lines : List ReplyLineOf) × HasLines reply.new lines × ((s : Space) → CountedIn s s lines)
+            × ((s : Space) (texts : List ℕ) → StepsTo s s self.old self.new (BeginsSo s.told (CreateTable (table_at table.now)) texts) lines)
+            × TellOnlyFound no_damage lines }
         ensures idle { self.new.scan ≡ None }
+        ensures max { self.new.max ≡ self.old.max }
     {
-        if !may_create(&self.entries, name, columns) {
-            reply.say(&ReplyLine::SyntaxError);
+        if let Some(error) = refuse_columns(table.name, table.columns, &self.catalog) {
+            say_refusal(reply, &error);
             return;
         }
-        self.entries.push_reserved(Entry {
-            name: name.copy(),
-            columns: copies(columns),
-            data: Table {
-                first: None,
-                last: None,
-            },
-        });
+        self.catalog
+            .add_table(table.name.copy(), made_columns(table.columns));
         reply.say(&ReplyLine::Created);
     }
 }

@@ -4,7 +4,7 @@ use crate::kept::Kept;
 use crate::tables::Tables;
 use hg_io::PageDevice;
 use hg_pool::{Config, Pool};
-use hg_reply::{Machine, Next, Reply, StatementRoom};
+use hg_reply::{Asked, Machine, Next, Reply};
 use std::alloc::Global;
 use std::marker::Model;
 
@@ -36,9 +36,10 @@ impl<M: PageDevice, T: PageDevice> Model for Database<M, T> {
 
 impl<M: PageDevice, T: PageDevice> Database<M, T> {
     ghost use Rattle.std.specs.Prelude.{◌≡◌, ◌&&◌, false, IfOk, IfErr};
-    ghost use Rattle.hg_machine.specs.State.{first_state};
+    ghost use Rattle.hg_machine.specs.Plain.State.{first_state};
     ghost use Rattle.hg_pool.specs.Opening.{IsPossible};
-    ghost use Rattle.hg_engine.specs.Shown.{main_of, temp_of, IsEngineOf, IsSomeEngine, is_pending};
+    ghost use Rattle.hg_engine.specs.Opened.{sizes_of};
+    ghost use Rattle.hg_engine.specs.Shown.{main_of, temp_of, tells_of, frames_of, IsEngineOf, IsSomeEngine, is_pending};
 
     /// A database of no table over these devices. Page 0 of the main file is kept for the catalog. The only
     /// error is want of memory; the devices are then handed back. No device is called.
@@ -49,13 +50,15 @@ impl<M: PageDevice, T: PageDevice> Database<M, T> {
         temp: T,
     ) -> Result<Database<M, T>, Devices<M, T>>
         requires { IsPossible config.now (M.pages main) (T.pages temp) }
-        ensures start { IfOk result (λ e. IsEngineOf M.PageDevice T.PageDevice e (first_state (M.told main && T.told temp) config.now.main_pages)) }
+        ensures start { IfOk result (λ e. IsEngineOf M.PageDevice T.PageDevice e (first_state (sizes_of config.now))) }
+        ensures tells { IfOk result (λ e. tells_of M.PageDevice T.PageDevice e ≡ (M.told main && T.told temp)) }
+        ensures frames { IfOk result (λ e. frames_of e ≡ config.now.max) }
         ensures idle { IfOk result (λ e. is_pending e ≡ false) }
         ensures main { IfOk result (λ e. main_of e ≡ main) }
         ensures temp { IfOk result (λ e. temp_of e ≡ temp) }
         ensures handed_back { IfErr result (λ devices. devices ≡ record { main = main; temp = temp }) }
     {
-        let Ok(tables) = Tables::new(alloc) else {
+        let Ok(tables) = Tables::new(alloc, config.max, config.mpl) else {
             return Err(Devices { main, temp });
         };
         let mut pool = match Pool::new(alloc, config, main, temp) {
@@ -98,11 +101,13 @@ impl<M: PageDevice, T: PageDevice> Database<M, T> {
 }
 
 impl<M: PageDevice, T: PageDevice> Machine for Database<M, T> {
-    ghost use Rattle.hg_engine.specs.Shown.{space_of, IsEngineOf, faults_of, fulls_of, said_by_engine, is_pending, turns_left};
-    ghost use Rattle.hg_engine.specs.Stepping.{StatementFinds, TurnFinds};
-    ghost use Rattle.hg_engine.specs.ShownLaws.{pends_of};
+    ghost use Rattle.hg_engine.specs.Shown.{space_of, IsEngineOf, tells_of, faults_of, fulls_of, said_by_engine, is_pending, turns_left, frames_of};
+    ghost use Rattle.hg_engine.specs.Stepping.{CommandFinds, TurnFinds};
+    ghost use Rattle.hg_engine.specs.ShownLaws.{pends_of, framed_of};
 
     ghost stands = { IsEngineOf M.PageDevice T.PageDevice };
+
+    ghost tells = { tells_of M.PageDevice T.PageDevice };
 
     ghost faults = { faults_of M.PageDevice T.PageDevice };
 
@@ -114,12 +119,18 @@ impl<M: PageDevice, T: PageDevice> Machine for Database<M, T> {
 
     ghost turns = { turns_left };
 
-    ghost found_by = { λ old new statement. StatementFinds (space_of M.PageDevice T.PageDevice old) new.tables statement };
+    ghost frames = { frames_of };
+
+    ghost found_by = { λ old new command. CommandFinds (space_of M.PageDevice T.PageDevice old) new.tables command };
 
     ghost found_in_turn = { λ e. TurnFinds (space_of M.PageDevice T.PageDevice e) e.tables };
 
-    fn command(&mut self, statement: &StatementRoom, reply: &mut Reply) -> Next {
-        self.kept.command(statement, reply)
+    fn max(&self) -> u32 {
+        self.kept.tables.max
+    }
+
+    fn answer(&mut self, asked: &Asked, reply: &mut Reply) -> Next {
+        self.kept.answer(asked, reply)
     }
 
     fn more(&mut self, reply: &mut Reply) -> Next {
@@ -131,6 +142,10 @@ impl<M: PageDevice, T: PageDevice> Machine for Database<M, T> {
     }
 
     ghost pends = { pends_of
+        (record { pages = M.pages; told = M.told; page = M.page; reads = M.reads; writes = M.writes; faults = M.faults })
+        (record { pages = T.pages; told = T.told; page = T.page; reads = T.reads; writes = T.writes; faults = T.faults }) };
+
+    ghost framed = { framed_of
         (record { pages = M.pages; told = M.told; page = M.page; reads = M.reads; writes = M.writes; faults = M.faults })
         (record { pages = T.pages; told = T.told; page = T.page; reads = T.reads; writes = T.writes; faults = T.faults }) };
 }

@@ -1,10 +1,10 @@
 //! What an engine keeps, and one step of it.
+use crate::say::say_fault;
 use crate::tables::Tables;
 use hg_io::PageDevice;
-use hg_machine::Tuple;
 use hg_model::Name;
 use hg_pool::Pool;
-use hg_reply::{Kind, Next, Reply, StatementRoom};
+use hg_reply::{Asked, CommandAt, InsertAt, Next, Reply, ReplyLine, SelectAt, TableAt};
 
 /// The tables of an engine, the pool of their pages, and how many bytes the replies had so far.
 pub struct Kept<M: PageDevice, T: PageDevice> {
@@ -14,16 +14,20 @@ pub struct Kept<M: PageDevice, T: PageDevice> {
 }
 
 impl<M: PageDevice, T: PageDevice> Kept<M, T> {
-    ghost use Rattle.std.specs.Prelude.{◌≡◌, ◌<◌, ◌≤◌, ◌↔◌, true, false, length};
+    ghost use Rattle.std.specs.Prelude.{◌≡◌, ◌<◌, ◌≤◌, ◌↔◌, ℕ, List, true, false, length, IsTrue};
+    ghost use Rattle.std.specs.List.{list_all};
     ghost use Rattle.arrayvec.specs.ArrayVec.{array_vec_len};
     ghost use Rattle.hg_io.specs.Count.{raised};
-    ghost use Rattle.hg_machine.specs.CreateTable.{CreatesTable};
-    ghost use Rattle.hg_machine.specs.Insert.{Inserts};
-    ghost use Rattle.hg_machine.specs.Run.{Begins, Turn};
-    ghost use Rattle.hg_machine.specs.Select.{Selects};
-    ghost use Rattle.hg_reply.specs.Steps.{statement_in, DropsCommand};
-    ghost use Rattle.hg_engine.specs.Shown.{space_of, IsEngineOf, IsSomeEngine, is_pending, turns_left, EngineSteps, IsLater};
-    ghost use Rattle.hg_engine.specs.Stepping.{InsertFinds, StatementFinds, TurnFinds};
+    ghost use Rattle.hg_machine.specs.Plain.Replies.{ReplyLine as ReplyLineOf};
+    ghost use Rattle.hg_machine.specs.Plain.State.{State};
+    ghost use Rattle.hg_model.specs.Statements.{CreateTable, InsertRows, SelectRows, Pool as PoolTo};
+    ghost use Rattle.hg_model.specs.Value.{is_printable};
+    ghost use Rattle.hg_reply.specs.Asked.{command_in, texts_in, table_at, insert_at, query_at, IsReadAs};
+    ghost use Rattle.hg_reply.specs.Built.{is_built};
+    ghost use Rattle.hg_reply.specs.Steps.{DropsCommand, BeginsSo, ContinuesSo};
+    ghost use Rattle.hg_engine.specs.Shown.{space_of, IsEngineOf, IsSomeEngine, is_pending, turns_left, tells_of, frames_of, EngineSteps, IsLater};
+    ghost use Rattle.hg_engine.specs.Stars.{star_of, from_one};
+    ghost use Rattle.hg_engine.specs.Stepping.{CommandFinds, InsertFinds, TurnFinds, no_damage};
 
     /// Whether a SELECT is at work.
     fn next(&self) -> Next
@@ -37,58 +41,114 @@ impl<M: PageDevice, T: PageDevice> Kept<M, T> {
     }
 
     /// CREATE TABLE.
-    fn create(&mut self, name: &Name, columns: &[Name], reply: &mut Reply)
+    fn create(&mut self, table: &TableAt, reply: &mut Reply)
         requires idle { is_pending self.old ≡ false }
-        requires few { length columns.now ≤ 16 }
-        ensures step { EngineSteps M.PageDevice T.PageDevice self.old self.new reply.new
-            (λ before lines after. CreatesTable before name.now columns.now lines after) (λ now page check. ⊥) }
+        requires read { (texts : List ℕ) × IsReadAs (frames_of self.old) (CreateTable (table_at table.now)) texts }
+        requires plain { is_built (CreateTable (table_at table.now)) ≡ true }
+        ensures step { (texts : List ℕ) → EngineSteps M.PageDevice T.PageDevice self.old self.new reply.new
+            (BeginsSo (tells_of M.PageDevice T.PageDevice self.old) (CreateTable (table_at table.now)) texts) (λ now. no_damage) }
         ensures later { IsLater (space_of M.PageDevice T.PageDevice self.old) (space_of M.PageDevice T.PageDevice self.new) }
         ensures said { self.new.said ≡ self.old.said }
+        ensures frames { frames_of self.new ≡ frames_of self.old }
     {
         reply.clear();
-        self.tables.create_table(name, columns, reply);
+        self.tables.create_table(table, reply);
     }
 
     /// INSERT.
-    fn insert(&mut self, table: &Name, rows: &[Tuple], reply: &mut Reply)
+    fn insert(&mut self, insert: &InsertAt, texts: &str, reply: &mut Reply)
         requires idle { is_pending self.old ≡ false }
         requires stands { IsSomeEngine M.PageDevice T.PageDevice self.old }
+        requires read { IsReadAs (frames_of self.old) (InsertRows (insert_at insert.now)) texts.now }
         ensures step { EngineSteps M.PageDevice T.PageDevice self.old self.new reply.new
-            (λ before lines after. Inserts before table.now rows.now lines after)
-            (λ now. InsertFinds (space_of M.PageDevice T.PageDevice self.old) now.entries.items table.now) }
+            (BeginsSo (tells_of M.PageDevice T.PageDevice self.old) (InsertRows (insert_at insert.now)) texts.now)
+            (λ now. InsertFinds (space_of M.PageDevice T.PageDevice self.old) now.catalog.tables insert.now.table.now) }
         ensures later { IsLater (space_of M.PageDevice T.PageDevice self.old) (space_of M.PageDevice T.PageDevice self.new) }
         ensures said { self.new.said ≡ self.old.said }
+        ensures frames { frames_of self.new ≡ frames_of self.old }
     {
         reply.clear();
-        self.tables.insert(&mut self.pool, table, rows, reply);
+        self.tables
+            .insert(&mut self.pool, insert, texts.as_bytes(), reply);
     }
 
     /// SELECT.
     fn select(&mut self, table: &Name, reply: &mut Reply)
         requires idle { is_pending self.old ≡ false }
-        ensures step { EngineSteps M.PageDevice T.PageDevice self.old self.new reply.new
-            (λ before lines after. Selects before table.now lines after) (λ now page check. ⊥) }
+        ensures step { (alias texts : List ℕ) → EngineSteps M.PageDevice T.PageDevice self.old self.new reply.new
+            (BeginsSo (tells_of M.PageDevice T.PageDevice self.old) (SelectRows (star_of (from_one table.now alias))) texts) (λ now. no_damage) }
         ensures later { IsLater (space_of M.PageDevice T.PageDevice self.old) (space_of M.PageDevice T.PageDevice self.new) }
         ensures said { self.new.said ≡ self.old.said }
+        ensures frames { frames_of self.new ≡ frames_of self.old }
     {
         reply.clear();
         self.tables.select(&self.pool, table, reply);
     }
 
-    /// A statement up to its first turn.
-    fn answer(&mut self, statement: &StatementRoom, reply: &mut Reply)
+    /// POOL.
+    fn resize(&mut self, frames: u32, reply: &mut Reply)
         requires idle { is_pending self.old ≡ false }
         requires stands { IsSomeEngine M.PageDevice T.PageDevice self.old }
-        ensures step { EngineSteps M.PageDevice T.PageDevice self.old self.new reply.new
-            (λ before lines after. Begins before (statement_in statement.now) lines after)
-            (λ now. StatementFinds (space_of M.PageDevice T.PageDevice self.old) now (statement_in statement.now)) }
+        requires at_least { 16 ≤ frames }
+        requires at_most { frames ≤ frames_of self.old }
+        ensures step { (texts : List ℕ) → EngineSteps M.PageDevice T.PageDevice self.old self.new reply.new
+            (BeginsSo (tells_of M.PageDevice T.PageDevice self.old) (PoolTo frames) texts) (λ now. no_damage) }
         ensures later { IsLater (space_of M.PageDevice T.PageDevice self.old) (space_of M.PageDevice T.PageDevice self.new) }
         ensures said { self.new.said ≡ self.old.said }
+        ensures frames { frames_of self.new ≡ frames_of self.old }
     {
-        match statement.kind {
-            Kind::CreateTable => self.create(&statement.table, &statement.columns, reply),
-            Kind::Insert => self.insert(&statement.table, &statement.rows, reply),
-            Kind::Select => self.select(&statement.table, reply),
+        reply.clear();
+        match self.pool.resize(frames) {
+            Ok(()) => reply.say(&ReplyLine::PoolSet(frames)),
+            Err(fault) => say_fault(reply, fault),
+        }
+    }
+
+    /// SELECT of all rows of a table.
+    fn select_all(&mut self, select: &SelectAt, reply: &mut Reply)
+        requires idle { is_pending self.old ≡ false }
+        requires built { is_built (SelectRows (query_at select.now)) ≡ true }
+        ensures step { (texts : List ℕ) → EngineSteps M.PageDevice T.PageDevice self.old self.new reply.new
+            (BeginsSo (tells_of M.PageDevice T.PageDevice self.old) (SelectRows (query_at select.now)) texts) (λ now. no_damage) }
+        ensures later { IsLater (space_of M.PageDevice T.PageDevice self.old) (space_of M.PageDevice T.PageDevice self.new) }
+        ensures said { self.new.said ≡ self.old.said }
+        ensures frames { frames_of self.new ≡ frames_of self.old }
+    {
+        match select.tables.first() {
+            Some(from) => self.select(&from.table, reply),
+            None => unreachable!(),
+        }
+    }
+
+    /// A command up to its first turn.
+    fn begin(&mut self, asked: &Asked, reply: &mut Reply)
+        requires idle { is_pending self.old ≡ false }
+        requires stands { IsSomeEngine M.PageDevice T.PageDevice self.old }
+        requires read { IsReadAs (frames_of self.old) (command_in asked.now.command) (texts_in asked.now) }
+        requires built { is_built (command_in asked.now.command) ≡ true }
+        ensures step { EngineSteps M.PageDevice T.PageDevice self.old self.new reply.new
+            (BeginsSo (tells_of M.PageDevice T.PageDevice self.old) (command_in asked.now.command) (texts_in asked.now))
+            (λ now. CommandFinds (space_of M.PageDevice T.PageDevice self.old) now (command_in asked.now.command)) }
+        ensures later { IsLater (space_of M.PageDevice T.PageDevice self.old) (space_of M.PageDevice T.PageDevice self.new) }
+        ensures said { self.new.said ≡ self.old.said }
+        ensures frames { frames_of self.new ≡ frames_of self.old }
+    {
+        match asked.command {
+            CommandAt::CreateTable(table) => self.create(&table, reply),
+            CommandAt::Insert(insert) => self.insert(&insert, asked.texts, reply),
+            CommandAt::Select(select) => self.select_all(&select, reply),
+            CommandAt::Pool(frames) => self.resize(frames, reply),
+            CommandAt::CreateIndex(_)
+            | CommandAt::Update(_)
+            | CommandAt::Delete(_)
+            | CommandAt::Vacuum(_)
+            | CommandAt::OpenCursor(_, _)
+            | CommandAt::Start(_, _)
+            | CommandAt::Work(_)
+            | CommandAt::Fetch(_, _)
+            | CommandAt::Close(_)
+            | CommandAt::Mpl(_)
+            | CommandAt::ShowMemory => unreachable!(),
         }
     }
 
@@ -96,11 +156,12 @@ impl<M: PageDevice, T: PageDevice> Kept<M, T> {
     fn turn(&mut self, reply: &mut Reply)
         requires pending { is_pending self.old ≡ true }
         requires stands { IsSomeEngine M.PageDevice T.PageDevice self.old }
-        ensures turns { EngineSteps M.PageDevice T.PageDevice self.old self.new reply.new Turn
+        ensures turns { EngineSteps M.PageDevice T.PageDevice self.old self.new reply.new (ContinuesSo (tells_of M.PageDevice T.PageDevice self.old))
             (λ now. TurnFinds (space_of M.PageDevice T.PageDevice self.old) self.old.tables) }
         ensures nearer { turns_left self.new < turns_left self.old }
         ensures later { IsLater (space_of M.PageDevice T.PageDevice self.old) (space_of M.PageDevice T.PageDevice self.new) }
         ensures said { self.new.said ≡ self.old.said }
+        ensures frames { frames_of self.new ≡ frames_of self.old }
     {
         reply.clear();
         self.tables.turn(&mut self.pool, reply);
@@ -115,44 +176,49 @@ impl<M: PageDevice, T: PageDevice> Kept<M, T> {
         self.said = self.said.saturating_add(reply.text.len() as u64);
     }
 
-    /// Answers a statement up to its first turn.
-    pub(crate) fn command(&mut self, statement: &StatementRoom, reply: &mut Reply) -> Next
+    /// Answers a command up to its first turn.
+    pub(crate) fn answer(&mut self, asked: &Asked, reply: &mut Reply) -> Next
         requires idle { is_pending self.old ≡ false }
         requires stands { IsSomeEngine M.PageDevice T.PageDevice self.old }
+        requires read { IsReadAs (frames_of self.old) (command_in asked.now.command) (texts_in asked.now) }
+        requires built { is_built (command_in asked.now.command) ≡ true }
         ensures step { EngineSteps M.PageDevice T.PageDevice self.old self.new reply.new
-            (λ before lines after. Begins before (statement_in statement.now) lines after)
-            (λ now. StatementFinds (space_of M.PageDevice T.PageDevice self.old) now (statement_in statement.now)) }
+            (BeginsSo (tells_of M.PageDevice T.PageDevice self.old) (command_in asked.now.command) (texts_in asked.now))
+            (λ now. CommandFinds (space_of M.PageDevice T.PageDevice self.old) now (command_in asked.now.command)) }
         ensures more { (result ≡ Next.More) ↔ (is_pending self.new ≡ true) }
         ensures later { IsLater (space_of M.PageDevice T.PageDevice self.old) (space_of M.PageDevice T.PageDevice self.new) }
         ensures said { self.new.said ≡ raised self.old.said (array_vec_len reply.new.text) }
+        ensures frames { frames_of self.new ≡ frames_of self.old }
     {
-        self.answer(statement, reply);
+        self.begin(asked, reply);
         self.count(reply);
         self.next()
     }
 
-    /// Gives one turn of the statement at work.
+    /// Gives one turn of the command at work.
     pub(crate) fn more(&mut self, reply: &mut Reply) -> Next
         requires pending { is_pending self.old ≡ true }
         requires stands { IsSomeEngine M.PageDevice T.PageDevice self.old }
-        ensures turns { EngineSteps M.PageDevice T.PageDevice self.old self.new reply.new Turn
+        ensures turns { EngineSteps M.PageDevice T.PageDevice self.old self.new reply.new (ContinuesSo (tells_of M.PageDevice T.PageDevice self.old))
             (λ now. TurnFinds (space_of M.PageDevice T.PageDevice self.old) self.old.tables) }
         ensures nearer { turns_left self.new < turns_left self.old }
         ensures more { (result ≡ Next.More) ↔ (is_pending self.new ≡ true) }
         ensures later { IsLater (space_of M.PageDevice T.PageDevice self.old) (space_of M.PageDevice T.PageDevice self.new) }
         ensures said { self.new.said ≡ raised self.old.said (array_vec_len reply.new.text) }
+        ensures frames { frames_of self.new ≡ frames_of self.old }
     {
         self.turn(reply);
         self.count(reply);
         self.next()
     }
 
-    /// Drops the statement at work.
+    /// Drops the command at work.
     pub(crate) fn drop_command(&mut self)
         ensures drops { DropsCommand (IsEngineOf M.PageDevice T.PageDevice) self.old self.new }
         ensures idle { is_pending self.new ≡ false }
         ensures pool { self.new.pool ≡ self.old.pool }
         ensures said { self.new.said ≡ self.old.said }
+        ensures frames { frames_of self.new ≡ frames_of self.old }
     {
         self.tables.scan = None;
     }

@@ -6,7 +6,7 @@ ghost use Rattle.hg_table.specs.Calls.{none_mine, TakesNone, HasWay, LookFault, 
 ghost use Rattle.hg_table.specs.Chains.{IsChain};
 ghost use Rattle.hg_table.specs.Marks.{committed};
 ghost use Rattle.hg_table.specs.Versions.{Placed};
-ghost use Rattle.hg_engine.specs.Seen.{seen_rows};
+ghost use Rattle.hg_dml.specs.Seen.{seen_rows};
 ghost use Rattle.hg_engine.specs.Scanning.{Position, IsScan, Finds, GoesOn, ScanFault, IsScanCheck};
 
 use crate::scan::Scan;

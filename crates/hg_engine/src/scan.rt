@@ -5,7 +5,7 @@ use hg_base::Place;
 /// gives at most from there on.
 #[derive(Clone, Copy, PartialEq, Eq, Debug)]
 pub struct Scan {
-    pub table: usize,
+    pub table: u8,
     pub at: Option<Place>,
     pub budget: u64,
 }

@@ -1,18 +1,20 @@
 //! What an engine keeps of its tables.
-ghost use Rattle.std.specs.Prelude.{◌≤◌, vec_capacity};
-
-use crate::entries::Entry;
 use crate::scan::Scan;
+use arrayvec::ArrayVec;
+use hg_catalog::Catalog;
 use hg_table::Stamps;
 use hg_value::Row;
 
-/// The tables in order of creation, the stamps that were drawn, and the SELECT at work. `row` is room
-/// for one row.
+/// The tables in order of creation, the stamps that were drawn, and the SELECT at work; how many frames
+/// the pool may have, and how many cursors may be active. `row` is room for one row, and `targets` for
+/// the columns of an INSERT.
 #[derive(Drop)]
 pub struct Tables {
-    pub entries: Vec<Entry>,
+    pub catalog: Catalog,
     pub stamps: Stamps,
     pub scan: Option<Scan>,
+    pub max: u32,
+    pub mpl: u32,
     pub row: Row,
-    ghost room: { 64 ≤ vec_capacity entries },
+    pub targets: ArrayVec<u8, 16>,
 }

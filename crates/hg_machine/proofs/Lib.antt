@@ -1,4 +1,3 @@
-pub mod Drawing
 pub mod Cursors
 pub mod Turns
 pub mod Steady

@@ -1,13 +1,1 @@
-pub mod Cell
-pub mod Script
-pub mod Tokens
-pub mod Grammar
-pub mod State
-pub mod Reply
-pub mod CreateTable
-pub mod Insert
-pub mod Select
-pub mod Run
-pub mod Outcome
-pub mod Laws
 pub mod Plain

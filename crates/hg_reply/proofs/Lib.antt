@@ -1,3 +1,1 @@
 pub mod RowText
-pub mod Pieces
-pub mod LastRow

@@ -1,14 +1,11 @@
 -- The text of a row, value by value, and how long it is.
-use Rattle.std.proofs.Common.{◌≡◌, ◌==◌, ℕ, zero, suc, ◌+◌, ◌<◌, ◌≤◌, List, [], ◌∷◌, ◌++◌, Some, length, take, sym, ap, ◌∙◌, arith, add-one, append_assoc, append-nil, length-append}
-use Rattle.std.specs.Prelude.{slice_get, if◌then◌else◌}
+use Rattle.std.proofs.Common.{◌≡◌, ℕ, zero, suc, ◌+◌, ◌<◌, ◌≤◌, List, [], ◌∷◌, ◌++◌, Some, length, take, sym, ap, ◌∙◌, arith, add-one, append_assoc, append-nil, length-append}
+use Rattle.std.specs.Prelude.{slice_get}
 use Rattle.std.specs.List.{flat_map}
 use Rattle.std.proofs.lemmas.Grind.{flat_map-append}
-use Rattle.hg_machine.specs.Reply.{value_text, next_text, row_text}
+use Rattle.hg_machine.specs.Plain.Replies.{ReplyLine, line_text, text_of, value_text, next_text, row_text}
 use Rattle.hg_model.specs.declared.values.Value.{Value}
 use Rattle.hg_value.specs.Coding.{coding, coded}
-
-abbrev pub doubled : ℕ → List ℕ
-doubled b = if b == 39 then 39 ∷ 39 ∷ [] else b ∷ []
 
 -- the front of a list that ends with the element at a place
 take_next : {A : Type 0} (xs : List A) (k : ℕ) (x : A) → slice_get xs k ≡ Some x → take (suc k) xs ≡ take k xs ++ x ∷ []
@@ -49,3 +46,12 @@ length_coded_front (w ∷ ws) (suc k) =
 pub coded_within : (vs : List Value) (k : ℕ) (v : Value) → slice_get vs k ≡ Some v
     → length (coded (take k vs)) + length (coding v) ≤ length (coded vs)
 coded_within vs k v at = omega (arith, length_coded_more vs k v at, length_coded_front vs (k + 1))
+
+-- ---- two lines
+
+pub two_put : (old mid new : List ℕ) (one other : ReplyLine) → mid ≡ old ++ line_text one → new ≡ mid ++ line_text other
+    → new ≡ old ++ text_of (one ∷ other ∷ [])
+unfolding text_of
+two_put old mid new one other first then =
+    then ∙ ap (λ t. t ++ line_text other) first ∙ append_assoc old (line_text one) (line_text other)
+    ∙ ap (λ t. old ++ (line_text one ++ t)) (sym (append-nil (line_text other)))

@@ -1,3 +1,4 @@
-pub mod Lines
-pub mod Steps
+pub mod Asked
+pub mod Built
 pub mod Plain
+pub mod Steps

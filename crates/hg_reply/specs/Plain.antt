@@ -1,28 +1,16 @@
 -- The reply line that a borrowed line stands for.
 use denote.Ref.{Bor}
-use Rattle.std.specs.Prelude.{ℕ, List, [], ◌∷◌, Option, None, Some, map, decimal, ◌≤◌, ⊤}
+use Rattle.std.specs.Prelude.{ℕ, List, [], ◌∷◌, Option, None, Some, decimal, ◌≤◌, ⊤}
 use Rattle.hg_machine.specs.Plain.Refused.{column_word, kind_name, kind_limit, file_name, check_name}
-use Rattle.hg_machine.specs.Plain.Replies.{ReplyLine as Said, CursorName, Figures as SaidFigures, created, rows, vacuumed, opened, started, worked, closed, pool_set, mpl_set, memory, held, row, done, ended, error}
-use Rattle.hg_model.specs.declared.values.Value.{Value}
-use Rattle.hg_model.specs.declared.values.Value.TheVariants as value
+use Rattle.hg_machine.specs.Plain.Replies.{ReplyLine as Said, CursorName, Figures as SaidFigures, created, rows, vacuumed, opened, started, worked, closed, pool_set, mpl_set, memory, held, done, ended, error}
 use Rattle.hg_base.specs.declared.Check.{Check}
 use Rattle.hg_base.specs.declared.PageId.{PageId}
 use Rattle.hg_model.specs.declared.trees.Count.{Count}
 use Rattle.hg_reply.specs.declared.lines.Figures.{Figures}
-use Rattle.hg_reply.specs.declared.lines.Look.{Look}
-use Rattle.hg_reply.specs.declared.lines.Look.TheVariants as look
 use Rattle.hg_reply.specs.declared.lines.ReplyLine.{ReplyLine}
 use Rattle.hg_reply.specs.declared.lines.ReplyLine.TheVariants as line
 use Rattle.hg_reply.specs.declared.lines.Words.{Words}
 use Rattle.hg_reply.specs.declared.lines.Words.TheVariants as word
-
-abbrev pub value_of : Look → Value
-value_of look.Null = value.Null
-value_of (look.Int number) = value.Int number
-value_of (look.Text text) = value.Text text.now
-
-abbrev pub values_of : List Look → List Value
-values_of looks = map value_of looks
 
 abbrev pub name_of : Option (Bor (List ℕ)) → CursorName
 name_of None = None
@@ -60,7 +48,6 @@ line_of (line.PoolSet frames) = pool_set frames
 line_of (line.MplSet level) = mpl_set level
 line_of (line.Memory figures) = memory (figures_of figures)
 line_of (line.Held cursor pages) = held (name_of cursor) pages
-line_of (line.Row cursor looks) = row (name_of cursor) (values_of looks.now)
 line_of (line.Done cursor) = done (name_of cursor)
 line_of (line.Ended cursor) = ended (name_of cursor)
 line_of (line.Error code words) = error code (words_of words)

@@ -6,17 +6,18 @@
 //! plain machine, and a line that says that a device failed comes only where that device's count rose.
 #![tactic(auto)]
 
-pub mod lines;
+mod asked;
+mod lent;
+mod lines;
 mod machine;
 mod reply;
 mod row;
-mod tokens;
 
-pub use machine::{Kind, Machine, Next, StatementRoom};
-pub use reply::{REPLY_BYTES, Reply, ReplyLine};
-pub use tokens::{LINE_LIMIT, TokenRoom};
+pub use asked::{Asked, CommandAt, DeleteAt, IndexAt, InsertAt, SelectAt, TableAt, UpdateAt};
+pub use lent::asked_by;
+pub use lines::{Cursor, Figures, ReplyLine, Text, Words, print};
+pub use machine::{Machine, Next};
+pub use reply::{REPLY_BYTES, Reply};
 
-#[cfg(test)]
-mod lines_tests;
 #[cfg(test)]
 mod tests;

@@ -1,4 +1,4 @@
-//! Reply lines as borrowed values, and their bytes: one function prints them all.
+//! Reply lines as borrowed values, and their bytes: one function prints all but those of rows.
 //!
 //! ```text
 //! row c 1,'it''s',NULL      a row of the cursor c; a SELECT's cursor has no name and is shown as *
@@ -6,11 +6,10 @@
 //! error 4 unknown column x  a refusal: its code, the code's name, and the words behind it
 //! ```
 //!
-//! A line borrows its names, and a row is printed from looks at its values where they lie: no value is
-//! copied but into the output. What a line needs is the room of its text, and nothing else.
-ghost use Rattle.std.specs.Prelude.{◌≡◌, ◌≤◌, ◌+◌, ◌++◌, [], ◌∷◌, length, decimal, codes, ◌==◌, if◌then◌else◌};
+//! A line borrows its names. Every line but a row has at most 256 bytes; the line of a row is printed by
+//! itself, from the row.
+ghost use Rattle.std.specs.Prelude.{◌≡◌, ◌≤◌, ◌+◌, ◌++◌, length, decimal};
 ghost use Rattle.std.specs.List.{flat_map};
-ghost use Rattle.std.specs.Fmt.{signed_decimal};
 ghost use Rattle.arrayvec.specs.ArrayVec.{array_vec_len};
 ghost use Rattle.hg_machine.specs.Plain.Replies as said;
 ghost use Rattle.hg_machine.specs.Plain.Refused as refused;
@@ -24,14 +23,6 @@ use itoa::Buffer;
 
 /// Room for the lines of one step.
 pub type Text = ArrayVec<u8, REPLY_BYTES>;
-
-/// A look at a value where it lies.
-#[derive(Clone, Copy)]
-pub enum Look<'a> {
-    Null,
-    Int(i128),
-    Text(&'a [u8]),
-}
 
 /// The words behind the name of an error's code.
 #[derive(Clone, Copy)]
@@ -73,13 +64,13 @@ pub enum ReplyLine<'a> {
     MplSet(u32),
     Memory(Figures),
     Held(Cursor<'a>, u32),
-    Row(Cursor<'a>, &'a [Look<'a>]),
     Done(Cursor<'a>),
     Ended(Cursor<'a>),
     Error(u8, Words<'a>),
 }
 
-fn put(out: &mut Text, text: &[u8])
+/// Puts text behind what stands there.
+pub fn put(out: &mut Text, text: &[u8])
     requires room { array_vec_len out.old + length text.now ≤ 16384 }
     ensures text { out.new.items ≡ out.old.items ++ text.now }
     ensures len { array_vec_len out.new ≡ array_vec_len out.old + length text.now }
@@ -88,35 +79,26 @@ fn put(out: &mut Text, text: &[u8])
 }
 
 fn put_number(out: &mut Text, number: u64)
-    requires room { array_vec_len out.old + length (decimal number) ≤ 16384 }
+    requires room { array_vec_len out.old + 20 ≤ 16384 }
     ensures text { out.new.items ≡ out.old.items ++ decimal number }
-    ensures len { array_vec_len out.new ≡ array_vec_len out.old + length (decimal number) }
-{
-    let mut digits = Buffer::new();
-    put(out, digits.format(number).as_bytes());
-}
-
-fn put_signed(out: &mut Text, number: i128)
-    requires room { array_vec_len out.old + length (signed_decimal number) ≤ 16384 }
-    ensures text { out.new.items ≡ out.old.items ++ signed_decimal number }
-    ensures len { array_vec_len out.new ≡ array_vec_len out.old + length (signed_decimal number) }
+    ensures short { array_vec_len out.new ≤ array_vec_len out.old + 20 }
 {
     let mut digits = Buffer::new();
     put(out, digits.format(number).as_bytes());
 }
 
 fn put_name(out: &mut Text, name: &Name)
-    requires room { array_vec_len out.old + length name.now ≤ 16384 }
+    requires room { array_vec_len out.old + 30 ≤ 16384 }
     ensures text { out.new.items ≡ out.old.items ++ name.now }
-    ensures len { array_vec_len out.new ≡ array_vec_len out.old + length name.now }
+    ensures short { array_vec_len out.new ≤ array_vec_len out.old + 30 }
 {
     put(out, name.as_str().as_bytes());
 }
 
 fn put_cursor(out: &mut Text, cursor: &Cursor)
-    requires room { array_vec_len out.old + length (said.shown (shape.name_of cursor.now)) ≤ 16384 }
+    requires room { array_vec_len out.old + 30 ≤ 16384 }
     ensures text { out.new.items ≡ out.old.items ++ said.shown (shape.name_of cursor.now) }
-    ensures len { array_vec_len out.new ≡ array_vec_len out.old + length (said.shown (shape.name_of cursor.now)) }
+    ensures short { array_vec_len out.new ≤ array_vec_len out.old + 30 }
 {
     match cursor {
         None => put(out, b"*"),
@@ -125,36 +107,37 @@ fn put_cursor(out: &mut Text, cursor: &Cursor)
 }
 
 fn put_word_number(out: &mut Text, word: &[u8], number: u64)
-    requires room { array_vec_len out.old + length (word.now ++ decimal number) ≤ 16384 }
+    requires room { array_vec_len out.old + length word.now + 20 ≤ 16384 }
     ensures text { out.new.items ≡ out.old.items ++ (word.now ++ decimal number) }
-    ensures len { array_vec_len out.new ≡ array_vec_len out.old + length (word.now ++ decimal number) }
+    ensures short { array_vec_len out.new ≤ array_vec_len out.old + length word.now + 20 }
 {
     put(out, word);
     put_number(out, number);
 }
 
 fn put_word_name(out: &mut Text, word: &[u8], name: &Name)
-    requires room { array_vec_len out.old + length (word.now ++ name.now) ≤ 16384 }
+    requires room { array_vec_len out.old + length word.now + 30 ≤ 16384 }
     ensures text { out.new.items ≡ out.old.items ++ (word.now ++ name.now) }
-    ensures len { array_vec_len out.new ≡ array_vec_len out.old + length (word.now ++ name.now) }
+    ensures short { array_vec_len out.new ≤ array_vec_len out.old + length word.now + 30 }
 {
     put(out, word);
     put_name(out, name);
 }
 
-fn put_word_cursor(out: &mut Text, word: &[u8], cursor: &Cursor)
-    requires room { array_vec_len out.old + length (word.now ++ said.shown (shape.name_of cursor.now)) ≤ 16384 }
+/// A word and a cursor behind it.
+pub fn put_word_cursor(out: &mut Text, word: &[u8], cursor: &Cursor)
+    requires room { array_vec_len out.old + length word.now + 30 ≤ 16384 }
     ensures text { out.new.items ≡ out.old.items ++ (word.now ++ said.shown (shape.name_of cursor.now)) }
-    ensures len { array_vec_len out.new ≡ array_vec_len out.old + length (word.now ++ said.shown (shape.name_of cursor.now)) }
+    ensures short { array_vec_len out.new ≤ array_vec_len out.old + length word.now + 30 }
 {
     put(out, word);
     put_cursor(out, cursor);
 }
 
 fn put_figures(out: &mut Text, f: &Figures)
-    requires room { array_vec_len out.old + length (said.figures_text (shape.figures_of f.now)) ≤ 16384 }
+    requires room { array_vec_len out.old + 200 ≤ 16384 }
     ensures text { out.new.items ≡ out.old.items ++ said.figures_text (shape.figures_of f.now) }
-    ensures len { array_vec_len out.new ≡ array_vec_len out.old + length (said.figures_text (shape.figures_of f.now)) }
+    ensures short { array_vec_len out.new ≤ array_vec_len out.old + 200 }
 {
     put_word_number(out, b"memory pool ", f.pool as u64);
     put_word_number(out, b" max ", f.max as u64);
@@ -165,104 +148,20 @@ fn put_figures(out: &mut Text, f: &Figures)
     put_word_number(out, b" soft ", f.soft as u64);
 }
 
-/// A byte of a text between quotes: a quote stands twice.
-fn put_doubled(out: &mut Text, byte: u8)
-    requires room { array_vec_len out.old + length (said.doubled byte) ≤ 16384 }
-    ensures text { out.new.items ≡ out.old.items ++ said.doubled byte }
-    ensures len { array_vec_len out.new ≡ array_vec_len out.old + length (said.doubled byte) }
-{
-    if byte == b'\'' {
-        put(out, b"''");
-    } else {
-        put(out, &[byte]);
-    }
-}
-
-fn put_doubled_bytes(out: &mut Text, text: &[u8])
-    requires room { array_vec_len out.old + length (flat_map said.doubled text.now) ≤ 16384 }
-    ensures text { out.new.items ≡ out.old.items ++ flat_map said.doubled text.now }
-    ensures len { array_vec_len out.new ≡ array_vec_len out.old + length (flat_map said.doubled text.now) }
-{
-    for byte in text {
-        put_doubled(out, *byte);
-    }
-}
-
-fn put_quoted(out: &mut Text, text: &[u8])
-    requires room { array_vec_len out.old + length (said.quoted text.now) ≤ 16384 }
-    ensures text { out.new.items ≡ out.old.items ++ said.quoted text.now }
-    ensures len { array_vec_len out.new ≡ array_vec_len out.old + length (said.quoted text.now) }
-{
-    put(out, b"'");
-    put_doubled_bytes(out, text);
-    put(out, b"'");
-}
-
-fn put_value(out: &mut Text, value: &Look)
-    requires room { array_vec_len out.old + length (said.value_text (shape.value_of value.now)) ≤ 16384 }
-    ensures text { out.new.items ≡ out.old.items ++ said.value_text (shape.value_of value.now) }
-    ensures len { array_vec_len out.new ≡ array_vec_len out.old + length (said.value_text (shape.value_of value.now)) }
-{
-    match value {
-        Look::Null => put(out, b"NULL"),
-        Look::Int(number) => put_signed(out, *number),
-        Look::Text(text) => put_quoted(out, text),
-    }
-}
-
-fn put_next_value(out: &mut Text, value: &Look)
-    requires room { array_vec_len out.old + length (said.next_text (shape.value_of value.now)) ≤ 16384 }
-    ensures text { out.new.items ≡ out.old.items ++ said.next_text (shape.value_of value.now) }
-    ensures len { array_vec_len out.new ≡ array_vec_len out.old + length (said.next_text (shape.value_of value.now)) }
-{
-    put(out, b",");
-    put_value(out, value);
-}
-
-fn put_next_values(out: &mut Text, values: &[Look])
-    requires room { array_vec_len out.old + length (flat_map said.next_text (shape.values_of values.now)) ≤ 16384 }
-    ensures text { out.new.items ≡ out.old.items ++ flat_map said.next_text (shape.values_of values.now) }
-    ensures len { array_vec_len out.new ≡ array_vec_len out.old + length (flat_map said.next_text (shape.values_of values.now)) }
-{
-    for value in values {
-        put_next_value(out, value);
-    }
-}
-
-fn put_values(out: &mut Text, values: &[Look])
-    requires room { array_vec_len out.old + length (said.row_text (shape.values_of values.now)) ≤ 16384 }
-    ensures text { out.new.items ≡ out.old.items ++ said.row_text (shape.values_of values.now) }
-    ensures len { array_vec_len out.new ≡ array_vec_len out.old + length (said.row_text (shape.values_of values.now)) }
-{
-    if let Some((first, others)) = values.split_first() {
-        put_value(out, first);
-        put_next_values(out, others);
-    }
-}
-
 fn put_held(out: &mut Text, cursor: &Cursor, pages: u32)
-    requires room { array_vec_len out.old + length (said.bare_text (said.held (shape.name_of cursor.now) pages)) ≤ 16384 }
+    requires room { array_vec_len out.old + 60 ≤ 16384 }
     ensures text { out.new.items ≡ out.old.items ++ (said.bare_text (said.held (shape.name_of cursor.now) pages)) }
-    ensures len { array_vec_len out.new ≡ array_vec_len out.old + length (said.bare_text (said.held (shape.name_of cursor.now) pages)) }
+    ensures short { array_vec_len out.new ≤ array_vec_len out.old + 60 }
 {
     put_word_cursor(out, b"held ", cursor);
     put_word_number(out, b" ", pages as u64);
 }
 
-fn put_row(out: &mut Text, cursor: &Cursor, values: &[Look])
-    requires room { array_vec_len out.old + length (said.bare_text (said.row (shape.name_of cursor.now) (shape.values_of values.now))) ≤ 16384 }
-    ensures text { out.new.items ≡ out.old.items ++ (said.bare_text (said.row (shape.name_of cursor.now) (shape.values_of values.now))) }
-    ensures len { array_vec_len out.new ≡ array_vec_len out.old + length (said.bare_text (said.row (shape.name_of cursor.now) (shape.values_of values.now))) }
-{
-    put_word_cursor(out, b"row ", cursor);
-    put(out, b" ");
-    put_values(out, values);
-}
-
 /// The name of a code.
 fn code_word(code: u8) -> &'static [u8]
     requires { code ≤ 25 }
-    ensures { result.now ≡ said.code_name code }
+    ensures name { result.now ≡ said.code_name code }
+    ensures short { length result.now ≤ 19 }
 {
     match code {
         1 => b"syntax",
@@ -296,7 +195,8 @@ fn code_word(code: u8) -> &'static [u8]
 
 /// The words for a kind of which there can be too many, and how many there may be.
 fn kind_word(kind: Count) -> &'static [u8]
-    ensures { result.now ≡ refused.kind_name kind }
+    ensures name { result.now ≡ refused.kind_name kind }
+    ensures short { length result.now ≤ 14 }
 {
     match kind {
         Count::NameLetters => b"name letters",
@@ -341,7 +241,8 @@ fn kind_limit(kind: Count) -> u64
 
 /// The word for a file.
 fn file_word(file: File) -> &'static [u8]
-    ensures { result.now ≡ refused.file_name file }
+    ensures name { result.now ≡ refused.file_name file }
+    ensures short { length result.now ≤ 4 }
 {
     match file {
         File::Main => b"main",
@@ -351,7 +252,8 @@ fn file_word(file: File) -> &'static [u8]
 
 /// The word for a check.
 fn check_word(check: Check) -> &'static [u8]
-    ensures { result.now ≡ refused.check_name check }
+    ensures name { result.now ≡ refused.check_name check }
+    ensures short { length result.now ≤ 5 }
 {
     match check {
         Check::Kind => b"kind",
@@ -365,27 +267,36 @@ fn check_word(check: Check) -> &'static [u8]
 }
 
 fn put_blank_word(out: &mut Text, word: &[u8])
-    requires room { array_vec_len out.old + length (said.word_text word.now) ≤ 16384 }
-    ensures text { out.new.items ≡ out.old.items ++ (said.word_text word.now) }
-    ensures len { array_vec_len out.new ≡ array_vec_len out.old + length (said.word_text word.now) }
+    requires room { array_vec_len out.old + 1 + length word.now ≤ 16384 }
+    ensures text { out.new.items ≡ out.old.items ++ said.word_text word.now }
+    ensures len { array_vec_len out.new ≡ array_vec_len out.old + 1 + length word.now }
 {
     put(out, b" ");
     put(out, word);
 }
 
 fn put_blank_number(out: &mut Text, number: u64)
-    requires room { array_vec_len out.old + length (said.word_text (decimal number)) ≤ 16384 }
-    ensures text { out.new.items ≡ out.old.items ++ (said.word_text (decimal number)) }
-    ensures len { array_vec_len out.new ≡ array_vec_len out.old + length (said.word_text (decimal number)) }
+    requires room { array_vec_len out.old + 21 ≤ 16384 }
+    ensures text { out.new.items ≡ out.old.items ++ said.word_text (decimal number) }
+    ensures short { array_vec_len out.new ≤ array_vec_len out.old + 21 }
 {
     put(out, b" ");
     put_number(out, number);
 }
 
+fn put_blank_name(out: &mut Text, name: &Name)
+    requires room { array_vec_len out.old + 31 ≤ 16384 }
+    ensures text { out.new.items ≡ out.old.items ++ said.word_text name.now }
+    ensures short { array_vec_len out.new ≤ array_vec_len out.old + 31 }
+{
+    put(out, b" ");
+    put_name(out, name);
+}
+
 fn put_column(out: &mut Text, column: &ColRef)
-    requires room { array_vec_len out.old + length (said.word_text (refused.column_word column.now)) ≤ 16384 }
-    ensures text { out.new.items ≡ out.old.items ++ (said.word_text (refused.column_word column.now)) }
-    ensures len { array_vec_len out.new ≡ array_vec_len out.old + length (said.word_text (refused.column_word column.now)) }
+    requires room { array_vec_len out.old + 62 ≤ 16384 }
+    ensures text { out.new.items ≡ out.old.items ++ said.word_text (refused.column_word column.now) }
+    ensures short { array_vec_len out.new ≤ array_vec_len out.old + 62 }
 {
     put(out, b" ");
     if let Some(table) = &column.table {
@@ -396,9 +307,9 @@ fn put_column(out: &mut Text, column: &ColRef)
 }
 
 fn put_damage(out: &mut Text, page: PageId, check: Check)
-    requires room { array_vec_len out.old + length (flat_map said.word_text (shape.damage_words page check)) ≤ 16384 }
-    ensures text { out.new.items ≡ out.old.items ++ (flat_map said.word_text (shape.damage_words page check)) }
-    ensures len { array_vec_len out.new ≡ array_vec_len out.old + length (flat_map said.word_text (shape.damage_words page check)) }
+    requires room { array_vec_len out.old + 40 ≤ 16384 }
+    ensures text { out.new.items ≡ out.old.items ++ flat_map said.word_text (shape.damage_words page check) }
+    ensures short { array_vec_len out.new ≤ array_vec_len out.old + 40 }
 {
     put_blank_word(out, file_word(page.file));
     put_blank_number(out, page.no as u64);
@@ -406,31 +317,31 @@ fn put_damage(out: &mut Text, page: PageId, check: Check)
 }
 
 fn put_kind(out: &mut Text, kind: Count)
-    requires room { array_vec_len out.old + length (flat_map said.word_text (shape.kind_words kind)) ≤ 16384 }
-    ensures text { out.new.items ≡ out.old.items ++ (flat_map said.word_text (shape.kind_words kind)) }
-    ensures len { array_vec_len out.new ≡ array_vec_len out.old + length (flat_map said.word_text (shape.kind_words kind)) }
+    requires room { array_vec_len out.old + 40 ≤ 16384 }
+    ensures text { out.new.items ≡ out.old.items ++ flat_map said.word_text (shape.kind_words kind) }
+    ensures short { array_vec_len out.new ≤ array_vec_len out.old + 40 }
 {
     put_blank_word(out, kind_word(kind));
     put_blank_number(out, kind_limit(kind));
 }
 
 fn put_two_numbers(out: &mut Text, first: u32, second: u32)
-    requires room { array_vec_len out.old + length (flat_map said.word_text (shape.number_words first second)) ≤ 16384 }
-    ensures text { out.new.items ≡ out.old.items ++ (flat_map said.word_text (shape.number_words first second)) }
-    ensures len { array_vec_len out.new ≡ array_vec_len out.old + length (flat_map said.word_text (shape.number_words first second)) }
+    requires room { array_vec_len out.old + 42 ≤ 16384 }
+    ensures text { out.new.items ≡ out.old.items ++ flat_map said.word_text (shape.number_words first second) }
+    ensures short { array_vec_len out.new ≤ array_vec_len out.old + 42 }
 {
     put_blank_number(out, first as u64);
     put_blank_number(out, second as u64);
 }
 
 fn put_words(out: &mut Text, words: &Words)
-    requires room { array_vec_len out.old + length (flat_map said.word_text (shape.words_of words.now)) ≤ 16384 }
-    ensures text { out.new.items ≡ out.old.items ++ (flat_map said.word_text (shape.words_of words.now)) }
-    ensures len { array_vec_len out.new ≡ array_vec_len out.old + length (flat_map said.word_text (shape.words_of words.now)) }
+    requires room { array_vec_len out.old + 62 ≤ 16384 }
+    ensures text { out.new.items ≡ out.old.items ++ flat_map said.word_text (shape.words_of words.now) }
+    ensures short { array_vec_len out.new ≤ array_vec_len out.old + 62 }
 {
     match words {
         Words::Nothing => {}
-        Words::Name(name) => put_blank_word(out, name.as_str().as_bytes()),
+        Words::Name(name) => put_blank_name(out, name),
         Words::Column(column) => put_column(out, column),
         Words::Kind(kind) => put_kind(out, *kind),
         Words::HeldAndCeiling(held, ceiling) => put_two_numbers(out, *held, *ceiling),
@@ -440,9 +351,9 @@ fn put_words(out: &mut Text, words: &Words)
 
 fn put_error(out: &mut Text, code: u8, words: &Words)
     requires known { code ≤ 25 }
-    requires room { array_vec_len out.old + length (said.bare_text (said.error code (shape.words_of words.now))) ≤ 16384 }
-    ensures text { out.new.items ≡ out.old.items ++ (said.bare_text (said.error code (shape.words_of words.now))) }
-    ensures len { array_vec_len out.new ≡ array_vec_len out.old + length (said.bare_text (said.error code (shape.words_of words.now))) }
+    requires room { array_vec_len out.old + 120 ≤ 16384 }
+    ensures text { out.new.items ≡ out.old.items ++ said.bare_text (said.error code (shape.words_of words.now)) }
+    ensures short { array_vec_len out.new ≤ array_vec_len out.old + 120 }
 {
     put_word_number(out, b"error ", code as u64);
     put_blank_word(out, code_word(code));
@@ -452,9 +363,9 @@ fn put_error(out: &mut Text, code: u8, words: &Words)
 /// A reply line without its line feed.
 fn put_bare(out: &mut Text, line: &ReplyLine)
     requires known { shape.IsKnown line.now }
-    requires room { array_vec_len out.old + length (said.bare_text (shape.line_of line.now)) ≤ 16384 }
-    ensures text { out.new.items ≡ out.old.items ++ (said.bare_text (shape.line_of line.now)) }
-    ensures len { array_vec_len out.new ≡ array_vec_len out.old + length (said.bare_text (shape.line_of line.now)) }
+    requires room { array_vec_len out.old + 200 ≤ 16384 }
+    ensures text { out.new.items ≡ out.old.items ++ said.bare_text (shape.line_of line.now) }
+    ensures short { array_vec_len out.new ≤ array_vec_len out.old + 200 }
 {
     match line {
         ReplyLine::Created => put(out, b"created"),
@@ -468,31 +379,26 @@ fn put_bare(out: &mut Text, line: &ReplyLine)
         ReplyLine::MplSet(level) => put_word_number(out, b"mpl ", *level as u64),
         ReplyLine::Memory(figures) => put_figures(out, figures),
         ReplyLine::Held(cursor, pages) => put_held(out, cursor, *pages),
-        ReplyLine::Row(cursor, values) => put_row(out, cursor, values),
         ReplyLine::Done(cursor) => put_word_cursor(out, b"done ", cursor),
         ReplyLine::Ended(cursor) => put_word_cursor(out, b"end ", cursor),
         ReplyLine::Error(code, words) => put_error(out, *code, words),
     }
 }
 
-/// Puts a reply line behind those that stand there. There is room for its text, and an error's code is one
-/// of the twenty-five.
+/// Puts a reply line behind those that stand there.
 pub fn print(line: &ReplyLine, out: &mut Text)
     requires known { shape.IsKnown line.now }
-    requires room { array_vec_len out.old + length (said.line_text (shape.line_of line.now)) ≤ 16384 }
+    requires room { array_vec_len out.old + 256 ≤ 16384 }
     ensures text { out.new.items ≡ out.old.items ++ said.line_text (shape.line_of line.now) }
+    ensures short { array_vec_len out.new ≤ array_vec_len out.old + 256 }
 {
     put_bare(out, line);
     put(out, b"\n");
 }
 
-/// Puts the last row that was wanted of a cursor behind the lines that stand there, and `done` behind it.
-pub fn print_last_row(cursor: &Cursor, values: &[Look], out: &mut Text)
-    requires room { array_vec_len out.old
-        + length (said.text_of (said.row (shape.name_of cursor.now) (shape.values_of values.now) ∷ said.done (shape.name_of cursor.now) ∷ [])) ≤ 16384 }
-    ensures text { out.new.items ≡ out.old.items
-        ++ said.text_of (said.row (shape.name_of cursor.now) (shape.values_of values.now) ∷ said.done (shape.name_of cursor.now) ∷ []) }
+/// Whether it is an error line.
+pub fn is_error(line: &ReplyLine) -> bool
+    ensures { result ≡ said.is_error (shape.line_of line.now) }
 {
-    print(&ReplyLine::Row(*cursor, values), out);
-    print(&ReplyLine::Done(*cursor), out);
+    matches!(line, ReplyLine::Error(_, _))
 }

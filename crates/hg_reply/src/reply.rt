@@ -1,32 +1,17 @@
-//! Reply lines and their bytes.
-ghost use Rattle.std.specs.Prelude.{◌≡◌, false, ◌≤◌, ◌+◌, [], ◌++◌, length, decimal, ◌||◌, codes};
+//! The reply of one step.
+ghost use Rattle.std.specs.Prelude.{◌≡◌, false, ◌≤◌, ◌+◌, [], ◌∷◌, ◌++◌, length, ◌||◌};
 ghost use Rattle.arrayvec.specs.ArrayVec.{array_vec_len};
-ghost use Rattle.hg_machine.specs.Reply.{reply_text, inserted, unknown_table, damaged, fault_text, file_name, check_name, is_error};
-ghost use Rattle.hg_reply.specs.Lines.{reply_of};
+ghost use Rattle.hg_machine.specs.Plain.Replies as said;
+ghost use Rattle.hg_machine.specs.Plain.Replies.{line_text, text_of};
+ghost use Rattle.hg_reply.specs.Plain.{line_of, name_of, IsKnown};
 
+use crate::lines::{Cursor, ReplyLine, is_error, print};
+use crate::row::print_row;
 use arrayvec::ArrayVec;
-use hg_base::{Check, File, PageId};
-use hg_model::Name;
-use itoa::Buffer;
+use hg_value::Row;
 
 /// The bytes of a reply at most.
 pub const REPLY_BYTES: usize = 16_384;
-
-/// A reply line.
-#[derive(Drop)]
-pub enum ReplyLine<'a> {
-    Created,
-    Inserted(u64),
-    End,
-    Closed,
-    SyntaxError,
-    LineTooLong,
-    UnknownTable(&'a Name),
-    DeviceFault(File),
-    MainFull,
-    Damaged(PageId, Check),
-    StampsUsedUp,
-}
 
 /// The reply lines of one step, as bytes, and whether an error line is among them. The longest step
 /// has room.
@@ -34,25 +19,6 @@ pub enum ReplyLine<'a> {
 pub struct Reply {
     pub text: ArrayVec<u8, REPLY_BYTES>,
     pub has_error: bool,
-}
-
-impl ReplyLine<'_> {
-    /// Whether it is an error line.
-    fn is_error(&self) -> bool
-        ensures { result ≡ is_error (reply_of self.now) }
-    {
-        match self {
-            ReplyLine::Created | ReplyLine::Inserted(_) | ReplyLine::End | ReplyLine::Closed =>
-                false,
-            ReplyLine::SyntaxError
-            | ReplyLine::LineTooLong
-            | ReplyLine::UnknownTable(_)
-            | ReplyLine::DeviceFault(_)
-            | ReplyLine::MainFull
-            | ReplyLine::Damaged(_, _)
-            | ReplyLine::StampsUsedUp => true,
-        }
-    }
 }
 
 impl Reply {
@@ -76,6 +42,39 @@ impl Reply {
         self.has_error = false;
     }
 
+    /// Puts a line behind the others, with at least 512 bytes left.
+    pub fn say(&mut self, line: &ReplyLine)
+        requires known { IsKnown line.now }
+        requires room { array_vec_len self.old.text ≤ 15872 }
+        ensures text { self.new.text.items ≡ self.old.text.items ++ line_text (line_of line.now) }
+        ensures errors { self.new.has_error ≡ (self.old.has_error || said.is_error (line_of line.now)) }
+        ensures short { array_vec_len self.new.text ≤ array_vec_len self.old.text + 256 }
+    {
+        print(line, &mut self.text);
+        self.has_error = self.has_error || is_error(line);
+    }
+
+    /// Puts the line of a row of a cursor behind the others, of which at most 1,024 bytes stand there. The
+    /// longest row has room.
+    pub fn say_row(&mut self, cursor: &Cursor, row: &Row)
+        requires room { array_vec_len self.old.text ≤ 1024 }
+        ensures text { self.new.text.items ≡ self.old.text.items ++ line_text (said.row (name_of cursor.now) row.now) }
+        ensures errors { self.new.has_error ≡ self.old.has_error }
+        ensures short { array_vec_len self.new.text ≤ array_vec_len self.old.text + 14436 }
+    {
+        print_row(cursor, row, &mut self.text);
+    }
+
+    /// Puts the line of the last row that was wanted of a cursor behind the others, and `done` behind it.
+    pub fn say_last_row(&mut self, cursor: &Cursor, row: &Row)
+        requires room { array_vec_len self.old.text ≤ 1024 }
+        ensures text { self.new.text.items ≡ self.old.text.items ++ text_of (said.row (name_of cursor.now) row.now ∷ said.done (name_of cursor.now) ∷ []) }
+        ensures errors { self.new.has_error ≡ self.old.has_error }
+    {
+        self.say_row(cursor, row);
+        self.say(&ReplyLine::Done(*cursor));
+    }
+
     /// Puts text behind the lines.
     pub(crate) fn put(&mut self, text: &[u8])
         requires { array_vec_len self.old.text + length text.now ≤ 16384 }
@@ -83,125 +82,5 @@ impl Reply {
         ensures errors { self.new.has_error ≡ self.old.has_error }
     {
         let _ = self.text.try_extend_from_slice(text);
-    }
-
-    fn put_count(&mut self, count: u64)
-        requires { array_vec_len self.old.text + 20 ≤ 16384 }
-        ensures text { self.new.text.items ≡ self.old.text.items ++ decimal count }
-        ensures errors { self.new.has_error ≡ self.old.has_error }
-        ensures short { array_vec_len self.new.text ≤ array_vec_len self.old.text + 20 }
-    {
-        let mut digits = Buffer::new();
-        self.put(digits.format(count).as_bytes());
-    }
-
-    fn put_inserted(&mut self, count: u64)
-        requires { array_vec_len self.old.text ≤ 512 }
-        ensures text { self.new.text.items ≡ self.old.text.items ++ reply_text (inserted count) }
-        ensures errors { self.new.has_error ≡ self.old.has_error }
-        ensures short { array_vec_len self.new.text ≤ array_vec_len self.old.text + 64 }
-    {
-        self.put(b"rows ");
-        self.put_count(count);
-        self.put(b"\n");
-    }
-
-    fn put_unknown_table(&mut self, name: &Name)
-        requires { array_vec_len self.old.text ≤ 512 }
-        ensures text { self.new.text.items ≡ self.old.text.items ++ reply_text (unknown_table name.now) }
-        ensures errors { self.new.has_error ≡ self.old.has_error }
-        ensures short { array_vec_len self.new.text ≤ array_vec_len self.old.text + 64 }
-    {
-        let name = name.as_str().as_bytes();
-        self.put(b"error 3 unknown table ");
-        self.put(name);
-        self.put(b"\n");
-    }
-
-    fn put_damaged(&mut self, page: PageId, check: Check)
-        requires { array_vec_len self.old.text ≤ 512 }
-        ensures text { self.new.text.items ≡ self.old.text.items ++ reply_text (damaged page check) }
-        ensures errors { self.new.has_error ≡ self.old.has_error }
-        ensures short { array_vec_len self.new.text ≤ array_vec_len self.old.text + 64 }
-    {
-        self.put(b"error 21 damaged ");
-        self.put(file_word(page.file));
-        self.put(b" ");
-        self.put_count(page.no as u64);
-        self.put(b" ");
-        self.put(check_word(check));
-        self.put(b"\n");
-    }
-
-    fn print(&mut self, line: &ReplyLine)
-        requires { array_vec_len self.old.text ≤ 512 }
-        ensures text { self.new.text.items ≡ self.old.text.items ++ reply_text (reply_of line.now) }
-        ensures errors { self.new.has_error ≡ self.old.has_error }
-        ensures short { array_vec_len self.new.text ≤ array_vec_len self.old.text + 64 }
-    {
-        match line {
-            ReplyLine::Created => self.put(b"created\n"),
-            ReplyLine::Inserted(count) => self.put_inserted(*count),
-            ReplyLine::End => self.put(b"end *\n"),
-            ReplyLine::Closed => self.put(b"closed *\n"),
-            ReplyLine::SyntaxError => self.put(b"error 1 syntax\n"),
-            ReplyLine::LineTooLong => self.put(b"error 2 line too long\n"),
-            ReplyLine::UnknownTable(name) => self.put_unknown_table(name),
-            ReplyLine::DeviceFault(file) => self.put(fault_line(*file)),
-            ReplyLine::MainFull => self.put(b"error 19 main full\n"),
-            ReplyLine::Damaged(page, check) => self.put_damaged(*page, *check),
-            ReplyLine::StampsUsedUp => self.put(b"error 24 stamps used up\n"),
-        }
-    }
-
-    /// Puts a line behind the others, of which at most 512 bytes stand there.
-    pub fn say(&mut self, line: &ReplyLine)
-        requires { array_vec_len self.old.text ≤ 512 }
-        ensures text { self.new.text.items ≡ self.old.text.items ++ reply_text (reply_of line.now) }
-        ensures errors { self.new.has_error ≡ (self.old.has_error || is_error (reply_of line.now)) }
-        ensures short { array_vec_len self.new.text ≤ array_vec_len self.old.text + 64 }
-    {
-        self.print(line);
-        if line.is_error() {
-            self.has_error = true;
-        }
-    }
-}
-
-/// The word for a file in a reply line.
-fn file_word(file: File) -> &'static [u8]
-    ensures text { result.now ≡ file_name file }
-    ensures short { length result.now ≤ 4 }
-{
-    match file {
-        File::Main => b"main",
-        File::Temp => b"temp",
-    }
-}
-
-/// The word for a check in a reply line.
-fn check_word(check: Check) -> &'static [u8]
-    ensures text { result.now ≡ check_name check }
-    ensures short { length result.now ≤ 5 }
-{
-    match check {
-        Check::Kind => b"kind",
-        Check::Size => b"size",
-        Check::Frame => b"frame",
-        Check::Link => b"link",
-        Check::Level => b"level",
-        Check::Order => b"order",
-        Check::RowBytes => b"row",
-    }
-}
-
-/// The line that says that the device of a file failed.
-fn fault_line(file: File) -> &'static [u8]
-    ensures text { result.now ≡ fault_text file }
-    ensures short { length result.now ≤ 32 }
-{
-    match file {
-        File::Main => b"error 17 main device fault\n",
-        File::Temp => b"error 18 temp device fault\n",
     }
 }

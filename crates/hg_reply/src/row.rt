@@ -1,105 +1,99 @@
-//! The line of a row.
-ghost use Rattle.std.specs.Prelude.{◌≡◌, ◌==◌, ◌≤◌, ◌+◌, ◌*◌, [], ◌∷◌, ◌++◌, length, if◌then◌else◌};
+//! The line of a row, printed from the row itself.
+ghost use Rattle.std.specs.Prelude.{◌≡◌, ◌≤◌, ◌+◌, ◌*◌, ◌++◌, length};
+ghost use Rattle.std.specs.List.{flat_map};
 ghost use Rattle.std.specs.Fmt.{signed_decimal};
 ghost use Rattle.arrayvec.specs.ArrayVec.{array_vec_len};
-ghost use Rattle.hg_machine.specs.Reply as line;
+ghost use Rattle.hg_machine.specs.Plain.Replies as said;
+ghost use Rattle.hg_reply.specs.Plain.{name_of};
 ghost use Rattle.hg_value.specs.Coding.{coding};
+ghost use Rattle.hg_value.specs.Looks.{value_of};
 
-use crate::reply::Reply;
-use hg_model::Value;
-use hg_value::Row;
+use crate::lines::{Cursor, Text, put, put_word_cursor};
+use hg_value::{Look, Row};
 use itoa::Buffer;
 
-impl Reply {
-    fn put_number(&mut self, number: i128)
-        requires { array_vec_len self.old.text + 40 ≤ 16384 }
-        ensures text { self.new.text.items ≡ self.old.text.items ++ signed_decimal number }
-        ensures errors { self.new.has_error ≡ self.old.has_error }
-        ensures short { array_vec_len self.new.text ≤ array_vec_len self.old.text + 40 }
-    {
-        let mut digits = Buffer::new();
-        self.put(digits.format(number).as_bytes());
-    }
+fn put_signed(out: &mut Text, number: i128)
+    requires room { array_vec_len out.old + 40 ≤ 16384 }
+    ensures text { out.new.items ≡ out.old.items ++ signed_decimal number }
+    ensures short { array_vec_len out.new ≤ array_vec_len out.old + 40 }
+{
+    let mut digits = Buffer::new();
+    put(out, digits.format(number).as_bytes());
+}
 
-    /// Puts a byte of a text behind what stands there, a quote twice.
-    fn put_doubled(&mut self, byte: u8)
-        requires { array_vec_len self.old.text + 2 ≤ 16384 }
-        ensures text { self.new.text.items ≡ self.old.text.items ++ (if byte == 39 then 39 ∷ 39 ∷ [] else byte ∷ []) }
-        ensures errors { self.new.has_error ≡ self.old.has_error }
-        ensures short { array_vec_len self.new.text ≤ array_vec_len self.old.text + 2 }
-    {
-        if byte == b'\'' {
-            self.put(b"''");
-        } else {
-            self.text.push(byte);
-        }
+/// A byte of a text between quotes: a quote stands twice.
+fn put_doubled(out: &mut Text, byte: u8)
+    requires room { array_vec_len out.old + 2 ≤ 16384 }
+    ensures text { out.new.items ≡ out.old.items ++ said.doubled byte }
+    ensures short { array_vec_len out.new ≤ array_vec_len out.old + 2 }
+{
+    if byte == b'\'' {
+        put(out, b"''");
+    } else {
+        out.push(byte);
     }
+}
 
-    /// Puts a text in single quotes behind what stands there, each quote doubled.
-    fn put_quoted(&mut self, text: &[u8])
-        requires { array_vec_len self.old.text + 2 * length text.now + 2 ≤ 16384 }
-        ensures text { self.new.text.items ≡ self.old.text.items ++ line.quoted text.now }
-        ensures errors { self.new.has_error ≡ self.old.has_error }
-        ensures short { array_vec_len self.new.text ≤ array_vec_len self.old.text + 2 * length text.now + 2 }
-    {
-        self.put(b"'");
-        for byte in text {
-            self.put_doubled(*byte);
-        }
-        self.put(b"'");
+/// A text in single quotes, each quote doubled.
+fn put_quoted(out: &mut Text, text: &[u8])
+    requires room { array_vec_len out.old + 2 * length text.now + 2 ≤ 16384 }
+    ensures text { out.new.items ≡ out.old.items ++ said.quoted text.now }
+    ensures short { array_vec_len out.new ≤ array_vec_len out.old + 2 * length text.now + 2 }
+{
+    put(out, b"'");
+    for byte in text {
+        put_doubled(out, *byte);
     }
+    put(out, b"'");
+}
 
-    fn put_value(&mut self, value: &Value)
-        requires { array_vec_len self.old.text + 3 * length (coding value.now) + 40 ≤ 16384 }
-        ensures text { self.new.text.items ≡ self.old.text.items ++ line.value_text value.now }
-        ensures errors { self.new.has_error ≡ self.old.has_error }
-        ensures short { array_vec_len self.new.text ≤ array_vec_len self.old.text + 3 * length (coding value.now) + 40 }
-    {
-        match value {
-            Value::Null => self.put(b"NULL"),
-            Value::Int(number) => self.put_number(*number),
-            Value::Text(text) => self.put_quoted(text.as_str().as_bytes()),
-        }
+fn put_value(out: &mut Text, value: &Look)
+    requires room { array_vec_len out.old + 3 * length (coding (value_of value.now)) + 40 ≤ 16384 }
+    ensures text { out.new.items ≡ out.old.items ++ said.value_text (value_of value.now) }
+    ensures short { array_vec_len out.new ≤ array_vec_len out.old + 3 * length (coding (value_of value.now)) + 40 }
+{
+    match value {
+        Look::Null => put(out, b"NULL"),
+        Look::Int(number) => put_signed(out, *number),
+        Look::Text(text) => put_quoted(out, text),
     }
+}
 
-    /// Puts a comma and a value behind what stands there.
-    fn put_next_value(&mut self, value: &Value)
-        requires { array_vec_len self.old.text + 3 * length (coding value.now) + 41 ≤ 16384 }
-        ensures text { self.new.text.items ≡ self.old.text.items ++ line.next_text value.now }
-        ensures errors { self.new.has_error ≡ self.old.has_error }
-        ensures short { array_vec_len self.new.text ≤ array_vec_len self.old.text + 3 * length (coding value.now) + 41 }
-    {
-        self.text.push(b',');
-        self.put_value(value);
-    }
+/// A comma and a value behind it.
+fn put_next_value(out: &mut Text, value: &Look)
+    requires room { array_vec_len out.old + 3 * length (coding (value_of value.now)) + 41 ≤ 16384 }
+    ensures text { out.new.items ≡ out.old.items ++ said.next_text (value_of value.now) }
+    ensures short { array_vec_len out.new ≤ array_vec_len out.old + 3 * length (coding (value_of value.now)) + 41 }
+{
+    out.push(b',');
+    put_value(out, value);
+}
 
-    /// Puts the values of a row behind what stands there, with commas between them. At most 64 values
-    /// of 3,900 coded bytes print as at most 14,400 bytes.
-    fn put_values(&mut self, row: &Row)
-        requires { array_vec_len self.old.text ≤ 1024 }
-        ensures text { self.new.text.items ≡ self.old.text.items ++ line.row_text row.now }
-        ensures errors { self.new.has_error ≡ self.old.has_error }
-        ensures short { array_vec_len self.new.text ≤ array_vec_len self.old.text + 14400 }
-    {
-        let count = row.len();
-        if count == 0 {
-            return;
-        }
-        self.put_value(&row.get(0));
-        for place in 1..count {
-            self.put_next_value(&row.get(place));
-        }
+/// The values of a row with commas between them. At most 64 values of 3,900 coded bytes print as at most
+/// 14,400 bytes.
+fn put_values(out: &mut Text, row: &Row)
+    requires room { array_vec_len out.old + 14400 ≤ 16384 }
+    ensures text { out.new.items ≡ out.old.items ++ said.row_text row.now }
+    ensures short { array_vec_len out.new ≤ array_vec_len out.old + 14400 }
+{
+    let count = row.len();
+    if count == 0 {
+        return;
     }
+    put_value(out, &row.look(0));
+    for place in 1..count {
+        put_next_value(out, &row.look(place));
+    }
+}
 
-    /// Puts the line of a row of the nameless cursor behind the others, of which at most 512 bytes
-    /// stand there. The longest row has room.
-    pub fn say_row(&mut self, row: &Row)
-        requires { array_vec_len self.old.text ≤ 512 }
-        ensures text { self.new.text.items ≡ self.old.text.items ++ line.reply_text (line.row row.now) }
-        ensures errors { self.new.has_error ≡ self.old.has_error }
-    {
-        self.put(b"row * ");
-        self.put_values(row);
-        self.text.push(b'\n');
-    }
+/// Puts the line of a row of a cursor behind those that stand there.
+pub fn print_row(cursor: &Cursor, row: &Row, out: &mut Text)
+    requires room { array_vec_len out.old + 14436 ≤ 16384 }
+    ensures text { out.new.items ≡ out.old.items ++ said.line_text (said.row (name_of cursor.now) row.now) }
+    ensures short { array_vec_len out.new ≤ array_vec_len out.old + 14436 }
+{
+    put_word_cursor(out, b"row ", cursor);
+    out.push(b' ');
+    put_values(out, row);
+    out.push(b'\n');
 }

@@ -1,141 +1,178 @@
-//! The bytes of every line, worked out by hand.
-use crate::{Reply, ReplyLine};
+//! The bytes of lines, worked out by hand: the contracts say them in terms of definitions alone.
+ghost use Rattle.hg_reply.specs.Plain.{IsKnown};
+
+use crate::{Figures, Reply, ReplyLine, Words};
 use hg_base::{Check, File, PageId};
-use hg_model::{Chars, Name, Value};
+use hg_model::{Chars, ColRef, Count, Name, Value};
 use hg_value::Row;
 use std::process::Abort;
 
-fn says(rt: &impl Abort, reply: &mut Reply, line: ReplyLine, text: &str, is_error: bool) {
+fn says(rt: &impl Abort, reply: &mut Reply, line: ReplyLine, text: &str, is_error: bool)
+    requires { IsKnown line }
+{
     reply.clear();
     reply.say(&line);
     assert_eq!(rt; reply.text.as_slice(), text.as_bytes());
     assert_eq!(rt; reply.has_error, is_error);
 }
 
-fn damage(file: File, no: u32, check: Check) -> ReplyLine<'static> {
-    ReplyLine::Damaged(PageId { file, no }, check)
+#[test]
+fn lines(rt: HostRuntime) {
+    let rt = &rt;
+    let name = Name::parse("c").expect(rt, "a name");
+    let c = Some(&name);
+    let mut r = Reply::new();
+    says(rt, &mut r, ReplyLine::Created, "created\n", false);
+    says(rt, &mut r, ReplyLine::Rows(0), "rows 0\n", false);
+    says(rt, &mut r, ReplyLine::Rows(64), "rows 64\n", false);
+    says(rt, &mut r, ReplyLine::Vacuumed, "vacuumed\n", false);
+    says(rt, &mut r, ReplyLine::Opened(&name), "open c\n", false);
+    says(rt, &mut r, ReplyLine::Started(&name), "started c\n", false);
+    says(rt, &mut r, ReplyLine::Worked(9), "worked 9\n", false);
+    says(rt, &mut r, ReplyLine::PoolSet(16), "pool 16\n", false);
+    says(rt, &mut r, ReplyLine::MplSet(4), "mpl 4\n", false);
+    says(rt, &mut r, ReplyLine::Held(c, 7), "held c 7\n", false);
+    says(rt, &mut r, ReplyLine::Done(c), "done c\n", false);
+    says(rt, &mut r, ReplyLine::Ended(None), "end *\n", false);
+    says(rt, &mut r, ReplyLine::Closed(None), "closed *\n", false);
+    let figures = Figures {
+        pool: 128,
+        max: 256,
+        mpl: 4,
+        active: 1,
+        waiting: 0,
+        hard: 192,
+        soft: 32,
+    };
+    says(
+        rt,
+        &mut r,
+        ReplyLine::Memory(figures),
+        "memory pool 128 max 256 mpl 4 active 1 waiting 0 hard 192 soft 32\n",
+        false,
+    );
 }
 
 #[test]
-fn every_line(rt: HostRuntime) {
-    let name = Name::parse("a23456789_123456789_123456789_").expect(&rt, "a name");
+fn errors(rt: HostRuntime) {
+    let rt = &rt;
+    let name = Name::parse("a23456789_123456789_123456789_").expect(rt, "a name");
     let mut r = Reply::new();
-    says(&rt, &mut r, ReplyLine::Created, "created\n", false);
-    says(&rt, &mut r, ReplyLine::Inserted(0), "rows 0\n", false);
-    says(&rt, &mut r, ReplyLine::Inserted(64), "rows 64\n", false);
-    says(&rt, &mut r, ReplyLine::End, "end *\n", false);
-    says(&rt, &mut r, ReplyLine::Closed, "closed *\n", false);
     says(
-        &rt,
+        rt,
         &mut r,
-        ReplyLine::SyntaxError,
+        ReplyLine::Error(1, Words::Nothing),
         "error 1 syntax\n",
         true,
     );
     says(
-        &rt,
+        rt,
         &mut r,
-        ReplyLine::LineTooLong,
-        "error 2 line too long\n",
-        true,
-    );
-    says(
-        &rt,
-        &mut r,
-        ReplyLine::UnknownTable(&name),
+        ReplyLine::Error(3, Words::Name(&name)),
         "error 3 unknown table a23456789_123456789_123456789_\n",
         true,
     );
     says(
-        &rt,
+        rt,
         &mut r,
-        ReplyLine::DeviceFault(File::Main),
-        "error 17 main device fault\n",
+        ReplyLine::Error(9, Words::Kind(Count::RowsGrouped)),
+        "error 9 too many rows grouped 1073741824\n",
         true,
     );
     says(
-        &rt,
+        rt,
         &mut r,
-        ReplyLine::DeviceFault(File::Temp),
-        "error 18 temp device fault\n",
-        true,
-    );
-    says(
-        &rt,
-        &mut r,
-        ReplyLine::MainFull,
-        "error 19 main full\n",
-        true,
-    );
-    says(
-        &rt,
-        &mut r,
-        ReplyLine::StampsUsedUp,
-        "error 24 stamps used up\n",
+        ReplyLine::Error(16, Words::HeldAndCeiling(3, 2)),
+        "error 16 limit 3 2\n",
         true,
     );
 }
 
 #[test]
-fn damaged_pages(rt: HostRuntime) {
-    let mut r = Reply::new();
+fn a_column_of_a_table(rt: HostRuntime) {
     let rt = &rt;
+    let table = Name::parse("t").expect(rt, "a name");
+    let b = Name::parse("b").expect(rt, "a name");
+    let column = ColRef {
+        table: Some(table),
+        name: b,
+    };
+    let mut r = Reply::new();
     says(
         rt,
         &mut r,
-        damage(File::Main, 0, Check::Kind),
+        ReplyLine::Error(4, Words::Column(&column)),
+        "error 4 unknown column t.b\n",
+        true,
+    );
+}
+
+fn damage(rt: &impl Abort, file: File, no: u32, check: Check, text: &str) {
+    let mut r = Reply::new();
+    let words = Words::Damage(PageId { file, no }, check);
+    says(rt, &mut r, ReplyLine::Error(21, words), text, true);
+}
+
+#[test]
+fn damaged_pages(rt: HostRuntime) {
+    let rt = &rt;
+    let last = 4_294_967_295;
+    damage(
+        rt,
+        File::Main,
+        0,
+        Check::Kind,
         "error 21 damaged main 0 kind\n",
-        true,
     );
-    says(
+    damage(
         rt,
-        &mut r,
-        damage(File::Temp, 7, Check::Size),
+        File::Temp,
+        7,
+        Check::Size,
         "error 21 damaged temp 7 size\n",
-        true,
     );
-    says(
+    damage(
         rt,
-        &mut r,
-        damage(File::Main, 12, Check::Frame),
+        File::Main,
+        12,
+        Check::Frame,
         "error 21 damaged main 12 frame\n",
-        true,
     );
-    says(
+    damage(
         rt,
-        &mut r,
-        damage(File::Main, 3, Check::Link),
+        File::Main,
+        3,
+        Check::Link,
         "error 21 damaged main 3 link\n",
-        true,
     );
-    says(
+    damage(
         rt,
-        &mut r,
-        damage(File::Main, 3, Check::Level),
+        File::Main,
+        3,
+        Check::Level,
         "error 21 damaged main 3 level\n",
-        true,
     );
-    says(
+    damage(
         rt,
-        &mut r,
-        damage(File::Temp, 4_294_967_295, Check::Order),
+        File::Temp,
+        last,
+        Check::Order,
         "error 21 damaged temp 4294967295 order\n",
-        true,
     );
-    says(
+    damage(
         rt,
-        &mut r,
-        damage(File::Main, 1, Check::RowBytes),
+        File::Main,
+        1,
+        Check::RowBytes,
         "error 21 damaged main 1 row\n",
-        true,
     );
 }
 
 #[test]
 fn lines_stand_behind_one_another(rt: HostRuntime) {
     let mut reply = Reply::new();
-    reply.say(&ReplyLine::DeviceFault(File::Main));
-    reply.say(&ReplyLine::Closed);
+    reply.say(&ReplyLine::Error(17, Words::Nothing));
+    reply.say(&ReplyLine::Closed(None));
     assert_eq!(rt;
         reply.text.as_slice(),
         b"error 17 main device fault\nclosed *\n".as_slice()
@@ -153,7 +190,7 @@ fn row_says(rt: &impl Abort, values: &[Value], text: &str) {
         assert!(rt; row.push(value).is_ok());
     }
     let mut reply = Reply::new();
-    reply.say_row(&row);
+    reply.say_row(&None, &row);
     assert_eq!(rt; reply.text.as_slice(), text.as_bytes());
     assert!(rt; !reply.has_error);
 }
@@ -201,4 +238,15 @@ fn rows_of_more_values(rt: HostRuntime) {
         &sixteen,
         "row * 0,1,NULL,-4,'x',5,6,7,-2147483648,NULL,'o''clock',11,12,13,-1267650600228229401496703205376,15\n",
     );
+}
+
+#[test]
+fn last_row(rt: HostRuntime) {
+    let rt = &rt;
+    let name = Name::parse("c").expect(rt, "a name");
+    let mut row = Row::new();
+    assert!(rt; row.push(&Value::Int(7)).is_ok());
+    let mut reply = Reply::new();
+    reply.say_last_row(&Some(&name), &row);
+    assert_eq!(rt; reply.text.as_slice(), b"row c 7\ndone c\n".as_slice());
 }

@@ -3,19 +3,19 @@ use Rattle.std.proofs.Common.{◌≡◌, ◌≢◌, ℕ, ◌<◌, ◌≤◌, ◌
 use Rattle.hg_io.specs.Bytes.{then, before, AtEnd, before-before}
 use Rattle.hg_io.specs.Count.{raised}
 use Rattle.hg_base.specs.declared.File.TheVariants.{Main, Temp}
-use Rattle.hg_machine.specs.Script.{Line, whole_lines, lines_of}
-use Rattle.hg_machine.specs.State.{State}
-use Rattle.hg_machine.specs.Reply.{Reply, text_of, fault_lines}
-use Rattle.hg_machine.specs.Outcome.{Outside, Took, Replies, AnswersAll, AnswersWholeLines, AnswersUpToLimit, AnswersInPart}
+use Rattle.hg_model.specs.Script.{Line, whole_lines, lines_of}
+use Rattle.hg_machine.specs.Plain.State.{State}
+use Rattle.hg_machine.specs.Plain.Replies.{ReplyLine, text_of, fault_lines}
+use Rattle.hg_machine.specs.Plain.Outcome.{Outside, Took, Says, AnswersAll, AnswersWholeLines, AnswersUpToLimit, AnswersInPart}
 use Rattle.hg_reply.specs.Steps.{Moves, DeviceFacts}
 use Rattle.hg_serve.specs.declared.session.Session.{Session}
 use Rattle.hg_serve.specs.declared.statuses.Status.{Status}
 use Rattle.hg_serve.specs.declared.statuses.Status.TheVariants as status
 use Rattle.hg_serve.specs.Output.{Moment, moment, Stops}
 use Rattle.hg_serve.specs.Session.{TellsFront}
-use Rattle.hg_serve.specs.Serving.{Serves, Halts, AllAnswered, Closes, Running}
+use Rattle.hg_serve.specs.Serving.{Serves, Halts, AllAnswered, Closes, Running, Halting}
 use Rattle.hg_serve.specs.Ending.{Ends, TakesSoMany, outside}
-use Rattle.hg_serve.specs.Run.{Reaches}
+use Rattle.hg_serve.specs.Run.{Reaches, StopsAt}
 
 -- counts
 
@@ -84,11 +84,11 @@ never-no_memory n status.TooLong few is = cc
 
 -- how it ends
 
-module _ {E : Type 0} (Stands : E → State → Type 0) (first now : E) (start : State) where
-  the-replies : (old new : Outside) (lines : List Line) (replies : List Reply) → Stands first start
-      → Moves Stands first now (Running lines) replies
+module _ {E : Type 0} (Stands : E → State → Type 0) (tells : Bool) (first now : E) (start : State) where
+  the-replies : (old new : Outside) (lines : List Line) (replies : List ReplyLine) → Stands first start
+      → Moves Stands first now (Running tells lines) replies
       → raised old.main_faults (fault_lines Main replies) ≤ new.main_faults → raised old.temp_faults (fault_lines Temp replies) ≤ new.temp_faults
-      → Replies (Reaches Stands now start) old new lines replies
+      → Says (Reaches Stands tells now start) old new lines replies
   the-replies old new lines replies stood moves main temp =
       let there = moves.to start stood in
       record {
@@ -100,47 +100,47 @@ module _ {E : Type 0} (Stands : E → State → Type 0) (first now : E) (start :
   module _ (left0 left1 : Option (List ℕ)) (given0 given1 : ℕ) (w0 w1 : Option (List ℕ)) (f0 f1 : DeviceFacts) (n0 n1 : ℕ) (taken : List ℕ)
       (stood : Stands first start) (took : Took (outside left0 given0 w0 f0) (outside left1 given1 w1 f1) taken) where
     -- the lines of which a front was written
-    front-replies : (lines : List Line) (t : TellsFront Stands now (moment w0 f0 n0) (moment w1 f1 n1) [] (Running lines start))
-        → Replies (Reaches Stands now start) (outside left0 given0 w0 f0) (outside left1 given1 w1 f1) lines t.replies
+    front-replies : (lines : List Line) (t : TellsFront Stands now (moment w0 f0 n0) (moment w1 f1 n1) [] (Halting tells lines start))
+        → Says (StopsAt Stands tells now start) (outside left0 given0 w0 f0) (outside left1 given1 w1 f1) lines t.replies
     front-replies lines t = record {
       run = record { last = t.after; stands = t.stands; runs = t.step };
-      main_faults = t.tells.counted.main;
-      temp_faults = t.tells.counted.temp;
+      main_faults = t.told.counted.main;
+      temp_faults = t.told.counted.temp;
     }
 
-    pub breaks-off : length taken ≤ 2 ^ 32 → Halts Stands first now (moment w0 f0 n0) (moment w1 f1 n1) (whole_lines taken)
-        → AnswersInPart (Reaches Stands now start) (outside left0 given0 w0 f0) (outside left1 given1 w1 f1)
+    pub breaks-off : length taken ≤ 2 ^ 32 → Halts Stands tells first now (moment w0 f0 n0) (moment w1 f1 n1) (whole_lines taken)
+        → AnswersInPart (StopsAt Stands tells now start) (outside left0 given0 w0 f0) (outside left1 given1 w1 f1)
     breaks-off few h = record {
       taken = taken;
       took = took;
       few = few;
-      lines = h.front;
+      script = h.front;
       later = h.later;
       first = inl h.parts;
-      replies = (h.breaks.from start stood).replies;
+      lines = (h.breaks.from start stood).replies;
       of_run = front-replies h.front (h.breaks.from start stood);
-      front = (h.breaks.from start stood).tells.breaks.front;
-      rest = (h.breaks.from start stood).tells.breaks.rest;
-      parts = (h.breaks.from start stood).tells.breaks.parts;
-      text = (h.breaks.from start stood).tells.breaks.written;
+      front = (h.breaks.from start stood).told.breaks.front;
+      rest = (h.breaks.from start stood).told.breaks.rest;
+      parts = (h.breaks.from start stood).told.breaks.parts;
+      text = (h.breaks.from start stood).told.breaks.written;
     }
 
     answers-all : (errors : Bool) → length taken < 2 ^ 32 → AtEnd left1
-        → AllAnswered Stands first now (moment w0 f0 n0) (moment w1 f1 n1) (lines_of taken) errors
-        → AnswersAll (Reaches Stands now start) (outside left0 given0 w0 f0) (outside left1 given1 w1 f1) errors
+        → AllAnswered Stands tells first now (moment w0 f0 n0) (moment w1 f1 n1) (lines_of taken) errors
+        → AnswersAll (Reaches Stands tells now start) (outside left0 given0 w0 f0) (outside left1 given1 w1 f1) errors
     answers-all errors few last a = record {
       taken = taken;
       took = took;
       few = few;
       at_end = last;
-      replies = a.replies;
+      lines = a.replies;
       answers = record { of_run = the-replies _ _ (lines_of taken) a.replies stood a.moves a.counted.main a.counted.temp; text = a.text };
       errors_shown = a.shown;
     }
 
     pub closes : (s : Status) → length taken < 2 ^ 32 → AtEnd left1
-        → Closes Stands first now (moment w0 f0 n0) (moment w1 f1 n1) (lines_of taken) s
-        → Ends (Reaches Stands now start) (outside left0 given0 w0 f0) (outside left1 given1 w1 f1) s
+        → Closes Stands tells first now (moment w0 f0 n0) (moment w1 f1 n1) (lines_of taken) s
+        → Ends (Reaches Stands tells now start) (StopsAt Stands tells now start) (outside left0 given0 w0 f0) (outside left1 given1 w1 f1) s
     closes status.Clean few last a = answers-all _ few last a
     closes status.Errors few last a = answers-all _ few last a
     closes status.Usage few last never = absurd never
@@ -149,61 +149,61 @@ module _ {E : Type 0} (Stands : E → State → Type 0) (first now : E) (start :
       taken = taken;
       took = took;
       few = omega (arith, few);
-      lines = h.front;
+      script = h.front;
       later = h.later;
       first = inr (last, h.parts);
-      replies = (h.breaks.from start stood).replies;
+      lines = (h.breaks.from start stood).replies;
       of_run = front-replies h.front (h.breaks.from start stood);
-      front = (h.breaks.from start stood).tells.breaks.front;
-      rest = (h.breaks.from start stood).tells.breaks.rest;
-      parts = (h.breaks.from start stood).tells.breaks.parts;
-      text = (h.breaks.from start stood).tells.breaks.written;
+      front = (h.breaks.from start stood).told.breaks.front;
+      rest = (h.breaks.from start stood).told.breaks.rest;
+      parts = (h.breaks.from start stood).told.breaks.parts;
+      text = (h.breaks.from start stood).told.breaks.written;
     }
     closes status.NoMemory few last never = absurd never
     closes status.TooLong few last never = absurd never
 
-    module _ (s : Session) (serves : Serves Stands first now (moment w0 f0 n0) (moment w1 f1 n1) s taken) (empty : s.output.bytes.items ≡ []) where
+    module _ (s : Session) (serves : Serves Stands tells first now (moment w0 f0 n0) (moment w1 f1 n1) s taken) (empty : s.output.bytes.items ≡ []) where
       all_text : w1 ≡ then w0 (text_of serves.replies)
       all_text =
           serves.passes.written
           ∙ ap (then w0) (sym (serves.passes.parts ∙ ap (λ l. serves.passes.passed ++ l) empty ∙ append-nil serves.passes.passed))
 
-      pub source-breaks : length taken < 2 ^ 32 → AnswersWholeLines (Reaches Stands now start) (outside left0 given0 w0 f0) (outside left1 given1 w1 f1)
+      pub source-breaks : length taken < 2 ^ 32 → AnswersWholeLines (Reaches Stands tells now start) (outside left0 given0 w0 f0) (outside left1 given1 w1 f1)
       source-breaks few = record {
         taken = taken;
         took = took;
         few = few;
-        replies = serves.replies;
+        lines = serves.replies;
         answers = record { of_run = the-replies _ _ (whole_lines taken) serves.replies stood serves.moves serves.counted.main serves.counted.temp; text = all_text };
       }
 
-      pub limit-comes : length taken ≡ 2 ^ 32 → AnswersUpToLimit (Reaches Stands now start) (outside left0 given0 w0 f0) (outside left1 given1 w1 f1)
+      pub limit-comes : length taken ≡ 2 ^ 32 → AnswersUpToLimit (Reaches Stands tells now start) (outside left0 given0 w0 f0) (outside left1 given1 w1 f1)
       limit-comes all = record {
         taken = taken;
         took = took;
         all = all;
-        replies = serves.replies;
+        lines = serves.replies;
         answers = record { of_run = the-replies _ _ (whole_lines taken) serves.replies stood serves.moves serves.counted.main serves.counted.temp; text = all_text };
       }
 
 -- how a session that was closed took its bytes
-pub closes-so_many : {E : Type 0} (Stands : E → State → Type 0) (first now : E) (old new : Moment) (lines : List Line) (n : ℕ) (s : Status)
-    → n < 2 ^ 32 → Closes Stands first now old new lines s → TakesSoMany s n
-closes-so_many Stands first now old new lines n status.Clean few a = few
-closes-so_many Stands first now old new lines n status.Errors few a = few
-closes-so_many Stands first now old new lines n status.Usage few never = never
-closes-so_many Stands first now old new lines n status.SourceFault few never = absurd never
-closes-so_many Stands first now old new lines n status.SinkFault few h = omega arith
-closes-so_many Stands first now old new lines n status.NoMemory few never = never
-closes-so_many Stands first now old new lines n status.TooLong few never = absurd never
+pub closes-so_many : {E : Type 0} (Stands : E → State → Type 0) (tells : Bool) (first now : E) (old new : Moment) (lines : List Line) (n : ℕ) (s : Status)
+    → n < 2 ^ 32 → Closes Stands tells first now old new lines s → TakesSoMany s n
+closes-so_many Stands tells first now old new lines n status.Clean few a = few
+closes-so_many Stands tells first now old new lines n status.Errors few a = few
+closes-so_many Stands tells first now old new lines n status.Usage few never = never
+closes-so_many Stands tells first now old new lines n status.SourceFault few never = absurd never
+closes-so_many Stands tells first now old new lines n status.SinkFault few h = omega arith
+closes-so_many Stands tells first now old new lines n status.NoMemory few never = never
+closes-so_many Stands tells first now old new lines n status.TooLong few never = absurd never
 
 -- nothing more was run where the sink failed
-pub closes-stops : {E : Type 0} (Stands : E → State → Type 0) (first now : E) (old new : Moment) (lines : List Line) (s : Status)
-    → Closes Stands first now old new lines s → s ≡ status.SinkFault → Stops old new []
-closes-stops Stands first now old new lines status.Clean a is = absurd (let h : status.Clean ≡ status.SinkFault = is in cc)
-closes-stops Stands first now old new lines status.Errors a is = absurd (let h : status.Errors ≡ status.SinkFault = is in cc)
-closes-stops Stands first now old new lines status.Usage never is = absurd never
-closes-stops Stands first now old new lines status.SourceFault never is = absurd never
-closes-stops Stands first now old new lines status.SinkFault h is = h.breaks.stops
-closes-stops Stands first now old new lines status.NoMemory never is = absurd never
-closes-stops Stands first now old new lines status.TooLong never is = absurd never
+pub closes-stops : {E : Type 0} (Stands : E → State → Type 0) (tells : Bool) (first now : E) (old new : Moment) (lines : List Line) (s : Status)
+    → Closes Stands tells first now old new lines s → s ≡ status.SinkFault → Stops old new []
+closes-stops Stands tells first now old new lines status.Clean a is = absurd (let h : status.Clean ≡ status.SinkFault = is in cc)
+closes-stops Stands tells first now old new lines status.Errors a is = absurd (let h : status.Errors ≡ status.SinkFault = is in cc)
+closes-stops Stands tells first now old new lines status.Usage never is = absurd never
+closes-stops Stands tells first now old new lines status.SourceFault never is = absurd never
+closes-stops Stands tells first now old new lines status.SinkFault h is = h.breaks.stops
+closes-stops Stands tells first now old new lines status.NoMemory never is = absurd never
+closes-stops Stands tells first now old new lines status.TooLong never is = absurd never

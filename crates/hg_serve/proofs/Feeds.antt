@@ -1,12 +1,12 @@
 -- lines are cut at line feeds
-use Rattle.std.specs.Prelude.{◌≡◌, ◌≢◌, ℕ, zero, suc, ◌+◌, ◌-◌, ◌<◌, ◌≤◌, ◌==◌, true, false, List, [], ◌∷◌, ◌++◌, length, take, if◌then◌else◌, ◌↔◌, Result, Ok, Err, IsOk, OnOk}
+use Rattle.std.specs.Prelude.{◌≡◌, ◌≢◌, ℕ, zero, suc, ◌+◌, ◌-◌, ◌<◌, ◌≤◌, ◌==◌, Bool, true, false, List, [], ◌∷◌, ◌++◌, length, take, if◌then◌else◌, ◌↔◌, Result, Ok, Err, IsOk, OnOk}
 use Rattle.std.proofs.Common.{refl, sym, ap, ◌∙◌, arith, append_assoc, append-nil, get_or, drop, drop-cons, length-take, length-append}
 use Rattle.std.proofs.lemmas.Bool.{false≢true}
 use Rattle.std.proofs.lemmas.Bool.Decides.{nat_tests}
 use Rattle.std.proofs.lemmas.List.{take_all, take-append-le, take-append-drop}
 use Rattle.std.proofs.Math.Seq.{take-append-add}
-use Rattle.hg_machine.specs.Script.{Line, ended_lines, last_part, whole_lines}
-use Rattle.hg_machine.specs.State.{State}
+use Rattle.hg_model.specs.Script.{Line, ended_lines, last_part, whole_lines}
+use Rattle.hg_machine.specs.Plain.State.{State}
 use Rattle.hg_serve.specs.declared.session.Session.{Session}
 use Rattle.hg_serve.specs.Output.{Moment}
 use Rattle.hg_serve.specs.Serving.{HasNoFeed, Serves}
@@ -65,10 +65,10 @@ keeps-part kept whole bytes is = by-room (4097 - length whole) refl
         ap (λ m. kept ++ take m bytes) room ∙ ap (λ l. l ++ take (suc n) bytes) all ∙ sym (take-append-add whole bytes (suc n)) ∙ ap (λ m. take m (whole ++ bytes)) sum
 
 -- a session goes on by bytes that end no line
-pub serves-part : {E : Type 0} (Stands : E → State → Type 0) (first now : E) (old new : Moment) (s t : Session) (taken bytes : List ℕ)
-    → Serves Stands first now old new s taken → HasNoFeed bytes → t.output ≡ s.output
-    → ((whole : List ℕ) → s.line.items ≡ take 4097 whole → t.line.items ≡ take 4097 (whole ++ bytes)) → Serves Stands first now old new t (taken ++ bytes)
-serves-part Stands first now old new s t taken bytes serves none output kept = record {
+pub serves-part : {E : Type 0} (Stands : E → State → Type 0) (tells : Bool) (first now : E) (old new : Moment) (s t : Session) (taken bytes : List ℕ)
+    → Serves Stands tells first now old new s taken → HasNoFeed bytes → t.output ≡ s.output
+    → ((whole : List ℕ) → s.line.items ≡ take 4097 whole → t.line.items ≡ take 4097 (whole ++ bytes)) → Serves Stands tells first now old new t (taken ++ bytes)
+serves-part Stands tells first now old new s t taken bytes serves none output kept = record {
   replies = serves.replies;
   moves = rw (whole_lines-append taken bytes, ended-none (last_part [] taken) bytes none, append-nil (whole_lines taken)) serves.moves;
   passes = rw output serves.passes;

@@ -1,78 +1,120 @@
 -- turns that were given, and a line from its beginning and its turns
-use Rattle.std.proofs.Common.{◌≡◌, List, [], ◌∷◌, ◌++◌, None, refl, sym, ap, ◌∙◌, subst, append-nil}
-use Rattle.std.specs.List.{flat_map}
+use Rattle.std.proofs.Common.{◌≡◌, Bool, true, false, List, [], ◌∷◌, ◌++◌, Option, None, Some, refl, sym, ap, ◌∙◌, subst, append-nil}
+use Rattle.std.specs.Prelude.{if◌then◌else◌, is_some}
+use Rattle.std.proofs.lemmas.Bool.{true≢false}
 use Rattle.std.proofs.lemmas.Grind.{flat_map-append}
-use Rattle.hg_machine.specs.declared.statements.Statement.{Statement}
-use Rattle.hg_machine.specs.State.{State}
-use Rattle.hg_machine.specs.Reply.{Reply}
-use Rattle.hg_machine.specs.Script.{Line}
-use Rattle.hg_machine.specs.Run.{Turn, GivesTurns, Turns, LineBegins, asks, is_blank_line, too_long, has_no_reading, RunsLine}
-use Rattle.hg_serve.specs.declared.lines.Asked.{Asked}
-use Rattle.hg_serve.specs.declared.lines.Asked.TheVariants as asked
-use Rattle.hg_serve.specs.Lines.{AsksFor}
-use Rattle.hg_serve.specs.Session.{BeginsAsked}
+use Rattle.hg_machine.specs.Plain.Loose.{Loosely, with_any_rows, finds_damage, misses_doubles, without_uniques}
+use Rattle.hg_machine.specs.Plain.Replies.{ReplyLine}
+use Rattle.hg_machine.specs.Plain.Run.{Manner, GivesTurns, Finishes, RunsLine, Closes, nothing_at_work, work_ends, fetch_ends, select_ends, Continues, turn_given, last_turn_given, closing_line_said, lines_of_turns, is_pending, dropped}
+use Rattle.hg_machine.specs.Plain.State.{State}
+use Rattle.hg_model.specs.Script.{Line}
+use Rattle.hg_reply.specs.Steps.{manner}
+use Rattle.hg_serve.specs.Session.{StopsTurns, all_given, some_given, StopsLine, whole_line, in_its_turns, stopped}
 
--- the lines of several turns
-abbrev pub all_of : List (List Reply) → List Reply
-all_of turns = flat_map (λ turn. turn) turns
+-- ---- closings
 
--- turns, which may go on
-abbrev pub GivesSome : State → List (List Reply) → State → Type 0
-GivesSome old [] new = new ≡ old
-GivesSome old (turn ∷ turns) new = (between : State) × Turn old turn between × GivesSome between turns new
+-- where nothing is at work the closing says nothing, and behind a closing nothing is at work
+pub record ClosesWell (m : Manner) : Type 0 where
+  pub nothing : (s : State) → is_pending s ≡ false → m.closes s [] s
+  pub rests : (old new : State) (lines : List ReplyLine) → m.closes old lines new → is_pending new ≡ false
 
-pub record SomeTurns (old : State) (replies : List Reply) (new : State) : Type 0 where
-  pub turns : List (List Reply)
-  pub given : GivesSome old turns new
-  pub joined : replies ≡ all_of turns
+pub none-left : {A : Type 0} (o : Option A) → is_some o ≡ false → o ≡ None
+none-left None is = refl
+none-left (Some x) is = absurd (true≢false is)
 
-gives-push : (old mid new : State) (turns : List (List Reply)) (turn : List Reply) → GivesSome old turns mid → Turn mid turn new
-    → GivesSome old (turns ++ turn ∷ []) new
-gives-push old mid new [] turn is given = (new, subst (λ s. Turn s turn new) is given, refl)
-gives-push old mid new (t ∷ ts) turn (between, first, others) given = (between, first, gives-push between mid new ts turn others given)
+closes-nothing : (s : State) → is_pending s ≡ false → Closes s [] s
+closes-nothing s idle = nothing_at_work (none-left s.task idle) refl refl
 
-gives-then : (old mid new : State) (turns later : List (List Reply)) → GivesSome old turns mid → GivesTurns mid later new
-    → GivesTurns old (turns ++ later) new
+closes-rests : (old new : State) (lines : List ReplyLine) → Closes old lines new → is_pending new ≡ false
+closes-rests old new lines (nothing_at_work none is same) = ap is_pending same ∙ ap is_some none
+closes-rests old new lines (work_ends turns given at_work none is after) = ap is_pending after
+closes-rests old new lines (fetch_ends name at_work none is after) = ap is_pending after
+closes-rests old new lines (select_ends at_work none is after) = ap is_pending after
+
+loosely-rests : (old new : State) (lines : List ReplyLine) → Loosely (λ s. ⊥) Closes old lines new → is_pending new ≡ false
+loosely-rests old new lines (with_any_rows seen alike step) = closes-rests seen new lines step
+loosely-rests old new lines (finds_damage seen file page check more looks alike step is) = absurd looks
+loosely-rests old new lines (misses_doubles seen after alike step same is) =
+    ap is_pending is ∙ closes-rests (without_uniques seen) after lines step
+
+pub closes-well : (tells : Bool) → ClosesWell (manner tells)
+closes-well true = record { nothing = closes-nothing; rests = closes-rests }
+closes-well false = record { nothing = λ s idle. with_any_rows s refl (closes-nothing s idle); rests = loosely-rests }
+
+-- ---- turns
+
+-- the turns that were given so far, or all of them and the end
+pub data SoFar (m : Manner) (old : State) (replies : List ReplyLine) (new : State) : Type 0 where
+  goes_on : (turns : List (List ReplyLine)) → GivesTurns m old turns new → replies ≡ lines_of_turns turns → SoFar m old replies new
+  at_end : Finishes m old replies new → is_pending new ≡ false → SoFar m old replies new
+
+gives-push : (m : Manner) (old mid new : State) (turns : List (List ReplyLine)) (turn : List ReplyLine) → GivesTurns m old turns mid
+    → m.turn mid turn new → GivesTurns m old (turns ++ turn ∷ []) new
 unfolding GivesTurns
-gives-then old mid new [] later is given = subst (λ s. GivesTurns s later new) is given
-gives-then old mid new (t ∷ ts) later (between, first, others) given = (between, first, gives-then between mid new ts later others given)
+gives-push m old mid new [] turn is given = (new, subst (λ s. m.turn s turn new) is given, refl)
+gives-push m old mid new (t ∷ ts) turn (between, first, others) given = (between, first, gives-push m between mid new ts turn others given)
 
-gives-ends : (old now : State) (turns : List (List Reply)) → GivesSome old turns now → now.left ≡ None → GivesTurns old turns now
+lines-push : (turns : List (List ReplyLine)) (turn : List ReplyLine) → lines_of_turns (turns ++ turn ∷ []) ≡ lines_of_turns turns ++ turn
+lines-push turns turn =
+    flat_map-append (λ (t : List ReplyLine). t) turns (turn ∷ []) ∙ ap (λ l. lines_of_turns turns ++ l) (append-nil turn)
+
+pub some-none : (m : Manner) (s : State) → SoFar m s [] s
 unfolding GivesTurns
-gives-ends old now [] is idle = (subst (λ s. s.left ≡ None) is idle, is)
-gives-ends old now (t ∷ ts) (between, first, others) idle = (between, first, gives-ends between now ts others idle)
+some-none m s = goes_on [] refl refl
 
-pub some-none : (s : State) → SomeTurns s [] s
-some-none s = record { turns = []; given = refl; joined = refl }
+module _ (m : Manner) (well : ClosesWell m) where
+  pub some-push : (old mid new : State) (rs ss : List ReplyLine) → SoFar m old rs mid → is_pending mid ≡ true → Continues m mid ss new
+      → SoFar m old (rs ++ ss) new
+  some-push old mid new rs ss (at_end all rests) pends step = absurd (true≢false (sym pends ∙ rests))
+  some-push old mid new rs ss (goes_on turns given is) pends (turn_given turn more) =
+      goes_on (turns ++ ss ∷ []) (gives-push m old mid new turns ss given turn) (ap (λ l. l ++ ss) is ∙ sym (lines-push turns ss))
+  some-push old mid new rs ss (goes_on turns given is) pends (last_turn_given between turn none close) =
+      at_end (record {
+        turns = turns ++ ss ∷ [];
+        between = between;
+        last = [];
+        given = gives-push m old mid between turns ss given turn;
+        close = close;
+        joined = ap (λ l. l ++ ss) is ∙ sym (lines-push turns ss) ∙ sym (append-nil (lines_of_turns (turns ++ ss ∷ [])));
+      })
+      (well.rests between new [] close)
+  some-push old mid new rs ss (goes_on turns given is) pends (closing_line_said none close) =
+      at_end (record { turns = turns; between = mid; last = ss; given = given; close = close; joined = ap (λ l. l ++ ss) is })
+      (well.rests mid new ss close)
 
-pub some-push : (old mid new : State) (rs turn : List Reply) → SomeTurns old rs mid → Turn mid turn new → SomeTurns old (rs ++ turn) new
-some-push old mid new rs turn p given = record {
-  turns = p.turns ++ turn ∷ [];
-  given = gives-push old mid new p.turns turn p.given given;
-  joined =
-      ap (λ l. l ++ turn) p.joined ∙ ap (λ l. all_of p.turns ++ l) (sym (append-nil turn))
-      ∙ sym (flat_map-append (λ (t : List Reply). t) p.turns (turn ∷ []));
-}
+  pub some-ends : (old now : State) (rs : List ReplyLine) → SoFar m old rs now → is_pending now ≡ false → Finishes m old rs now
+  some-ends old now rs (at_end all rests) idle = all
+  some-ends old now rs (goes_on turns given is) idle = record {
+    turns = turns;
+    between = now;
+    last = [];
+    given = given;
+    close = well.nothing now idle;
+    joined = is ∙ sym (append-nil (lines_of_turns turns));
+  }
 
-pub some-then : (old mid new : State) (rs ss : List Reply) → SomeTurns old rs mid → Turns mid ss new → Turns old (rs ++ ss) new
-some-then old mid new rs ss p q = record {
-  turns = p.turns ++ q.turns;
-  given = gives-then old mid new p.turns q.turns p.given q.given;
-  joined =
-      ap (λ l. l ++ ss) p.joined ∙ ap (λ l. all_of p.turns ++ l) q.joined ∙ sym (flat_map-append (λ (t : List Reply). t) p.turns q.turns);
-}
+  stops-as : (old now : State) (rs : List ReplyLine) (p : Bool) → is_pending now ≡ p → SoFar m old rs now
+      → StopsTurns m old rs (if p then dropped now else now)
+  stops-as old now rs true pends (goes_on turns given is) = some_given turns now given is refl
+  stops-as old now rs true pends (at_end all rests) = absurd (true≢false (sym pends ∙ rests))
+  stops-as old now rs false idle so_far = all_given (some-ends old now rs so_far idle)
 
-pub some-ends : (old now : State) (rs : List Reply) → SomeTurns old rs now → now.left ≡ None → Turns old rs now
-some-ends old now rs p idle = record { turns = p.turns; given = gives-ends old now p.turns p.given idle; joined = p.joined }
+  pub some-stops : (old now : State) (rs : List ReplyLine) → SoFar m old rs now → StopsTurns m old rs (stopped now)
+  some-stops old now rs so_far = stops-as old now rs (is_pending now) refl so_far
 
-pub line-begins : (old new : State) (line : Line) (s : Statement) (a : Asked) (replies : List Reply) → AsksFor line s a
-    → BeginsAsked a s old replies new → LineBegins old line replies new
-line-begins old new line s asked.Nothing replies blank (none, same) = is_blank_line blank none same
-line-begins old new line s asked.SyntaxError replies none (one, same) = has_no_reading none.short none.not_blank none.none one same
-line-begins old new line s asked.TooLong replies long (one, same) = too_long long one same
-line-begins old new line s asked.Statement replies reading begins = asks s reading begins
+-- ---- lines
 
-pub runs-line : (old between new : State) (line : Line) (first others : List Reply) → LineBegins old line first between
-    → Turns between others new → RunsLine old line (first ++ others) new
-runs-line old between new line first others begins turns =
-    record { between = between; first = first; others = others; begins = begins; turns = turns; joined = refl }
+module _ (m : Manner) (old between new : State) (line : Line) (first others : List ReplyLine) (begins : m.begins old line first between) where
+  pub runs-line : Finishes m between others new → RunsLine m old line (first ++ others) new
+  runs-line finishes =
+      record { between = between; first = first; others = others; begins = begins; finishes = finishes; joined = refl }
+
+  pub stops-line : StopsTurns m between others new → StopsLine m line old (first ++ others) new
+  stops-line (all_given finishes) = whole_line (runs-line finishes)
+  stops-line (some_given turns now given is after) = in_its_turns first turns between now begins given (ap (λ l. first ++ l) is) after
+
+pub stops-begun : (m : Manner) → ClosesWell m → (old between : State) (line : Line) (rs : List ReplyLine) → m.begins old line rs between
+    → StopsLine m line old rs (stopped between)
+stops-begun m well old between line rs begins =
+    subst (λ l. StopsLine m line old l (stopped between)) (append-nil rs)
+    (stops-line m old between (stopped between) line rs [] begins (some-stops m well between between [] (some-none m between)))

@@ -4,7 +4,7 @@ use Rattle.std.proofs.lemmas.Grind.{flat_map-append}
 use Rattle.hg_base.specs.declared.File.{File}
 use Rattle.hg_base.specs.declared.File.TheVariants.{Main, Temp}
 use Rattle.hg_io.specs.Bytes.{then, then-then}
-use Rattle.hg_machine.specs.Reply.{Reply, reply_text, is_error, is_fault_of, text_of, has_error, fault_lines}
+use Rattle.hg_machine.specs.Plain.Replies.{ReplyLine, line_text, is_error, is_code, code_lines, fault_code, text_of, has_error, fault_lines}
 use Rattle.hg_reply.specs.declared.reply.Reply.{Reply as Said}
 use Rattle.hg_reply.specs.Steps.{DeviceFacts, NoneFell, Counted, Says}
 use Rattle.hg_serve.specs.declared.output.Output.{Output}
@@ -22,17 +22,17 @@ pub or-assoc : (a b c : Bool) → (a || b || c) ≡ (a || (b || c))
 or-assoc true b c = refl
 or-assoc false b c = refl
 
-pub text_of-append : (rs ss : List Reply) → text_of (rs ++ ss) ≡ text_of rs ++ text_of ss
+pub text_of-append : (rs ss : List ReplyLine) → text_of (rs ++ ss) ≡ text_of rs ++ text_of ss
 unfolding text_of
-text_of-append rs ss = flat_map-append reply_text rs ss
+text_of-append rs ss = flat_map-append line_text rs ss
 
-pub has_error-append : (rs ss : List Reply) → has_error (rs ++ ss) ≡ (has_error rs || has_error ss)
+pub has_error-append : (rs ss : List ReplyLine) → has_error (rs ++ ss) ≡ (has_error rs || has_error ss)
 unfolding has_error
 has_error-append [] ss = refl
 has_error-append (r ∷ rs) ss = ap (λ b. is_error r || b) (has_error-append rs ss) ∙ sym (or-assoc (is_error r) (has_error rs) (has_error ss))
 
-pub fault_lines-append : (file : File) (rs ss : List Reply) → fault_lines file (rs ++ ss) ≡ fault_lines file rs + fault_lines file ss
-unfolding fault_lines
+pub fault_lines-append : (file : File) (rs ss : List ReplyLine) → fault_lines file (rs ++ ss) ≡ fault_lines file rs + fault_lines file ss
+unfolding code_lines
 fault_lines-append file [] ss = omega arith
 fault_lines-append file (r ∷ rs) ss = omega (arith, fault_lines-append file rs ss)
 
@@ -40,24 +40,24 @@ pub text_of-nil : text_of [] ≡ []
 unfolding text_of
 text_of-nil = refl
 
-pub text_of-one : (r : Reply) → reply_text r ≡ text_of (r ∷ [])
+pub text_of-one : (r : ReplyLine) → line_text r ≡ text_of (r ∷ [])
 unfolding text_of
-text_of-one r = sym (append-nil (reply_text r))
+text_of-one r = sym (append-nil (line_text r))
 
 pub has_error-nil : has_error [] ≡ false
 unfolding has_error
 has_error-nil = refl
 
-pub has_error-one : (r : Reply) → is_error r ≡ has_error (r ∷ [])
+pub has_error-one : (r : ReplyLine) → is_error r ≡ has_error (r ∷ [])
 unfolding has_error
 has_error-one r = sym (or-false (is_error r))
 
 pub fault_lines-nil : (file : File) → fault_lines file [] ≡ 0
-unfolding fault_lines
+unfolding code_lines
 fault_lines-nil file = refl
 
-pub fault_lines-one : (file : File) (r : Reply) → is_fault_of file r ≡ false → fault_lines file (r ∷ []) ≡ 0
-unfolding fault_lines
+pub fault_lines-one : (file : File) (r : ReplyLine) → is_code (fault_code file) r ≡ false → fault_lines file (r ∷ []) ≡ 0
+unfolding code_lines
 fault_lines-one file r none = rw none
 
 -- whatever an error says
@@ -110,7 +110,7 @@ counted-none f = record {
   temp = omega (arith, fault_lines-nil Temp);
 }
 
-pub counted-then : (f g h : DeviceFacts) (rs ss : List Reply) → Counted f g rs → Counted g h ss → Counted f h (rs ++ ss)
+pub counted-then : (f g h : DeviceFacts) (rs ss : List ReplyLine) → Counted f g rs → Counted g h ss → Counted f h (rs ++ ss)
 counted-then f g h rs ss p q = record {
   main = omega (arith, fault_lines-append Main rs ss, p.main, q.main);
   temp = omega (arith, fault_lines-append Temp rs ss, p.temp, q.temp);
@@ -128,8 +128,8 @@ fell-then f g h p q = record {
 }
 
 -- a reply of one line that says of no fault, or of none
-pub says-one : (s : Said) (f : DeviceFacts) (r : Reply) → s.text.items ≡ reply_text r → s.has_error ≡ is_error r
-    → is_fault_of Main r ≡ false → is_fault_of Temp r ≡ false → Says s f f (r ∷ [])
+pub says-one : (s : Said) (f : DeviceFacts) (r : ReplyLine) → s.text.items ≡ line_text r → s.has_error ≡ is_error r
+    → is_code 17 r ≡ false → is_code 18 r ≡ false → Says s f f (r ∷ [])
 says-one s f r text errors main temp = record {
   said = record { text = text ∙ text_of-one r; errors = errors ∙ has_error-one r };
   counted = record { main = omega (arith, fault_lines-one Main r main); temp = omega (arith, fault_lines-one Temp r temp) };
@@ -153,10 +153,10 @@ tells-none m output = record {
 }
 
 -- the engine said no more than two lists of lines, one after the other
-pub said-then : (n0 n1 n2 : ℕ) (rs ss : List Reply) → n1 ≤ n0 + length (text_of rs) → n2 ≤ n1 + length (text_of ss) → n2 ≤ n0 + length (text_of (rs ++ ss))
+pub said-then : (n0 n1 n2 : ℕ) (rs ss : List ReplyLine) → n1 ≤ n0 + length (text_of rs) → n2 ≤ n1 + length (text_of ss) → n2 ≤ n0 + length (text_of (rs ++ ss))
 said-then n0 n1 n2 rs ss p q = omega (arith, ap length (text_of-append rs ss), length-append (text_of rs) (text_of ss), p, q)
 
-pub tells-then : (m0 m1 m2 : Moment) (a b c : Output) (rs ss : List Reply) → Tells m0 m1 a b rs → Tells m1 m2 b c ss
+pub tells-then : (m0 m1 m2 : Moment) (a b c : Output) (rs ss : List ReplyLine) → Tells m0 m1 a b rs → Tells m1 m2 b c ss
     → Tells m0 m2 a c (rs ++ ss)
 tells-then m0 m1 m2 a b c rs ss p q = record {
   passes = rw (text_of-append rs ss) (passes-then _ _ _ a.bytes.items b.bytes.items c.bytes.items (text_of rs) (text_of ss) p.passes q.passes);
@@ -167,7 +167,7 @@ tells-then m0 m1 m2 a b c rs ss p q = record {
 }
 
 -- a step of the engine, and its reply put behind the others
-pub tells-put : (w0 w1 : Option (List ℕ)) (f0 f1 : DeviceFacts) (n0 n1 : ℕ) (a b : Output) (r : Said) (rs : List Reply) → Says r f0 f1 rs
+pub tells-put : (w0 w1 : Option (List ℕ)) (f0 f1 : DeviceFacts) (n0 n1 : ℕ) (a b : Output) (r : Said) (rs : List ReplyLine) → Says r f0 f1 rs
     → Passes w0 w1 a.bytes.items b.bytes.items r.text.items → b.errors ≡ (a.errors || r.has_error) → n1 ≤ n0 + length r.text.items
     → Tells (moment w0 f0 n0) (moment w1 f1 n1) a b rs
 tells-put w0 w1 f0 f1 n0 n1 a b r rs s passes errors said = record {
@@ -178,18 +178,10 @@ tells-put w0 w1 f0 f1 n0 n1 a b r rs s passes errors said = record {
 }
 
 -- a step of the engine, in whose reply the sink failed
-pub part-put : (w0 w1 : Option (List ℕ)) (f0 f1 : DeviceFacts) (n0 n1 : ℕ) (waiting : List ℕ) (r : Said) (rs : List Reply) → Says r f0 f1 rs
+pub part-put : (w0 w1 : Option (List ℕ)) (f0 f1 : DeviceFacts) (n0 n1 : ℕ) (waiting : List ℕ) (r : Said) (rs : List ReplyLine) → Says r f0 f1 rs
     → Breaks w0 w1 waiting r.text.items → TellsInPart (moment w0 f0 n0) (moment w1 f1 n1) waiting rs
 part-put w0 w1 f0 f1 n0 n1 waiting r rs s breaks =
     record { breaks = subst (λ t. Breaks w0 w1 waiting t) s.said.text breaks; counted = s.counted }
-
--- lines of no fault that are not given
-pub part-more : (old new : Moment) (waiting : List ℕ) (rs ss : List Reply) → TellsInPart old new waiting rs → fault_lines Main ss ≡ 0
-    → fault_lines Temp ss ≡ 0 → TellsInPart old new waiting (rs ++ ss)
-part-more old new waiting rs ss p main temp = record {
-  breaks = rw (text_of-append rs ss) (breaks-more old.written new.written waiting (text_of rs) (text_of ss) p.breaks);
-  counted = counted-then old.faults new.faults new.faults rs ss p.counted (record { main = omega (arith, main); temp = omega (arith, temp) });
-}
 
 -- what was said and not written, at the sink's fault and in the lines before it
 
@@ -204,4 +196,12 @@ stops-later m0 m1 m2 b0 b1 text p said s = record {
   front = p.passed ++ s.front;
   written = s.written ∙ ap (λ w. then w s.front) p.written ∙ then-then m0.written p.passed s.front;
   few = omega (arith, ap length p.parts, length-append b0 text, length-append p.passed b1, length-append p.passed s.front, said, s.few);
+}
+
+-- lines that were told, and others in whose reply the sink failed
+pub part-then : (m0 m1 m2 : Moment) (a b : Output) (rs ss : List ReplyLine) → Tells m0 m1 a b rs → TellsInPart m1 m2 b.bytes.items ss
+    → TellsInPart m0 m2 a.bytes.items (rs ++ ss)
+part-then m0 m1 m2 a b rs ss p q = record {
+  breaks = rw (text_of-append rs ss) (breaks-then _ _ _ a.bytes.items b.bytes.items (text_of rs) (text_of ss) p.passes q.breaks);
+  counted = counted-then m0.faults m1.faults m2.faults rs ss p.counted q.counted;
 }

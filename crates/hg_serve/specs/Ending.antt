@@ -1,7 +1,7 @@
 -- What each status says of the script and of what was written.
 use Rattle.std.specs.Prelude.{◌≡◌, ℕ, ◌<◌, ◌≤◌, ◌^◌, true, false, List, take, Option, Result, MatchResult}
 use Rattle.hg_io.specs.Bytes.{before, AtEnd}
-use Rattle.hg_machine.specs.Outcome.{Runs, Outside, AnswersAll, AnswersWholeLines, AnswersUpToLimit, AnswersInPart}
+use Rattle.hg_machine.specs.Plain.Outcome.{Meaning, Outside, AnswersAll, AnswersWholeLines, AnswersUpToLimit, AnswersInPart}
 use Rattle.hg_reply.specs.Steps.{DeviceFacts}
 use Rattle.hg_serve.specs.declared.statuses.Status.{Status}
 use Rattle.hg_serve.specs.declared.statuses.Status.TheVariants as status
@@ -16,14 +16,15 @@ abbrev pub ReadsSome : {E : Type 0} → Option (List ℕ) → Option (List ℕ) 
 ReadsSome old new result buffer room =
     MatchResult result (λ n. (old ≡ before (take n buffer) new) × (n ≡ 0 → 0 < room → AtEnd new)) (λ _. new ≡ old)
 
-abbrev pub Ends : Runs → Outside → Outside → Status → Type 0
-Ends Run old new status.Clean = AnswersAll Run old new false
-Ends Run old new status.Errors = AnswersAll Run old new true
-Ends Run old new status.Usage = ⊥
-Ends Run old new status.SourceFault = AnswersWholeLines Run old new
-Ends Run old new status.SinkFault = AnswersInPart Run old new
-Ends Run old new status.NoMemory = ⊥
-Ends Run old new status.TooLong = AnswersUpToLimit Run old new
+-- `Run` says what is a run, and `Stopped` what is a run that stopped
+abbrev pub Ends : Meaning → Meaning → Outside → Outside → Status → Type 0
+Ends Run Stopped old new status.Clean = AnswersAll Run old new false
+Ends Run Stopped old new status.Errors = AnswersAll Run old new true
+Ends Run Stopped old new status.Usage = ⊥
+Ends Run Stopped old new status.SourceFault = AnswersWholeLines Run old new
+Ends Run Stopped old new status.SinkFault = AnswersInPart Stopped old new
+Ends Run Stopped old new status.NoMemory = ⊥
+Ends Run Stopped old new status.TooLong = AnswersUpToLimit Run old new
 
 -- how many bytes of a script were taken
 abbrev pub TakesSoMany : Status → ℕ → Type 0

@@ -1,9 +1,7 @@
-pub mod Parse
+pub mod Asking
 pub mod Output
-pub mod Lines
 pub mod Session
 pub mod Serving
 pub mod Ending
-pub mod Number
 pub mod Run
-pub mod Finishing
+pub mod Number

@@ -1,7 +1,7 @@
 -- What waits for the sink, what went there, and what the reply lines among it say. Our own rule.
 use Rattle.std.specs.Prelude.{◌≡◌, ℕ, ◌≤◌, ◌+◌, List, ◌++◌, ◌||◌, length, Option}
 use Rattle.hg_io.specs.Bytes.{then}
-use Rattle.hg_machine.specs.Reply.{Reply, text_of, has_error}
+use Rattle.hg_machine.specs.Plain.Replies.{ReplyLine, text_of, has_error}
 use Rattle.hg_reply.specs.Steps.{DeviceFacts, Counted}
 use Rattle.hg_serve.specs.declared.output.Output.{Output}
 
@@ -36,7 +36,7 @@ abbrev pub moment : Option (List ℕ) → DeviceFacts → ℕ → Moment
 moment written faults said = record { written = written; faults = faults; said = said }
 
 -- these reply lines were put behind the others, and a front of all went to the sink
-pub record Tells (old new : Moment) (before after : Output) (replies : List Reply) : Type 0 where
+pub record Tells (old new : Moment) (before after : Output) (replies : List ReplyLine) : Type 0 where
   pub passes : Passes old.written new.written before.bytes.items after.bytes.items (text_of replies)
   pub errors : after.errors ≡ (before.errors || has_error replies)
   pub counted : Counted old.faults new.faults replies
@@ -44,7 +44,7 @@ pub record Tells (old new : Moment) (before after : Output) (replies : List Repl
   pub said : new.said ≤ old.said + length (text_of replies)
 
 -- a front of what waited and of these reply lines went to the sink, and then it failed
-pub record TellsInPart (old new : Moment) (waiting : List ℕ) (replies : List Reply) : Type 0 where
+pub record TellsInPart (old new : Moment) (waiting : List ℕ) (replies : List ReplyLine) : Type 0 where
   pub breaks : Breaks old.written new.written waiting (text_of replies)
   pub counted : Counted old.faults new.faults replies
 

@@ -1,7 +1,13 @@
 //! Runs a script: reads its lines from a source, answers each by an engine, and writes the replies to
 //! a sink. It stands on the traits of the outside (`hg_io`), on the plain machine (`hg_machine`), on the
-//! seam to an engine (`hg_reply`) and, for its two public calls, on the engine (`hg_engine`). Memory is
-//! taken at opening alone.
+//! parser (`hg_parse`), on the seam to an engine (`hg_reply`) and, for its two public calls, on the engine
+//! (`hg_engine`). Memory is taken at opening alone.
+//!
+//! ```text
+//!     source --(bytes)--> session --(line)--> parser --(command where it lies)--> engine
+//!                            |                                                      |
+//!     sink <--(32 KB)-- what waits <------------------(lines of one step)-----------+
+//! ```
 //!
 //! The contract used above is that of `run`: for any bytes of a script and any faults of
 //! source, sink and devices, what is written is the text of a run of the plain machine over the lines
@@ -9,18 +15,17 @@
 //! of faults rose.
 #![tactic(auto)]
 
-mod laws;
+mod asking;
+mod commands;
 mod lines;
 mod output;
-mod parse;
-mod scan;
 mod serving;
 mod session;
 mod statuses;
 mod top;
 
+pub use commands::built;
 pub use hg_engine::{Config, Devices, Engine};
-pub use laws::a_command_can_finish;
 pub use serving::serve;
 pub use statuses::Status;
 pub use top::{Outcome, run};

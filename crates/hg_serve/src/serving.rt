@@ -2,19 +2,19 @@
 ghost use Rattle.std.specs.Prelude.{◌≡◌, ◌≢◌, ◌≤◌, ◌<◌, ◌+◌, ◌-◌, ◌^◌, ◌⊎◌, List, [], ℕ, true, false, IfOk, OnErr, length, min};
 ghost use Rattle.hg_io.specs.Count.{raised, Rose, HasCause};
 ghost use Rattle.hg_io.specs.Bytes.{Reads};
-ghost use Rattle.hg_machine.specs.State.{State};
-ghost use Rattle.hg_machine.specs.Outcome.{Took, AnswersAll, AnswersWholeLines, AnswersUpToLimit, AnswersInPart};
-ghost use Rattle.hg_engine.specs.Shown.{IsEngineOf, faults_of, said_by_engine, is_pending};
+ghost use Rattle.hg_machine.specs.Plain.State.{State};
+ghost use Rattle.hg_engine.specs.Shown.{IsEngineOf, faults_of, is_pending, said_by_engine, tells_of};
+ghost use Rattle.hg_machine.specs.Plain.Outcome.{Took, AnswersAll, AnswersWholeLines, AnswersUpToLimit, AnswersInPart};
 ghost use Rattle.hg_reply.specs.Steps.{NoneFell};
 ghost use Rattle.hg_serve.specs.Ending.{Ends, ReadsSome, TakesSoMany, outside};
 ghost use Rattle.hg_serve.specs.Output.{Stops, moment};
-ghost use Rattle.hg_serve.specs.Run.{Reaches};
+ghost use Rattle.hg_serve.specs.Run.{Reaches, StopsAt};
 
 use crate::session::Session;
 use crate::statuses::Status;
 use hg_engine::Engine;
 use hg_io::{Failed, PageDevice, Sink, Source};
-use hg_reply::{Machine, TokenRoom};
+use hg_reply::Machine;
 
 /// How many bytes of a script are taken at most.
 const SCRIPT_LIMIT: u64 = 1 << 32;
@@ -38,12 +38,11 @@ fn read_some<S: Source>(source: &mut S, buffer: &mut [u8], room: usize) -> Resul
 /// lines that wait are written before the source is asked for more.
 fn read_and_answer<E: Machine, S: Source, K: Sink>(
     engine: &mut E,
-    tokens: &mut TokenRoom,
     source: &mut S,
     sink: &mut K,
 ) -> Status
     requires idle { E.pending engine.old ≡ false }
-    ensures ends { (first : State) → E.stands engine.old first → Ends (Reaches E.stands engine.new first)
+    ensures ends { (first : State) → E.stands engine.old first → Ends (Reaches E.stands (E.tells engine.old) engine.new first) (StopsAt E.stands (E.tells engine.old) engine.new first)
         (outside (S.left source.old) (S.given source.old) (K.written sink.old) (E.faults engine.old))
         (outside (S.left source.new) (S.given source.new) (K.written sink.new) (E.faults engine.new)) result }
     ensures bytes { (taken : List ℕ) × TakesSoMany result (length taken)
@@ -54,6 +53,7 @@ fn read_and_answer<E: Machine, S: Source, K: Sink>(
     ensures stops { result ≡ Status.SinkFault → Stops (moment (K.written sink.old) (E.faults engine.old) (E.said engine.old))
         (moment (K.written sink.new) (E.faults engine.new) (E.said engine.new)) [] }
     ensures idle { E.pending engine.new ≡ false }
+    ensures tells_stay { E.tells engine.new ≡ E.tells engine.old }
     ensures later { NoneFell (E.faults engine.old) (E.faults engine.new) }
     ensures source_later { S.faults source.old ≤ S.faults source.new }
     ensures sink_later { K.faults sink.old ≤ K.faults sink.new }
@@ -71,10 +71,10 @@ fn read_and_answer<E: Machine, S: Source, K: Sink>(
             Err(Failed) => return Status::SourceFault,
         };
         if count == 0 {
-            return session.end(tokens, engine, sink);
+            return session.end(engine, sink);
         }
         let (bytes, _) = buffer.split_at(count);
-        if let Err(Failed) = session.feed(bytes, tokens, engine, sink) {
+        if let Err(Failed) = session.feed(bytes, engine, sink) {
             return Status::SinkFault;
         }
         taken += count as u64;
@@ -86,7 +86,7 @@ fn read_and_answer<E: Machine, S: Source, K: Sink>(
 }
 
 /// Serves the script of `source` by the engine, and writes the replies to `sink`. Nothing is pending in
-/// the engine, before and after: where the sink fails, the statement at work is dropped.
+/// the engine, before and after: where the sink fails, the command at work is dropped.
 ///
 /// In the clauses, the outside is what source, sink and engine tell at one moment: the bytes left, the
 /// count of bytes given, the bytes written, and the devices' counts of faults. The replies are those of
@@ -104,30 +104,30 @@ pub fn serve<S: Source, K: Sink, M: PageDevice, T: PageDevice>(
     // The script was read to its end, and what is written is the text of a run of the machine over all
     // its lines, with an error line exactly where the status is Errors.
     ensures clean { result ≡ Status.Clean → (first : State) → IsEngineOf M.PageDevice T.PageDevice engine.old.database first
-        → AnswersAll (Reaches (IsEngineOf M.PageDevice T.PageDevice) engine.new.database first)
+        → AnswersAll (Reaches (IsEngineOf M.PageDevice T.PageDevice) (tells_of M.PageDevice T.PageDevice engine.old.database) engine.new.database first)
         (outside (S.left source.old) (S.given source.old) (K.written sink.old) (faults_of M.PageDevice T.PageDevice engine.old.database))
         (outside (S.left source.new) (S.given source.new) (K.written sink.new) (faults_of M.PageDevice T.PageDevice engine.new.database)) false }
     ensures errors { result ≡ Status.Errors → (first : State) → IsEngineOf M.PageDevice T.PageDevice engine.old.database first
-        → AnswersAll (Reaches (IsEngineOf M.PageDevice T.PageDevice) engine.new.database first)
+        → AnswersAll (Reaches (IsEngineOf M.PageDevice T.PageDevice) (tells_of M.PageDevice T.PageDevice engine.old.database) engine.new.database first)
         (outside (S.left source.old) (S.given source.old) (K.written sink.old) (faults_of M.PageDevice T.PageDevice engine.old.database))
         (outside (S.left source.new) (S.given source.new) (K.written sink.new) (faults_of M.PageDevice T.PageDevice engine.new.database)) true }
 
     // A fault only where that count rose; after a source fault the lines read whole were answered, and
-    // no part of a line was run; after a sink fault a front of such replies was written.
+    // no part of a line was run; after a sink fault the run stopped, and a front of its replies was written.
     ensures source_fault { result ≡ Status.SourceFault → Rose (S.faults source.old) (S.faults source.new) }
     ensures source_fault_answers { result ≡ Status.SourceFault → (first : State) → IsEngineOf M.PageDevice T.PageDevice engine.old.database first
-        → AnswersWholeLines (Reaches (IsEngineOf M.PageDevice T.PageDevice) engine.new.database first)
+        → AnswersWholeLines (Reaches (IsEngineOf M.PageDevice T.PageDevice) (tells_of M.PageDevice T.PageDevice engine.old.database) engine.new.database first)
         (outside (S.left source.old) (S.given source.old) (K.written sink.old) (faults_of M.PageDevice T.PageDevice engine.old.database))
         (outside (S.left source.new) (S.given source.new) (K.written sink.new) (faults_of M.PageDevice T.PageDevice engine.new.database)) }
     ensures sink_fault { result ≡ Status.SinkFault → Rose (K.faults sink.old) (K.faults sink.new) }
     ensures sink_fault_answers { result ≡ Status.SinkFault → (first : State) → IsEngineOf M.PageDevice T.PageDevice engine.old.database first
-        → AnswersInPart (Reaches (IsEngineOf M.PageDevice T.PageDevice) engine.new.database first)
+        → AnswersInPart (StopsAt (IsEngineOf M.PageDevice T.PageDevice) (tells_of M.PageDevice T.PageDevice engine.old.database) engine.new.database first)
         (outside (S.left source.old) (S.given source.old) (K.written sink.old) (faults_of M.PageDevice T.PageDevice engine.old.database))
         (outside (S.left source.new) (S.given source.new) (K.written sink.new) (faults_of M.PageDevice T.PageDevice engine.new.database)) }
 
     // The limit of 2^32 bytes, both ways: a sink fault alone comes before it.
     ensures too_long { result ≡ Status.TooLong → (first : State) → IsEngineOf M.PageDevice T.PageDevice engine.old.database first
-        → AnswersUpToLimit (Reaches (IsEngineOf M.PageDevice T.PageDevice) engine.new.database first)
+        → AnswersUpToLimit (Reaches (IsEngineOf M.PageDevice T.PageDevice) (tells_of M.PageDevice T.PageDevice engine.old.database) engine.new.database first)
         (outside (S.left source.old) (S.given source.old) (K.written sink.old) (faults_of M.PageDevice T.PageDevice engine.old.database))
         (outside (S.left source.new) (S.given source.new) (K.written sink.new) (faults_of M.PageDevice T.PageDevice engine.new.database)) }
     ensures too_long_always { S.given source.new < 2 ^ 64 - 1 → S.given source.new ≡ S.given source.old + 2 ^ 32
@@ -149,5 +149,5 @@ pub fn serve<S: Source, K: Sink, M: PageDevice, T: PageDevice>(
     ensures sink_later { K.faults sink.old ≤ K.faults sink.new }
 {
     engine.database.stands_for_a_state();
-    read_and_answer(&mut engine.database, &mut engine.tokens, source, sink)
+    read_and_answer(&mut engine.database, source, sink)
 }

@@ -1,63 +1,107 @@
 //! A session: the reply lines that wait, the line at hand, and the way of a line through the engine.
-ghost use Rattle.std.specs.Prelude.{◌≡◌, ◌≤◌, ◌+◌, ◌↔◌, ◌∷◌, ◌++◌, List, true, false, take, length, OnOk, OnErr, IfSome, IfNone};
+ghost use Rattle.std.specs.Prelude.{◌≡◌, ◌≤◌, ◌+◌, ◌↔◌, ◌∷◌, ◌++◌, ℕ, List, true, false, take, length, OnOk, OnErr, IfSome, IfNone};
 ghost use Rattle.arrayvec.specs.ArrayVec.{array_vec_len};
 ghost use Rattle.hg_io.specs.Count.{HasCause};
-ghost use Rattle.hg_machine.specs.Reply.{Reply as ReplyOf, reply_text, is_error};
-ghost use Rattle.hg_machine.specs.Run.{Turns};
-ghost use Rattle.hg_reply.specs.Lines.{reply_of};
-ghost use Rattle.hg_reply.specs.Steps.{statement_in, Says, Moves, NoneFell};
+ghost use Rattle.hg_machine.specs.Plain.Replies.{ReplyLine as Said, line_text, is_error};
+ghost use Rattle.hg_parse.specs.Kept.{kept};
+ghost use Rattle.hg_parse.specs.Statements.{tree_in};
+ghost use Rattle.hg_reply.specs.Asked.{IsReadAs};
+ghost use Rattle.hg_reply.specs.Plain.{line_of, IsKnown};
+ghost use Rattle.hg_reply.specs.Steps.{Says, Moves, NoneFell};
+ghost use Rattle.hg_serve.specs.Asking.{BeginsRead, Beginning};
 ghost use Rattle.hg_serve.specs.Output.{moment, Tells};
-ghost use Rattle.hg_serve.specs.Session.{BeginsAsked, BreaksOff};
+ghost use Rattle.hg_serve.specs.Session.{BreaksOff, Finishing, StoppingTurns, StopsWork};
 ghost use Rattle.hg_serve.specs.Serving.{HasNoFeed};
 
-use crate::lines::{Asked, read_line};
+use crate::asking::{LINE_TOO_LONG, SYNTAX_ERROR, asked_in, refusal};
+use crate::commands::built;
+use crate::lines::{LINE_LIMIT, text};
 use crate::output::Output;
 use crate::statuses::Status;
 use arrayvec::ArrayVec;
 use hg_io::{Failed, Sink};
-use hg_model::Name;
-use hg_reply::{Kind, Machine, Next, Reply, ReplyLine, StatementRoom, TokenRoom};
+use hg_parse::{Room, Statement, parse_into};
+use hg_reply::{Machine, Next, Reply, ReplyLine};
 use memchr::memchr;
 
 /// Says one line and nothing else.
 fn say_alone(reply: &mut Reply, line: &ReplyLine) -> Next
+    requires known { IsKnown line.now }
     ensures done { result ≡ Next.Done }
-    ensures text { reply.new.text.items ≡ reply_text (reply_of line.now) }
-    ensures errors { reply.new.has_error ≡ is_error (reply_of line.now) }
+    ensures text { reply.new.text.items ≡ line_text (line_of line.now) }
+    ensures errors { reply.new.has_error ≡ is_error (line_of line.now) }
 {
     reply.clear();
     reply.say(line);
     Next::Done
 }
 
-/// The immediate replies of what a line asks for.
-fn begin<E: Machine>(
-    engine: &mut E,
-    asked: Asked,
-    statement: &StatementRoom,
-    reply: &mut Reply,
-) -> Next
+/// Asks the engine for the command that a line was read as. It is a syntax error where there is no such
+/// command by now.
+fn ask<E: Machine>(engine: &mut E, statement: &Statement, room: &Room, reply: &mut Reply) -> Next
     requires idle { E.pending engine.old ≡ false }
-    ensures step { (lines : List ReplyOf) × Says reply.new (E.faults engine.old) (E.faults engine.new) lines
-        × Moves E.stands engine.old engine.new (BeginsAsked asked (statement_in statement.now)) lines }
+    requires read { IsReadAs (E.frames engine.old) (tree_in statement.now (kept room.now)) (kept room.now).texts }
+    ensures step { (lines : List Said) × Says reply.new (E.faults engine.old) (E.faults engine.new) lines
+        × Moves E.stands engine.old engine.new (BeginsRead (E.tells engine.old) (tree_in statement.now (kept room.now)) (kept room.now).texts) lines }
     ensures said { E.said engine.new ≤ E.said engine.old + array_vec_len reply.new.text }
     ensures more { (result ≡ Next.More) ↔ (E.pending engine.new ≡ true) }
     ensures later { NoneFell (E.faults engine.old) (E.faults engine.new) }
+    ensures tells_stay { E.tells engine.new ≡ E.tells engine.old }
 {
-    match asked {
-        Asked::Nothing => {
+    let asked = asked_in(statement, room);
+    if !built(&asked.command) {
+        return say_alone(reply, &SYNTAX_ERROR);
+    }
+    engine.answer(&asked, reply)
+}
+
+/// The immediate replies of a line, of which `line` has the first 4,097 bytes. `room` is what it is read
+/// into.
+fn begin<E: Machine>(
+    engine: &mut E,
+    line: &[u8],
+    ended: bool,
+    room: &mut Room,
+    reply: &mut Reply,
+) -> Next
+    requires idle { E.pending engine.old ≡ false }
+    ensures step { (whole : List ℕ) → line.now ≡ take 4097 whole → (lines : List Said) × Says reply.new (E.faults engine.old) (E.faults engine.new) lines
+        × Moves E.stands engine.old engine.new (Beginning (E.tells engine.old) (record { bytes = whole; ended = ended })) lines }
+    ensures said { E.said engine.new ≤ E.said engine.old + array_vec_len reply.new.text }
+    ensures more { (result ≡ Next.More) ↔ (E.pending engine.new ≡ true) }
+    ensures later { NoneFell (E.faults engine.old) (E.faults engine.new) }
+    ensures tells_stay { E.tells engine.new ≡ E.tells engine.old }
+{
+    if line.len() > LINE_LIMIT {
+        return say_alone(reply, &LINE_TOO_LONG);
+    }
+    match parse_into(text(line, ended), engine.max(), room) {
+        Ok(None) => {
             reply.clear();
             Next::Done
         }
-        Asked::SyntaxError => say_alone(reply, &ReplyLine::SyntaxError),
-        Asked::TooLong => say_alone(reply, &ReplyLine::LineTooLong),
-        Asked::Statement => engine.command(statement, reply),
+        Err(error) => say_alone(reply, &refusal(&error)),
+        Ok(Some(statement)) => ask(engine, &statement, room, reply),
     }
 }
 
-/// Gives the turns of the statement at work to its end. Where the sink fails, no turn is given any more
-/// and the statement is dropped: what was written is a front of what waited and of the lines of the
-/// turns that were given, and these begin the lines of all turns.
+/// Drops the command at work, if one is at work.
+fn stop<E: Machine>(engine: &mut E, next: Next)
+    requires more { (next ≡ Next.More) ↔ (E.pending engine.old ≡ true) }
+    ensures stops { StopsWork E.stands engine.old engine.new }
+    ensures idle { E.pending engine.new ≡ false }
+    ensures says_nothing { E.said engine.new ≡ E.said engine.old }
+    ensures faults_stay { E.faults engine.new ≡ E.faults engine.old }
+    ensures tells_stay { E.tells engine.new ≡ E.tells engine.old }
+{
+    if let Next::More = next {
+        engine.drop_command();
+    }
+}
+
+/// Gives the turns of the command at work to its end. Where the sink fails, no turn is given any more and
+/// the command is dropped: what was written is a front of what waited and of the lines of the turns that
+/// were given.
 fn give_turns<E: Machine, K: Sink>(
     engine: &mut E,
     next: Next,
@@ -66,20 +110,21 @@ fn give_turns<E: Machine, K: Sink>(
     sink: &mut K,
 ) -> Result<(), Failed>
     requires more { (next ≡ Next.More) ↔ (E.pending engine.old ≡ true) }
-    ensures ok { OnOk result ((lines : List ReplyOf)
+    ensures ok { OnOk result ((lines : List Said)
         × Tells (moment (K.written sink.old) (E.faults engine.old) (E.said engine.old)) (moment (K.written sink.new) (E.faults engine.new) (E.said engine.new)) output.old output.new lines
-        × Moves E.stands engine.old engine.new Turns lines) }
+        × Moves E.stands engine.old engine.new (Finishing (E.tells engine.old)) lines) }
     ensures part { OnErr result (BreaksOff E.stands engine.old engine.new (moment (K.written sink.old) (E.faults engine.old) (E.said engine.old))
-        (moment (K.written sink.new) (E.faults engine.new) (E.said engine.new)) output.old.bytes.items Turns) }
+        (moment (K.written sink.new) (E.faults engine.new) (E.said engine.new)) output.old.bytes.items (StoppingTurns (E.tells engine.old))) }
     ensures idle { E.pending engine.new ≡ false }
     ensures later { NoneFell (E.faults engine.old) (E.faults engine.new) }
+    ensures tells_stay { E.tells engine.new ≡ E.tells engine.old }
     ensures cause { HasCause (K.faults sink.old) (K.faults sink.new) result }
 {
     let mut left = next;
     while let Next::More = left {
         left = engine.more(reply);
         if let Err(Failed) = output.put(reply, sink) {
-            engine.drop_command();
+            stop(engine, left);
             return Err(Failed);
         }
     }
@@ -112,13 +157,13 @@ fn front(bytes: &[u8], count: usize) -> &[u8]
 /// The bytes of a line that are kept: one more than it may have, so that a longer one is known.
 const KEPT_BYTES: usize = 4097;
 
-/// The reply lines that wait, and the front of the line at hand. `reply` and `statement` are
-/// room for the lines of a step, and for the statement of a line.
+/// The reply lines that wait, and the front of the line at hand. `reply` and `room` are room for the lines
+/// of a step, and for what a line is read as: 37 KB, which are kept across lines.
 #[derive(Drop)]
 pub struct Session {
     output: Output,
     reply: Reply,
-    statement: StatementRoom,
+    room: Room,
     line: ArrayVec<u8, KEPT_BYTES>,
 }
 
@@ -126,10 +171,10 @@ impl Session {
     ghost use Rattle.std.specs.Prelude.{◌≡◌, ◌≤◌, ◌∷◌, [], ◌++◌, ℕ, List, true, false, take, OnOk, OnErr};
     ghost use Rattle.arrayvec.specs.ArrayVec.{array_vec_len};
     ghost use Rattle.hg_io.specs.Count.{Rose, HasCause};
-    ghost use Rattle.hg_machine.specs.Script.{whole_lines, lines_of};
+    ghost use Rattle.hg_model.specs.Script.{whole_lines, lines_of};
     ghost use Rattle.hg_serve.specs.Output.{Moment, moment, Passes, Breaks};
     ghost use Rattle.hg_reply.specs.Steps.{NoneFell};
-    ghost use Rattle.hg_serve.specs.Session.{Answering, AnswersLine, BreaksOff};
+    ghost use Rattle.hg_serve.specs.Session.{StoppingLine, AnswersLine, BreaksOff};
     ghost use Rattle.hg_serve.specs.Serving.{HasNoFeed, Serves, Halts, Finishes, Closes};
 
     pub fn new() -> Session
@@ -140,12 +185,7 @@ impl Session {
         Session {
             output: Output::new(),
             reply: Reply::new(),
-            statement: StatementRoom {
-                kind: Kind::Select,
-                table: Name::default(),
-                columns: ArrayVec::new(),
-                rows: ArrayVec::new(),
-            },
+            room: Room::new(),
             line: ArrayVec::new(),
         }
     }
@@ -154,25 +194,25 @@ impl Session {
     fn answer_line<E: Machine, K: Sink>(
         &mut self,
         ended: bool,
-        tokens: &mut TokenRoom,
         engine: &mut E,
         sink: &mut K,
     ) -> Result<(), Failed>
         requires idle { E.pending engine.old ≡ false }
         ensures ok { OnOk result ((whole : List ℕ) → self.old.line.items ≡ take 4097 whole
-            → AnswersLine E.stands engine.old engine.new (moment (K.written sink.old) (E.faults engine.old) (E.said engine.old))
+            → AnswersLine E.stands (E.tells engine.old) engine.old engine.new (moment (K.written sink.old) (E.faults engine.old) (E.said engine.old))
             (moment (K.written sink.new) (E.faults engine.new) (E.said engine.new)) self.old.output self.new.output (record { bytes = whole; ended = ended })) }
         ensures part { OnErr result ((whole : List ℕ) → self.old.line.items ≡ take 4097 whole
             → BreaksOff E.stands engine.old engine.new (moment (K.written sink.old) (E.faults engine.old) (E.said engine.old))
-            (moment (K.written sink.new) (E.faults engine.new) (E.said engine.new)) self.old.output.bytes.items (Answering (record { bytes = whole; ended = ended }))) }
+            (moment (K.written sink.new) (E.faults engine.new) (E.said engine.new)) self.old.output.bytes.items (StoppingLine (E.tells engine.old) (record { bytes = whole; ended = ended }))) }
         ensures idle { E.pending engine.new ≡ false }
         ensures later { NoneFell (E.faults engine.old) (E.faults engine.new) }
+        ensures tells_stay { E.tells engine.new ≡ E.tells engine.old }
         ensures cause { HasCause (K.faults sink.old) (K.faults sink.new) result }
     {
-        let asked = read_line(self.line.as_slice(), ended, tokens, &mut self.statement);
-        let next = begin(engine, asked, &self.statement, &mut self.reply);
+        let line = self.line.as_slice();
+        let next = begin(engine, line, ended, &mut self.room, &mut self.reply);
         if let Err(Failed) = self.output.put(&self.reply, sink) {
-            engine.drop_command();
+            stop(engine, next);
             return Err(Failed);
         }
         give_turns(engine, next, &mut self.reply, &mut self.output, sink)?;
@@ -192,24 +232,24 @@ impl Session {
     fn take_line<E: Machine, K: Sink>(
         &mut self,
         front: &[u8],
-        tokens: &mut TokenRoom,
         engine: &mut E,
         sink: &mut K,
     ) -> Result<(), Failed>
         requires idle { E.pending engine.old ≡ false }
         requires no_feed { HasNoFeed front.now }
         ensures ok { OnOk result ((first : E) (w : Moment) (taken : List ℕ)
-            → Serves E.stands first engine.old w (moment (K.written sink.old) (E.faults engine.old) (E.said engine.old)) self.old taken
-            → Serves E.stands first engine.new w (moment (K.written sink.new) (E.faults engine.new) (E.said engine.new)) self.new (taken ++ (front.now ++ 10 ∷ []))) }
+            → Serves E.stands (E.tells engine.old) first engine.old w (moment (K.written sink.old) (E.faults engine.old) (E.said engine.old)) self.old taken
+            → Serves E.stands (E.tells engine.old) first engine.new w (moment (K.written sink.new) (E.faults engine.new) (E.said engine.new)) self.new (taken ++ (front.now ++ 10 ∷ []))) }
         ensures part { OnErr result ((first : E) (w : Moment) (taken : List ℕ)
-            → Serves E.stands first engine.old w (moment (K.written sink.old) (E.faults engine.old) (E.said engine.old)) self.old taken
-            → Halts E.stands first engine.new w (moment (K.written sink.new) (E.faults engine.new) (E.said engine.new)) (whole_lines (taken ++ (front.now ++ 10 ∷ [])))) }
+            → Serves E.stands (E.tells engine.old) first engine.old w (moment (K.written sink.old) (E.faults engine.old) (E.said engine.old)) self.old taken
+            → Halts E.stands (E.tells engine.old) first engine.new w (moment (K.written sink.new) (E.faults engine.new) (E.said engine.new)) (whole_lines (taken ++ (front.now ++ 10 ∷ [])))) }
         ensures idle { E.pending engine.new ≡ false }
         ensures later { NoneFell (E.faults engine.old) (E.faults engine.new) }
+        ensures tells_stay { E.tells engine.new ≡ E.tells engine.old }
         ensures cause { HasCause (K.faults sink.old) (K.faults sink.new) result }
     {
         self.keep(front);
-        if let Err(Failed) = self.answer_line(true, tokens, engine, sink) {
+        if let Err(Failed) = self.answer_line(true, engine, sink) {
             return Err(Failed);
         }
         self.line.clear();
@@ -220,24 +260,24 @@ impl Session {
     pub fn feed<E: Machine, K: Sink>(
         &mut self,
         bytes: &[u8],
-        tokens: &mut TokenRoom,
         engine: &mut E,
         sink: &mut K,
     ) -> Result<(), Failed>
         requires idle { E.pending engine.old ≡ false }
         ensures ok { OnOk result ((first : E) (w : Moment) (taken : List ℕ)
-            → Serves E.stands first engine.old w (moment (K.written sink.old) (E.faults engine.old) (E.said engine.old)) self.old taken
-            → Serves E.stands first engine.new w (moment (K.written sink.new) (E.faults engine.new) (E.said engine.new)) self.new (taken ++ bytes.now)) }
+            → Serves E.stands (E.tells engine.old) first engine.old w (moment (K.written sink.old) (E.faults engine.old) (E.said engine.old)) self.old taken
+            → Serves E.stands (E.tells engine.old) first engine.new w (moment (K.written sink.new) (E.faults engine.new) (E.said engine.new)) self.new (taken ++ bytes.now)) }
         ensures part { OnErr result ((first : E) (w : Moment) (taken : List ℕ)
-            → Serves E.stands first engine.old w (moment (K.written sink.old) (E.faults engine.old) (E.said engine.old)) self.old taken
-            → Halts E.stands first engine.new w (moment (K.written sink.new) (E.faults engine.new) (E.said engine.new)) (whole_lines (taken ++ bytes.now))) }
+            → Serves E.stands (E.tells engine.old) first engine.old w (moment (K.written sink.old) (E.faults engine.old) (E.said engine.old)) self.old taken
+            → Halts E.stands (E.tells engine.old) first engine.new w (moment (K.written sink.new) (E.faults engine.new) (E.said engine.new)) (whole_lines (taken ++ bytes.now))) }
         ensures idle { E.pending engine.new ≡ false }
         ensures later { NoneFell (E.faults engine.old) (E.faults engine.new) }
+        ensures tells_stay { E.tells engine.new ≡ E.tells engine.old }
         ensures cause { HasCause (K.faults sink.old) (K.faults sink.new) result }
     {
         let mut rest = bytes;
         while let Some((front, behind)) = cut(rest) {
-            if let Err(Failed) = self.take_line(front, tokens, engine, sink) {
+            if let Err(Failed) = self.take_line(front, engine, sink) {
                 return Err(Failed);
             }
             rest = behind;
@@ -277,25 +317,21 @@ impl Session {
     }
 
     /// Answers a last line that no line feed ends, and closes the session.
-    pub fn end<E: Machine, K: Sink>(
-        &mut self,
-        tokens: &mut TokenRoom,
-        engine: &mut E,
-        sink: &mut K,
-    ) -> Status
+    pub fn end<E: Machine, K: Sink>(&mut self, engine: &mut E, sink: &mut K) -> Status
         requires idle { E.pending engine.old ≡ false }
         ensures closes { (first : E) (w : Moment) (taken : List ℕ)
-            → Serves E.stands first engine.old w (moment (K.written sink.old) (E.faults engine.old) (E.said engine.old)) self.old taken
-            → Closes E.stands first engine.new w (moment (K.written sink.new) (E.faults engine.new) (E.said engine.new)) (lines_of taken) result }
+            → Serves E.stands (E.tells engine.old) first engine.old w (moment (K.written sink.old) (E.faults engine.old) (E.said engine.old)) self.old taken
+            → Closes E.stands (E.tells engine.old) first engine.new w (moment (K.written sink.new) (E.faults engine.new) (E.said engine.new)) (lines_of taken) result }
         ensures idle { E.pending engine.new ≡ false }
         ensures later { NoneFell (E.faults engine.old) (E.faults engine.new) }
+        ensures tells_stay { E.tells engine.new ≡ E.tells engine.old }
         ensures sink_later { K.faults sink.old ≤ K.faults sink.new }
         ensures cause { result ≡ Status.SinkFault → Rose (K.faults sink.old) (K.faults sink.new) }
     {
         if self.line.is_empty() {
             return self.finish(sink);
         }
-        if let Err(Failed) = self.answer_line(false, tokens, engine, sink) {
+        if let Err(Failed) = self.answer_line(false, engine, sink) {
             return Status::SinkFault;
         }
         self.finish(sink)

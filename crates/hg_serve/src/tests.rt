@@ -115,23 +115,139 @@ fn refused_statements(rt: HostRuntime) -> Result<(), Fail> {
         &rt,
         alloc,
         "CREATE TABLE t (a INTEGER)\nCREATE TABLE T (b INTEGER)\nCREATE TABLE u (b INTEGER, B INTEGER)\nINSERT INTO t VALUES (1), (1, 2)\nINSERT INTO t VALUES (1, 2)\nINSERT INTO x VALUES (1), (1, 2)\nINSERT INTO t VALUES ((1))\nINSERT INTO t VALUES (1\nINSERT INTO t VALUES\nSELECT * FROM t\n",
-        "created\nerror 1 syntax\nerror 1 syntax\nerror 1 syntax\nerror 1 syntax\nerror 3 unknown table x\nerror 1 syntax\nerror 1 syntax\nerror 1 syntax\nend *\n",
+        "created\nerror 8 name taken t\nerror 8 name taken b\nerror 6 type mismatch\nerror 6 type mismatch\nerror 3 unknown table x\nerror 1 syntax\nerror 1 syntax\nerror 1 syntax\nend *\n",
         Status::Errors,
     )?;
     gives(
         &rt,
         alloc,
         "CREATE TABLE n (a INTEGER)\nINSERT INTO n VALUES (2147483647), (-2147483648), (+0000000000000000000000000000000000000007), (NULL)\nINSERT INTO n VALUES (2147483648)\nINSERT INTO n VALUES (-2147483649)\nINSERT INTO n VALUES (1111111111111111111111111111111111111111)\nINSERT INTO n VALUES (1x)\nSELECT * FROM n\n",
-        "created\nrows 4\nerror 1 syntax\nerror 1 syntax\nerror 1 syntax\nerror 1 syntax\nrow * 2147483647\nrow * -2147483648\nrow * 7\nrow * NULL\nend *\n",
+        "created\nrows 4\nerror 11 value does not fit a\nerror 11 value does not fit a\nerror 22 bad number\nerror 1 syntax\nrow * 2147483647\nrow * -2147483648\nrow * 7\nrow * NULL\nend *\n",
         Status::Errors,
     )?;
     gives(
         &rt,
         alloc,
         "CREATE TABLE a23456789_123456789_123456789_ (a INTEGER)\nCREATE TABLE a23456789_123456789_123456789_1 (a INTEGER)\nCREATE TABLE w (a INTEGER,b INTEGER,c INTEGER,d INTEGER,e INTEGER,f INTEGER,g INTEGER,h INTEGER,i INTEGER,j INTEGER,k INTEGER,l INTEGER,m INTEGER,n INTEGER,o INTEGER,p INTEGER,q INTEGER)\n",
-        "created\nerror 1 syntax\nerror 1 syntax\n",
+        "created\nerror 9 too many name letters 30\nerror 9 too many columns 16\n",
         Status::Errors,
     )?;
+    Ok(())
+}
+
+#[test]
+fn wider_inserts(rt: HostRuntime) -> Result<(), Fail> {
+    let alloc = rt.alloc();
+    gives(
+        &rt,
+        alloc,
+        "CREATE TABLE p (id INTEGER NOT NULL, name VARCHAR(5), n INTEGER)\nINSERT INTO p VALUES (1, 'it''s', 7), (2, NULL, -1)\nINSERT INTO p (Name, id) VALUES ('abcde', 3), ('''''', 4)\nSELECT * FROM p\n",
+        "created\nrows 2\nrows 2\nrow * 1,'it''s',7\nrow * 2,NULL,-1\nrow * 3,'abcde',NULL\nrow * 4,'''''',NULL\nend *\n",
+        Status::Clean,
+    )?;
+    gives(
+        &rt,
+        alloc,
+        "CREATE TABLE p (id INTEGER NOT NULL, name VARCHAR(5), n INTEGER)\nINSERT INTO p (id, ID) VALUES (1, 2)\nINSERT INTO p (z) VALUES (1)\nINSERT INTO p (name) VALUES ('x')\nINSERT INTO p VALUES (NULL, 'abcdef', 1)\nINSERT INTO p VALUES (5, 'abcdef', 1)\nINSERT INTO p VALUES (5, 1, 1)\nINSERT INTO p VALUES (5, 'x', 2147483648)\nSELECT * FROM p\n",
+        "created\nerror 8 name taken id\nerror 4 unknown column z\nerror 12 null not allowed id\nerror 12 null not allowed id\nerror 11 value does not fit name\nerror 6 type mismatch\nerror 11 value does not fit n\nend *\n",
+        Status::Errors,
+    )?;
+    Ok(())
+}
+
+/// Three texts of 255 letters and one of 227 have 1,000 bytes, with a mark and a length for each; a row has
+/// 1,000 at most.
+fn texts_of(alloc: Global, last: usize) -> Result<Vec<u8>, AllocError> {
+    let mut script = Vec::from_slice(
+        alloc,
+        b"CREATE TABLE l (a VARCHAR(255),b VARCHAR(255),c VARCHAR(255),d VARCHAR(255))\n".as_slice(),
+    )?;
+    script.extend_from_slice(b"INSERT INTO l VALUES (".as_slice())?;
+    for letters in [255, 255, 255, last] {
+        script.push(b'\'')?;
+        for _letter in 0..letters {
+            script.push(b'x')?;
+        }
+        script.extend_from_slice(b"',".as_slice())?;
+    }
+    let _ = script.pop();
+    script.extend_from_slice(b")\n".as_slice())?;
+    Ok(script)
+}
+
+#[test]
+fn longest_rows(rt: HostRuntime) -> Result<(), Fail> {
+    let alloc = rt.alloc();
+    let (_, sink) = through_engine(alloc, texts_of(alloc, 227)?, device(alloc))?;
+    assert_eq!(rt; sink.bytes(), b"created\nrows 1\n".as_slice());
+    let (_, sink) = through_engine(alloc, texts_of(alloc, 228)?, device(alloc))?;
+    assert_eq!(rt; sink.bytes(), b"created\nerror 23 row too long\n".as_slice());
+    Ok(())
+}
+
+#[test]
+fn pool(rt: HostRuntime) -> Result<(), Fail> {
+    let alloc = rt.alloc();
+    gives(
+        &rt,
+        alloc,
+        "POOL 16\nPOOL 15\nPOOL 257\nCREATE TABLE t (a INTEGER)\nINSERT INTO t VALUES (1)\npool 256;\nSELECT * FROM t\n",
+        "pool 16\nerror 22 bad number\nerror 22 bad number\ncreated\nrows 1\npool 256\nrow * 1\nend *\n",
+        Status::Errors,
+    )?;
+    Ok(())
+}
+
+/// Commands that the grammar reads and that there are not by now.
+#[test]
+fn not_built(rt: HostRuntime) -> Result<(), Fail> {
+    let alloc = rt.alloc();
+    gives(
+        &rt,
+        alloc,
+        "CREATE TABLE t (a INTEGER PRIMARY KEY)\nCREATE TABLE t (a INTEGER UNIQUE)\nCREATE TABLE t (a INTEGER)\nCREATE INDEX i ON t (a)\nUPDATE t SET a = 1\nDELETE FROM t\nVACUUM t\nSELECT a FROM t\nSELECT DISTINCT * FROM t\nSELECT * FROM t, t u\nSELECT * FROM t WHERE a = 1\nSELECT * FROM t ORDER BY 1\nOPEN c FOR SELECT * FROM t\nSTART c 1\nWORK 1\nFETCH c 1\nCLOSE c\nMPL 2\nSHOW MEMORY\nSELECT * FROM t\n",
+        "error 1 syntax\nerror 1 syntax\ncreated\nerror 1 syntax\nerror 1 syntax\nerror 1 syntax\nerror 1 syntax\nerror 1 syntax\nerror 1 syntax\nerror 1 syntax\nerror 1 syntax\nerror 1 syntax\nerror 1 syntax\nerror 1 syntax\nerror 1 syntax\nerror 1 syntax\nerror 1 syntax\nerror 1 syntax\nerror 1 syntax\nend *\n",
+        Status::Errors,
+    )?;
+    Ok(())
+}
+
+/// A SELECT with so many parentheses around its condition, and one with so many nodes in it.
+fn nested(alloc: Global, depth: usize) -> Result<Vec<u8>, AllocError> {
+    let mut script = Vec::from_slice(alloc, b"SELECT * FROM t WHERE ".as_slice())?;
+    for _open in 0..depth {
+        script.push(b'(')?;
+    }
+    script.extend_from_slice(b"a = 1".as_slice())?;
+    for _close in 0..depth {
+        script.push(b')')?;
+    }
+    script.push(b'\n')?;
+    Ok(script)
+}
+
+fn summed(alloc: Global, terms: usize) -> Result<Vec<u8>, AllocError> {
+    let mut script = Vec::from_slice(alloc, b"SELECT * FROM t WHERE a = 1".as_slice())?;
+    for _term in 0..terms {
+        script.extend_from_slice(b"+1".as_slice())?;
+    }
+    script.push(b'\n')?;
+    Ok(script)
+}
+
+/// What the parser refuses comes before what is not there by now. `a = 1` has 3 nodes and each `+1` 2 more:
+/// 46 of these make 95, and 47 make 97.
+#[test]
+fn refusals_of_the_parser(rt: HostRuntime) -> Result<(), Fail> {
+    let alloc = rt.alloc();
+    let (_, sink) = through_engine(alloc, nested(alloc, 32)?, device(alloc))?;
+    assert_eq!(rt; sink.bytes(), b"error 1 syntax\n".as_slice());
+    let (_, sink) = through_engine(alloc, nested(alloc, 33)?, device(alloc))?;
+    assert_eq!(rt; sink.bytes(), b"error 1 syntax\n".as_slice());
+    let (_, sink) = through_engine(alloc, summed(alloc, 46)?, device(alloc))?;
+    assert_eq!(rt; sink.bytes(), b"error 1 syntax\n".as_slice());
+    let (_, sink) = through_engine(alloc, summed(alloc, 47)?, device(alloc))?;
+    assert_eq!(rt; sink.bytes(), b"error 9 too many nodes 96\n".as_slice());
     Ok(())
 }
 

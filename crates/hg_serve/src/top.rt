@@ -1,10 +1,10 @@
 //! The top call.
 ghost use Rattle.std.specs.Prelude.{◌≡◌, ◌↔◌, ◌⊎◌, ◌<◌, ◌≤◌, ◌+◌, ◌-◌, ◌^◌, min, vec_len, true, false};
 ghost use Rattle.hg_io.specs.Count.{Rose};
-ghost use Rattle.hg_machine.specs.Outcome.{AnswersAll, AnswersWholeLines, AnswersUpToLimit, AnswersInPart};
+ghost use Rattle.hg_machine.specs.Plain.Outcome.{AnswersAll, AnswersWholeLines, AnswersUpToLimit, AnswersInPart};
 ghost use Rattle.hg_reply.specs.Steps.{NoneFell};
 ghost use Rattle.hg_serve.specs.Ending.{outside};
-ghost use Rattle.hg_serve.specs.Run.{RunOver, faults_over};
+ghost use Rattle.hg_serve.specs.Run.{RunOver, StoppedOver, faults_over};
 
 use crate::serving::serve;
 use crate::statuses::Status;
@@ -25,7 +25,7 @@ const MAIN_PAGES: u32 = 65_536;
 
 const TEMP_PAGES: u32 = 1_048_576;
 
-/// The frames that are reserved, those in use at the beginning, and how many requests share them.
+/// The most frames of the pool, those in use at the beginning, and how many cursors may be active.
 const MAX_FRAMES: u32 = 256;
 
 const POOL_FRAMES: u32 = 128;
@@ -39,8 +39,8 @@ const REQUESTS: u32 = 4;
 /// In the clauses, the outside is what source, sink and devices tell at one moment: the bytes left, the
 /// count of bytes given, the bytes written, and the devices' own counts of faults. What is said of the
 /// replies holds for every script and every history of faults. Where both devices tell their pages, the
-/// plain machine is that of tables as lists of rows; over others it may give any rows, and say that a
-/// page is damaged.
+/// steps are the plain machine's own, over tables as lists of rows; over others, which may give back other
+/// bytes than they were given, they are its loose ones.
 pub fn run<S: Source, K: Sink, M: PageDevice, T: PageDevice>(
     alloc: Global,
     words: &Vec<String>,
@@ -69,13 +69,14 @@ pub fn run<S: Source, K: Sink, M: PageDevice, T: PageDevice>(
     ensures usage_calls_no_device { result.status ≡ Status.Usage → (result.main ≡ main) × (result.temp ≡ temp) }
 
     // A fault only where that count rose; after a source fault the lines read whole were answered, and
-    // no part of a line was run; after a sink fault a front of such replies was written.
+    // no part of a line was run; after a sink fault the run stopped, at the latest behind the turn whose
+    // reply did not go out, and a front of its replies was written.
     ensures source_fault { result.status ≡ Status.SourceFault → Rose (S.faults source.old) (S.faults source.new) }
     ensures source_fault_answers { result.status ≡ Status.SourceFault → AnswersWholeLines (RunOver M.PageDevice T.PageDevice main temp)
         (outside (S.left source.old) (S.given source.old) (K.written sink.old) (faults_over M.PageDevice T.PageDevice main temp))
         (outside (S.left source.new) (S.given source.new) (K.written sink.new) (faults_over M.PageDevice T.PageDevice result.main result.temp)) }
     ensures sink_fault { result.status ≡ Status.SinkFault → Rose (K.faults sink.old) (K.faults sink.new) }
-    ensures sink_fault_answers { result.status ≡ Status.SinkFault → AnswersInPart (RunOver M.PageDevice T.PageDevice main temp)
+    ensures sink_fault_answers { result.status ≡ Status.SinkFault → AnswersInPart (StoppedOver M.PageDevice T.PageDevice main temp)
         (outside (S.left source.old) (S.given source.old) (K.written sink.old) (faults_over M.PageDevice T.PageDevice main temp))
         (outside (S.left source.new) (S.given source.new) (K.written sink.new) (faults_over M.PageDevice T.PageDevice result.main result.temp)) }
 

@@ -7,7 +7,10 @@ use Rattle.hg_serve.proofs.top.run.Goals as goal
 pub returns-in-Ok-clause-clean : goal.returns-in-Ok-clause-clean
 returns-in-Ok-clause-clean g c = λ is.
     let opened = c.in-Ok.ensures {u = tt} in
-    ends-over (IsEngineOf g.M.PageDevice g.T.PageDevice) c.serve-status.new.engine.database _ _ _ (c.min.ensures ∙ ap (λ n. min n 65536) c.limit.ensures) status.Clean _ _ _ _ _ _ _ _ _ _
+    let main_pages = c.min.ensures ∙ ap (λ n. min n 65536) c.limit.ensures in
+    let temp_pages = c.min-2.ensures ∙ ap (λ n. min n 1048576) c.limit-2.ensures in
+    ends-over (IsEngineOf g.M.PageDevice g.T.PageDevice) c.serve-status.new.engine.database _ _ _ _ opened.tells
+    (λ i. record { max = 256; pool = 128; mpl = 4; main_pages = main_pages i; temp_pages = temp_pages i }) status.Clean _ _ _ _ _ _ _ _ _ _
     (λ i. record { main = g.M.PageDevice.faults (opened.main i); temp = g.T.PageDevice.faults (opened.temp i); main_pages = g.M.PageDevice.pages (opened.main i); temp_pages = g.T.PageDevice.pages (opened.temp i) })
     (λ i. record { main = g.M.PageDevice.faults (sym c.close-main.ensures.main i); temp = g.T.PageDevice.faults (sym c.close-main.ensures.temp i); main_pages = g.M.PageDevice.pages (sym c.close-main.ensures.main i); temp_pages = g.T.PageDevice.pages (sym c.close-main.ensures.temp i) })
     (c.serve-status.ensures.clean is _ opened.start)
@@ -15,7 +18,10 @@ returns-in-Ok-clause-clean g c = λ is.
 pub returns-in-Ok-clause-errors : goal.returns-in-Ok-clause-errors
 returns-in-Ok-clause-errors g c = λ is.
     let opened = c.in-Ok.ensures {u = tt} in
-    ends-over (IsEngineOf g.M.PageDevice g.T.PageDevice) c.serve-status.new.engine.database _ _ _ (c.min.ensures ∙ ap (λ n. min n 65536) c.limit.ensures) status.Errors _ _ _ _ _ _ _ _ _ _
+    let main_pages = c.min.ensures ∙ ap (λ n. min n 65536) c.limit.ensures in
+    let temp_pages = c.min-2.ensures ∙ ap (λ n. min n 1048576) c.limit-2.ensures in
+    ends-over (IsEngineOf g.M.PageDevice g.T.PageDevice) c.serve-status.new.engine.database _ _ _ _ opened.tells
+    (λ i. record { max = 256; pool = 128; mpl = 4; main_pages = main_pages i; temp_pages = temp_pages i }) status.Errors _ _ _ _ _ _ _ _ _ _
     (λ i. record { main = g.M.PageDevice.faults (opened.main i); temp = g.T.PageDevice.faults (opened.temp i); main_pages = g.M.PageDevice.pages (opened.main i); temp_pages = g.T.PageDevice.pages (opened.temp i) })
     (λ i. record { main = g.M.PageDevice.faults (sym c.close-main.ensures.main i); temp = g.T.PageDevice.faults (sym c.close-main.ensures.temp i); main_pages = g.M.PageDevice.pages (sym c.close-main.ensures.main i); temp_pages = g.T.PageDevice.pages (sym c.close-main.ensures.temp i) })
     (c.serve-status.ensures.errors is _ opened.start)
@@ -23,7 +29,10 @@ returns-in-Ok-clause-errors g c = λ is.
 pub returns-in-Ok-clause-source_fault_answers : goal.returns-in-Ok-clause-source_fault_answers
 returns-in-Ok-clause-source_fault_answers g c = λ is.
     let opened = c.in-Ok.ensures {u = tt} in
-    ends-over (IsEngineOf g.M.PageDevice g.T.PageDevice) c.serve-status.new.engine.database _ _ _ (c.min.ensures ∙ ap (λ n. min n 65536) c.limit.ensures) status.SourceFault _ _ _ _ _ _ _ _ _ _
+    let main_pages = c.min.ensures ∙ ap (λ n. min n 65536) c.limit.ensures in
+    let temp_pages = c.min-2.ensures ∙ ap (λ n. min n 1048576) c.limit-2.ensures in
+    ends-over (IsEngineOf g.M.PageDevice g.T.PageDevice) c.serve-status.new.engine.database _ _ _ _ opened.tells
+    (λ i. record { max = 256; pool = 128; mpl = 4; main_pages = main_pages i; temp_pages = temp_pages i }) status.SourceFault _ _ _ _ _ _ _ _ _ _
     (λ i. record { main = g.M.PageDevice.faults (opened.main i); temp = g.T.PageDevice.faults (opened.temp i); main_pages = g.M.PageDevice.pages (opened.main i); temp_pages = g.T.PageDevice.pages (opened.temp i) })
     (λ i. record { main = g.M.PageDevice.faults (sym c.close-main.ensures.main i); temp = g.T.PageDevice.faults (sym c.close-main.ensures.temp i); main_pages = g.M.PageDevice.pages (sym c.close-main.ensures.main i); temp_pages = g.T.PageDevice.pages (sym c.close-main.ensures.temp i) })
     (c.serve-status.ensures.source_fault_answers is _ opened.start)
@@ -31,7 +40,10 @@ returns-in-Ok-clause-source_fault_answers g c = λ is.
 pub returns-in-Ok-clause-sink_fault_answers : goal.returns-in-Ok-clause-sink_fault_answers
 returns-in-Ok-clause-sink_fault_answers g c = λ is.
     let opened = c.in-Ok.ensures {u = tt} in
-    ends-over (IsEngineOf g.M.PageDevice g.T.PageDevice) c.serve-status.new.engine.database _ _ _ (c.min.ensures ∙ ap (λ n. min n 65536) c.limit.ensures) status.SinkFault _ _ _ _ _ _ _ _ _ _
+    let main_pages = c.min.ensures ∙ ap (λ n. min n 65536) c.limit.ensures in
+    let temp_pages = c.min-2.ensures ∙ ap (λ n. min n 1048576) c.limit-2.ensures in
+    ends-over (IsEngineOf g.M.PageDevice g.T.PageDevice) c.serve-status.new.engine.database _ _ _ _ opened.tells
+    (λ i. record { max = 256; pool = 128; mpl = 4; main_pages = main_pages i; temp_pages = temp_pages i }) status.SinkFault _ _ _ _ _ _ _ _ _ _
     (λ i. record { main = g.M.PageDevice.faults (opened.main i); temp = g.T.PageDevice.faults (opened.temp i); main_pages = g.M.PageDevice.pages (opened.main i); temp_pages = g.T.PageDevice.pages (opened.temp i) })
     (λ i. record { main = g.M.PageDevice.faults (sym c.close-main.ensures.main i); temp = g.T.PageDevice.faults (sym c.close-main.ensures.temp i); main_pages = g.M.PageDevice.pages (sym c.close-main.ensures.main i); temp_pages = g.T.PageDevice.pages (sym c.close-main.ensures.temp i) })
     (c.serve-status.ensures.sink_fault_answers is _ opened.start)
@@ -39,7 +51,10 @@ returns-in-Ok-clause-sink_fault_answers g c = λ is.
 pub returns-in-Ok-clause-too_long : goal.returns-in-Ok-clause-too_long
 returns-in-Ok-clause-too_long g c = λ is.
     let opened = c.in-Ok.ensures {u = tt} in
-    ends-over (IsEngineOf g.M.PageDevice g.T.PageDevice) c.serve-status.new.engine.database _ _ _ (c.min.ensures ∙ ap (λ n. min n 65536) c.limit.ensures) status.TooLong _ _ _ _ _ _ _ _ _ _
+    let main_pages = c.min.ensures ∙ ap (λ n. min n 65536) c.limit.ensures in
+    let temp_pages = c.min-2.ensures ∙ ap (λ n. min n 1048576) c.limit-2.ensures in
+    ends-over (IsEngineOf g.M.PageDevice g.T.PageDevice) c.serve-status.new.engine.database _ _ _ _ opened.tells
+    (λ i. record { max = 256; pool = 128; mpl = 4; main_pages = main_pages i; temp_pages = temp_pages i }) status.TooLong _ _ _ _ _ _ _ _ _ _
     (λ i. record { main = g.M.PageDevice.faults (opened.main i); temp = g.T.PageDevice.faults (opened.temp i); main_pages = g.M.PageDevice.pages (opened.main i); temp_pages = g.T.PageDevice.pages (opened.temp i) })
     (λ i. record { main = g.M.PageDevice.faults (sym c.close-main.ensures.main i); temp = g.T.PageDevice.faults (sym c.close-main.ensures.temp i); main_pages = g.M.PageDevice.pages (sym c.close-main.ensures.main i); temp_pages = g.T.PageDevice.pages (sym c.close-main.ensures.temp i) })
     (c.serve-status.ensures.too_long is _ opened.start)

@@ -1,6 +1,6 @@
 use Rattle.std.proofs.Common.{subst}
-use Rattle.hg_machine.specs.Run.{Turn}
-use Rattle.hg_engine.specs.Shown.{space_of, IsSomeEngine, EngineSteps}
+use Rattle.hg_reply.specs.Steps.{ContinuesSo}
+use Rattle.hg_engine.specs.Shown.{space_of, tells_of, IsSomeEngine, EngineSteps}
 use Rattle.hg_engine.specs.Stepping.{TurnFinds}
 use Rattle.hg_engine.proofs.database.DatabaseMachine.more.Goals as goal
 
@@ -13,7 +13,7 @@ invariant_of-self g c =
 pub returns-clause-step : goal.returns-clause-step
 returns-clause-step g c =
     let step =
-    subst (λ k. EngineSteps g.M.PageDevice g.T.PageDevice k c.more.new.self c.more.new.reply Turn (λ now. TurnFinds (space_of g.M.PageDevice g.T.PageDevice k) k.tables))
+    subst (λ k. EngineSteps g.M.PageDevice g.T.PageDevice k c.more.new.self c.more.new.reply (ContinuesSo (tells_of g.M.PageDevice g.T.PageDevice k)) (λ now. TurnFinds (space_of g.M.PageDevice g.T.PageDevice k) k.tables))
     c.self.view_is c.more.ensures.turns
     in
     (step.lines, step.says, step.moves, step.full, step.damage)

@@ -1,5 +1,6 @@
 use Rattle.hg_pool.specs.Shown.{state_of}
 use Rattle.hg_engine.proofs.EngineSteps.{is-later}
+use Rattle.hg_engine.proofs.ReadLaws.{texts-shown}
 use Rattle.hg_engine.proofs.kept.Kept.insert.Goals as goal
 
 pub returns-clause-later : goal.returns-clause-later

@@ -10,8 +10,9 @@ invariant-loop-front g l = record {
   parts : l.fn.bytes ≡ done ++ l.rest;
   idle : g.E.Machine.pending l.engine ≡ false;
   serves : (first : g.row.E.Denot) (w : Moment) (taken : List ℕ)
-      → Serves g.E.Machine.stands first l.fn.engine w (moment (g.K.Sink.written l.fn.sink) (g.E.Machine.faults l.fn.engine) (g.E.Machine.said l.fn.engine)) l.fn.self taken
-      → Serves g.E.Machine.stands first l.engine w (moment (g.K.Sink.written l.sink) (g.E.Machine.faults l.engine) (g.E.Machine.said l.engine)) l.self (taken ++ done);
+      → Serves g.E.Machine.stands (g.E.Machine.tells l.fn.engine) first l.fn.engine w (moment (g.K.Sink.written l.fn.sink) (g.E.Machine.faults l.fn.engine) (g.E.Machine.said l.fn.engine)) l.fn.self taken
+      → Serves g.E.Machine.stands (g.E.Machine.tells l.fn.engine) first l.engine w (moment (g.K.Sink.written l.sink) (g.E.Machine.faults l.engine) (g.E.Machine.said l.engine)) l.self (taken ++ done);
+  tells_same : g.E.Machine.tells l.engine ≡ g.E.Machine.tells l.fn.engine;
   later : NoneFell (g.E.Machine.faults l.fn.engine) (g.E.Machine.faults l.engine);
   sink_same : g.K.Sink.faults l.sink ≡ g.K.Sink.faults l.fn.sink;
 }

@@ -1,0 +1,36 @@
+use Rattle.std.proofs.Common.{sym, subst}
+use Rattle.hg_reply.specs.Asked.{command_in, texts_in}
+use Rattle.hg_reply.specs.Steps.{BeginsSo}
+use Rattle.hg_reply.specs.declared.asked.CommandAt.{CommandAt}
+use Rattle.hg_engine.specs.Shown.{space_of, tells_of, EngineSteps}
+use Rattle.hg_engine.specs.Stepping.{CommandFinds}
+use Rattle.hg_engine.proofs.ReadLaws.{pool-range}
+use Rattle.hg_engine.proofs.kept.Kept.begin.Goals as goal
+
+pub returns-in-CreateTable-clause-step : goal.returns-in-CreateTable-clause-step
+returns-in-CreateTable-clause-step g c =
+    let old = c.args.self.now in
+    let P : CommandAt → Type 0 = λ k. EngineSteps g.M.PageDevice g.T.PageDevice old c.create.new.self c.create.new.reply
+    (BeginsSo (tells_of g.M.PageDevice g.T.PageDevice old) (command_in k) (texts_in c.args.asked.now)) (λ now. CommandFinds (space_of g.M.PageDevice g.T.PageDevice old) now (command_in k)) in
+    subst P (sym c.in-CreateTable.is) (c.create.ensures.step (texts_in c.args.asked.now))
+
+pub returns-in-Insert-clause-step : goal.returns-in-Insert-clause-step
+returns-in-Insert-clause-step g c =
+    let old = c.args.self.now in
+    let P : CommandAt → Type 0 = λ k. EngineSteps g.M.PageDevice g.T.PageDevice old c.insert.new.self c.insert.new.reply
+    (BeginsSo (tells_of g.M.PageDevice g.T.PageDevice old) (command_in k) (texts_in c.args.asked.now)) (λ now. CommandFinds (space_of g.M.PageDevice g.T.PageDevice old) now (command_in k)) in
+    subst P (sym c.in-Insert.is) c.insert.ensures.step
+
+pub returns-in-Select-clause-step : goal.returns-in-Select-clause-step
+returns-in-Select-clause-step g c =
+    let old = c.args.self.now in
+    let P : CommandAt → Type 0 = λ k. EngineSteps g.M.PageDevice g.T.PageDevice old c.select_all.new.self c.select_all.new.reply
+    (BeginsSo (tells_of g.M.PageDevice g.T.PageDevice old) (command_in k) (texts_in c.args.asked.now)) (λ now. CommandFinds (space_of g.M.PageDevice g.T.PageDevice old) now (command_in k)) in
+    subst P (sym c.in-Select.is) (c.select_all.ensures.step (texts_in c.args.asked.now))
+
+pub returns-in-Pool-clause-step : goal.returns-in-Pool-clause-step
+returns-in-Pool-clause-step g c =
+    let old = c.args.self.now in
+    let P : CommandAt → Type 0 = λ k. EngineSteps g.M.PageDevice g.T.PageDevice old c.resize.new.self c.resize.new.reply
+    (BeginsSo (tells_of g.M.PageDevice g.T.PageDevice old) (command_in k) (texts_in c.args.asked.now)) (λ now. CommandFinds (space_of g.M.PageDevice g.T.PageDevice old) now (command_in k)) in
+    subst P (sym c.in-Pool.is) (c.resize.ensures.step (texts_in c.args.asked.now))

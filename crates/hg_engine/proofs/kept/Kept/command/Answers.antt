@@ -1,6 +1,0 @@
-use Rattle.hg_engine.proofs.EngineSteps.{counted-steps}
-use Rattle.hg_engine.proofs.kept.Kept.command.Goals as goal
-
-pub returns-clause-step : goal.returns-clause-step
-returns-clause-step g c =
-    counted-steps g.M.PageDevice g.T.PageDevice c.args.self.now c.answer.new.self c.count.new.self c.answer.new.reply _ _ c.answer.ensures.step c.count.ensures.tables c.count.ensures.pool
