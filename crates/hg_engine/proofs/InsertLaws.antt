@@ -330,7 +330,7 @@ module _ (a b : Space) (old new : Tables) (i : InsertTree) (texts targets : List
     now-is : before ≡ now
     now-is = st.is ∙ ap (λ c. state_of a old.max old.mpl old.stamps c st.tables st.left) idle
 
-    at-k : FoundAt a old.stamps old.catalog.tables st.tables st.pages k
+    pub at-k : FoundAt a old.stamps old.catalog.tables st.tables st.pages k
     at-k = found-at a old.stamps old.catalog.tables st.tables st.pages k st.stand inside
 
     first : FirstAt (is_table i.table) st.tables k
@@ -560,7 +560,7 @@ module _ (s : Space) (old new : Tables) (i : InsertTree) (texts targets : List �
       → StepsTo s s old new (BeginsSo s.told (InsertRows i) texts) (refusal_line r ∷ [])
   insert-against r against = record {
     to = λ before st.
-        let e = at-k s s old old i texts targets k stamp old.stamps idle refl refl refl number inside unrefused targets_are before st in
+        let e = found-at s old.stamps old.catalog.tables st.tables st.pages k st.stand inside in
         let here : State = state_of s old.max old.mpl old.stamps None st.tables st.left in
         let here_is : before ≡ here = st.is ∙ ap (λ c. state_of s old.max old.mpl old.stamps c st.tables st.left) idle in
         let first : FirstAt (is_table i.table) st.tables k = number-first old.catalog st.tables i.table k st.stand.shape number in
