@@ -443,20 +443,21 @@ module _ (a b : Space) (old new : Tables) (i : InsertTree) (texts targets : List
         let few : length (added before st) ≤ length i.ends = omega (arith, count) in
         let here : State = now before st in
         let t : Table = f.table.table in
+        let to : State = after before st all.after (t.rows ++ added before st) p.now new.stamps (length (added before st)) p.grows later one few w all.moves.tables refl in
         let made' = inserts-made here texts i t refl (named before st) room (unrefused-here before st)
-        (after before st all.after (t.rows ++ added before st) p.now new.stamps (length (added before st)) p.grows later one few w all.moves.tables refl)
+        to
         (subst (λ l. rows_cause t.columns l ≡ None) (same-rows before st) (subst (λ cs. rows_cause cs (added before st) ≡ None) (same-columns before st) all.no_cause))
         (subst (λ l. Spends (done_allowance (insertion here texts i)) i.table (with_rows here i.table (t.rows ++ l))
-        (after before st all.after (t.rows ++ added before st) p.now new.stamps (length (added before st)) p.grows later one few w all.moves.tables refl)) (same-rows before st)
+        to) (same-rows before st)
         (spent-made before st all.after (t.rows ++ added before st) p.now new.stamps (length (added before st)) p.grows later one few w all.moves.tables refl
         (insertion here texts i).need.main 0 (insertion here texts i).versions
         (let e = needs-enough here texts i t refl (named before st) in omega (arith, e, few))
         (let e = versions-is here texts i t refl (named before st) in omega (arith, e, few)))) in
         let counted : length (rows_of_tuples texts t.columns (insert_targets t.columns i.columns) i.values i.ends) ≡ length i.ends = count-rows texts t.columns (insert_targets t.columns i.columns) i.values i.ends in (
-          after before st all.after (t.rows ++ added before st) p.now new.stamps (length (added before st)) p.grows later one few w all.moves.tables refl,
+          to,
           stands-after before st all.after (t.rows ++ added before st) p.now new.stamps (length (added before st)) p.grows later one few w all.moves.tables refl,
-          begins-same a.told (InsertRows i) texts before _ (rows (length i.ends) ∷ [])
-              (subst (λ s. Inserts s texts i (rows (length i.ends) ∷ []) _) (sym (now-is before st)) (subst (λ n. Inserts here texts i (rows n ∷ []) _) counted made')),
+          begins-same a.told (InsertRows i) texts before to (rows (length i.ends) ∷ [])
+              (subst (λ s. Inserts s texts i (rows (length i.ends) ∷ []) to) (sym (now-is before st)) (subst (λ n. Inserts here texts i (rows n ∷ []) to) counted made')),
         );
   }
 
@@ -476,14 +477,15 @@ module _ (a b : Space) (old new : Tables) (i : InsertTree) (texts targets : List
         let less = p.few in
         let few : length p.done ≤ length i.ends = omega (arith, count, less) in
         let here : State = now before st in
-        let spent : Spends (ended_allowance (insertion here texts i)) i.table here (after before st some.after e.table.table.rows p.puts.now mid (length p.done) p.puts.grows later one few w some.moves.tables uncommitted) =
+        let to : State = after before st some.after e.table.table.rows p.puts.now mid (length p.done) p.puts.grows later one few w some.moves.tables uncommitted in
+        let spent : Spends (ended_allowance (insertion here texts i)) i.table here to =
         spent-kept before st some.after e.table.table.rows p.puts.now mid (length p.done) p.puts.grows later one few w some.moves.tables uncommitted
         (insertion here texts i).need.main (insertion here texts i).need.temp (insertion here texts i).versions
         (let m = needs-enough here texts i e.table.table refl (named before st) in omega (arith, m, few))
         (let m = versions-is here texts i e.table.table refl (named before st) in omega (arith, m, few)) refl in (
-          after before st some.after e.table.table.rows p.puts.now mid (length p.done) p.puts.grows later one few w some.moves.tables uncommitted,
+          to,
           stands-after before st some.after e.table.table.rows p.puts.now mid (length p.done) p.puts.grows later one few w some.moves.tables uncommitted,
-          subst (λ s. BeginsSo a.told (InsertRows i) texts s (line_of f ∷ []) _) (sym (now-is before st)) (by-cause f before st _ (length (added before st)) count p.cause spent),
+          subst (λ s. BeginsSo a.told (InsertRows i) texts s (line_of f ∷ []) to) (sym (now-is before st)) (by-cause f before st to (length (added before st)) count p.cause spent),
         );
   }
     where

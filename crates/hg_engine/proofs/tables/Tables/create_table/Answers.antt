@@ -1,7 +1,7 @@
 use Rattle.std.proofs.Common.{[], ◌∷◌, ◌++◌, ◌≤◌, length, map, refl, sym, subst, ap, ◌∙◌, rules}
 use Rattle.hg_base.specs.SteadyLaws.{Later_same}
 use Rattle.hg_bind.specs.Bound.{error_of}
-use Rattle.hg_catalog.specs.Contents.{IsNewTable}
+use Rattle.hg_catalog.specs.Contents.{IsNewTable, table_number}
 use Rattle.hg_machine.specs.Plain.Refused.{refusal_line}
 use Rattle.hg_machine.specs.Plain.Replies.{created}
 use Rattle.hg_reply.specs.Asked.{table_at}
@@ -29,7 +29,7 @@ add_table-requires-clause-few c =
 pub add_table-requires-clause-free : goal.add_table-requires-clause-free
 add_table-requires-clause-free c =
     let free = is-free c.args.self.now.catalog (table_at c.args.table.now) (none-mapped error_of _ (sym c.refuse_columns.ensures ∙ c.in_default.is)) in
-    free-number c.args.self.now.catalog c.args.table.now.name.now free.unknown
+    ap (λ n. table_number c.args.self.now.catalog n) c.copy.ensures ∙ free-number c.args.self.now.catalog c.args.table.now.name.now free.unknown
 
 pub add_table-requires-clause-columns : goal.add_table-requires-clause-columns
 add_table-requires-clause-columns c =
@@ -45,7 +45,7 @@ returns-clause-step c =
       tells-one c.args.reply.now c.say.new.self created c.requires.empty c.requires.no_error c.say.ensures.text c.say.ensures.errors,
       (λ s. counted-plain s s created (Later_same s.counts) (record { main = refl; temp = refl; main_full = refl; temp_full = refl })),
       (λ s texts. create-made s c.args.self.now (table_at c.args.table.now) texts (record c.args.self.now { catalog = c.add_table.new.self }) none c.requires.plain c.requires.idle
-          (c.add_table.ensures.change ∙ ap (λ l. record old { tables = old.tables ++ record { name = c.args.table.now.name.now; columns = l; pages = no_pages } ∷ [] }) c.made_columns.ensures)
+          (c.add_table.ensures.change ∙ (λ i. record old { tables = old.tables ++ record { name = c.copy.ensures i; columns = c.made_columns.ensures i; pages = no_pages } ∷ [] }))
           refl refl refl refl),
       sound-line _ created refl,
     )

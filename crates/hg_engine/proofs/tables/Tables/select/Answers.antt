@@ -34,7 +34,7 @@ returns-then-declared_length-gt-ROW_BYTES-clause-step g c =
     let few = c.columns.ensures.fits.few_columns in
     let star = star-there old.catalog name e.0 named (subst (λ (l : List Column). length l ≤ 16) (sym e.2) few) in
     let long = c.if-declared_length-gt-ROW_BYTES.true in
-    let is : c.declared_length.result ≡ declared e.0.columns = c.declared_length.ensures ∙ ap declared (sym e.2) in (
+    let is : c.declared_length.result ≡ declared e.0.columns = c.declared_length.ensures ∙ ap declared c.as_slice.ensures.value ∙ ap declared (sym e.2) in (
       refusal_line RowTooLong ∷ [],
       tells-one c.args.reply.now c.say-then-declared_length-gt-ROW_BYTES.new.self (refusal_line RowTooLong) c.requires.empty c.requires.no_error
           c.say-then-declared_length-gt-ROW_BYTES.ensures.text c.say-then-declared_length-gt-ROW_BYTES.ensures.errors,
@@ -54,7 +54,7 @@ returns-clause-step g c =
     let few = c.columns.ensures.fits.few_columns in
     let star = star-there old.catalog name e.0 named (subst (λ (l : List Column). length l ≤ 16) (sym e.2) few) in
     let short = c.if-declared_length-gt-ROW_BYTES.false in
-    let is : c.declared_length.result ≡ declared e.0.columns = c.declared_length.ensures ∙ ap declared (sym e.2) in (
+    let is : c.declared_length.result ≡ declared e.0.columns = c.declared_length.ensures ∙ ap declared c.as_slice.ensures.value ∙ ap declared (sym e.2) in (
       [],
       tells-none c.args.reply.now c.requires.empty c.requires.no_error,
       counted-none a,
