@@ -16,7 +16,9 @@ use Rattle.hg_base.specs.declared.pages.PageFault.{PageFault}
 use Rattle.hg_base.specs.declared.pages.PageFault.TheVariants as fault
 use Rattle.hg_bind.specs.Bound.{table_of, tables_of}
 use Rattle.hg_catalog.specs.Contents.{Contents, CatalogTable, table_number, with_pages}
-use Rattle.hg_dml.specs.Inserting.{StandsAt, PutsAll, PutsPart, IsCause}
+use Rattle.hg_dml.specs.declared.insert.ChangeError.{ChangeError}
+use Rattle.hg_dml.specs.declared.insert.ChangeError.TheVariants as change
+use Rattle.hg_dml.specs.Inserting.{StandsAt, PutsAll, PutsPart, IsCause, OnFault, OnRefused}
 use Rattle.hg_dml.specs.Putting.{Grows, Puts, PutsSome, PutFault, FindsLast, table_mine}
 use Rattle.hg_dml.specs.Rows.{rows_of_tuples, rows_cause}
 use Rattle.hg_dml.specs.Seen.{seen_rows}
@@ -652,3 +654,10 @@ module _ (a b : Space) (old : Tables) (now : Contents) (i : InsertTree) (texts t
       let named : same_name there.entry.name i.table ≡ true =
       first-holds (λ (c : CatalogTable). same_name c.name i.table) old.catalog.tables k there.entry (position-first (λ (c : CatalogTable). same_name c.name i.table) old.catalog.tables k number) there.at_entry in
       finds f _ (with_ends there.entry some.after) at named p.cause p.found
+
+-- what is told of an error of a change that is of one kind
+pub at-fault : (e : ChangeError) (f : PageFault) (P : PageFault → Type 0) → e ≡ change.Fault f → OnFault P e → P f
+at-fault e f P is h = subst (OnFault P) is h
+
+pub at-refused : (e : ChangeError) (code : ℕ) (column : Option ℕ) (P : ℕ → Option ℕ → Type 0) → e ≡ change.Refused code column → OnRefused P e → P code column
+at-refused e code column P is h = subst (OnRefused P) is h

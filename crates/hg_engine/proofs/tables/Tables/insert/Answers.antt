@@ -1,10 +1,10 @@
-use Rattle.std.proofs.Common.{◌≡◌, [], ◌∷◌, ◌++◌, ◌||◌, ◌∙◌, ◌<◌, ◌^◌, List, length, map, Some, refl, sym, ap, subst, arith, slice_get}
+use Rattle.std.proofs.Common.{◌≡◌, [], ◌∷◌, ◌++◌, ◌||◌, ◌∙◌, ◌<◌, ◌^◌, ℕ, Option, List, length, map, Some, refl, sym, ap, subst, arith, slice_get}
 use Rattle.hg_base.specs.SteadyLaws.{Later_same}
 use Rattle.hg_base.specs.declared.pages.PageFault.{PageFault}
 use Rattle.hg_bind.specs.Bound.{error_of}
 use Rattle.hg_catalog.specs.Contents.{Contents, CatalogTable}
 use Rattle.hg_dml.specs.Inserting.{PutsAll, PutsPart, IsCause}
-use Rattle.hg_dml.specs.Rows.{Tells}
+use Rattle.hg_dml.specs.Rows.{Tells, rows_cause, rows_of_tuples}
 use Rattle.hg_machine.specs.Plain.Refused.{refusal_line}
 use Rattle.hg_machine.specs.Plain.Replies.{rows, line_text}
 use Rattle.hg_model.specs.Refusal.{StampsUsedUp}
@@ -12,11 +12,12 @@ use Rattle.hg_model.specs.declared.trees.Column.{Column}
 use Rattle.hg_reply.specs.Asked.{insert_at}
 use Rattle.hg_reply.specs.Steps.{BeginsSo}
 use Rattle.hg_table.specs.Marks.{last, Draws}
-use Rattle.hg_engine.specs.Stepping.{StepsTo, line_of}
+use Rattle.hg_engine.specs.Stepping.{StepsTo, CountedIn, line_of}
 use Rattle.hg_model.specs.Statements.{InsertRows}
-use Rattle.hg_engine.proofs.InsertLaws.{insert-misfit, insert-late, insert-done, insert-faulted, insert-against, stands-at, stands-over, done-same, part-same, part-counted, part-found}
-use Rattle.hg_engine.proofs.Lookups.{mapped-one}
+use Rattle.hg_engine.proofs.InsertLaws.{insert-misfit, insert-late, insert-done, insert-faulted, insert-against, stands-at, stands-over, done-same, part-same, part-counted, part-found, at-fault, at-refused}
+use Rattle.hg_engine.proofs.Lookups.{mapped-some}
 use Rattle.hg_engine.proofs.NewTables.{some-mapped}
+use Rattle.hg_engine.proofs.StandLaws.{some-one}
 use Rattle.hg_engine.proofs.Saying.{tells-one, counted-plain, refusal-quiet, sound-refusal, sound-line, error-of-fault, same-here}
 use Rattle.hg_engine.proofs.tables.Tables.insert.Goals as goal
 
@@ -112,8 +113,10 @@ returns-in-Err-Fault-clause-step g c =
     let placed = c.in-Ok.ensures {u = tt} in
     let drawn = (c.in-Some.ensures {u = tt}).drawn in
     let failed = c.in-Err-Fault.ensures {u = tt} in
+    let F : PageFault → Type 0 = λ fault. (t : CatalogTable) → slice_get c.draw.new.self.catalog.tables k ≡ Some t
+    → PutsPart a b c.draw.new.self.catalog now k s texts targets c.args.insert.now.values.now c.args.insert.now.ends.now fault t in
     let P : Contents → Type 0 = λ cat. (t : CatalogTable) → slice_get cat.tables k ≡ Some t → PutsPart a b cat now k s texts targets c.args.insert.now.values.now c.args.insert.now.ends.now f t in
-    let puts = subst P (d.catalog ∙ p.catalog) failed.fault in (
+    let puts = subst P (d.catalog ∙ p.catalog) (at-fault c.in-Err-Fault.field-0 f F c.in-Err-Fault.field-0-is failed.fault) in (
       line_of f ∷ [],
       tells-one c.args.reply.now c.say_fault.new.reply (line_of f) c.requires.empty c.requires.no_error c.say_fault.ensures.text
           (c.say_fault.ensures.errors ∙ ap (λ b. c.args.reply.now.has_error || b) (sym (error-of-fault f))),
@@ -132,12 +135,60 @@ returns-in-Err-Fault-clause-same g c =
     let k = c.in-Ok.table in
     let s = c.in-Some.stamp.0 in
     let f = c.in-Err-Fault.fault in
+    let F : PageFault → Type 0 = λ fault. (t : CatalogTable) → slice_get c.draw.new.self.catalog.tables k ≡ Some t
+    → PutsPart a b c.draw.new.self.catalog c.insert_rows.new.catalog k s c.args.texts.now c.as_slice.result.now c.args.insert.now.values.now c.args.insert.now.ends.now fault t in
     let P : Contents → Type 0 = λ cat. (t : CatalogTable) → slice_get cat.tables k ≡ Some t → PutsPart a b cat c.insert_rows.new.catalog k s c.args.texts.now c.as_slice.result.now c.args.insert.now.values.now c.args.insert.now.ends.now f t in
     part-same a b c.args.self.now c.insert_rows.new.catalog (insert_at c.args.insert.now) c.args.texts.now c.as_slice.result.now k s c.requires.stands.0 c.requires.stands.1
-    (c.in-Ok.ensures {u = tt}).inside f (subst P (c.draw.ensures.catalog ∙ c.place.ensures.catalog) (c.in-Err-Fault.ensures {u = tt}).fault)
+    (c.in-Ok.ensures {u = tt}).inside f (subst P (c.draw.ensures.catalog ∙ c.place.ensures.catalog) (at-fault c.in-Err-Fault.field-0 f F c.in-Err-Fault.field-0-is (c.in-Err-Fault.ensures {u = tt}).fault))
 
 pub say_cause-requires-clause-known : goal.say_cause-requires-clause-known
-say_cause-requires-clause-known g c = ?
+say_cause-requires-clause-known g c =
+    let e = mapped-some (λ (x : CatalogTable). x.columns) _ _ c.columns.ensures.value in
+    let failed = c.in-Err-Refused.ensures {u = tt} in
+    let U : ℕ → Option ℕ → Type 0 = λ code column. (c.insert_rows.new.space ≡ c.args.space.now) × (c.insert_rows.new.catalog ≡ c.draw.new.self.catalog) in
+    let C : ℕ → Option ℕ → Type 0 = λ code column. (t : CatalogTable) → slice_get c.draw.new.self.catalog.tables c.in-Ok.table ≡ Some t
+    → IsCause c.args.texts.now c.as_slice.result.now c.args.insert.now.values.now c.args.insert.now.ends.now code column t in
+    let untouched = at-refused c.in-Err-Refused.field-0 c.in-Err-Refused.code c.in-Err-Refused.column U c.in-Err-Refused.field-0-is failed.untouched in
+    let cause = at-refused c.in-Err-Refused.field-0 c.in-Err-Refused.code c.in-Err-Refused.column C c.in-Err-Refused.field-0-is failed.refused in
+    let there = ap (λ (x : Contents). slice_get x.tables c.in-Ok.table) (sym untouched.1) ∙ e.1 in
+    let it = cause e.0 there in
+    let T : List Column → Type 0 = λ cols. Tells cols c.in-Err-Refused.code c.in-Err-Refused.column it.refusal in
+    let told = subst T (e.2 ∙ sym c.as_slice-in-Err-Refused.ensures.value) it.told in
+    (it.refusal, told)
 
 pub returns-in-Err-Refused-clause-step : goal.returns-in-Err-Refused-clause-step
-returns-in-Err-Refused-clause-step g c = ?
+returns-in-Err-Refused-clause-step g c =
+    let a = g.S.Pages.state c.args.space.now in
+    let old = c.args.self.now in
+    let i = insert_at c.args.insert.now in
+    let k = c.in-Ok.table in
+    let s = c.in-Some.stamp.0 in
+    let p = c.place.ensures in
+    let d = c.draw.ensures in
+    let placed = c.in-Ok.ensures {u = tt} in
+    let drawn = (c.in-Some.ensures {u = tt}).drawn in
+    let new = record c.draw.new.self { catalog = c.insert_rows.new.catalog; stamps = c.insert_rows.new.stamps; row = c.insert_rows.new.row } in
+    let e = mapped-some (λ (x : CatalogTable). x.columns) _ _ c.columns.ensures.value in
+    let failed = c.in-Err-Refused.ensures {u = tt} in
+    let U : ℕ → Option ℕ → Type 0 = λ code column. (c.insert_rows.new.space ≡ c.args.space.now) × (c.insert_rows.new.catalog ≡ c.draw.new.self.catalog) in
+    let C : ℕ → Option ℕ → Type 0 = λ code column. (t : CatalogTable) → slice_get c.draw.new.self.catalog.tables c.in-Ok.table ≡ Some t
+    → IsCause c.args.texts.now c.as_slice.result.now c.args.insert.now.values.now c.args.insert.now.ends.now code column t in
+    let untouched = at-refused c.in-Err-Refused.field-0 c.in-Err-Refused.code c.in-Err-Refused.column U c.in-Err-Refused.field-0-is failed.untouched in
+    let cause = at-refused c.in-Err-Refused.field-0 c.in-Err-Refused.code c.in-Err-Refused.column C c.in-Err-Refused.field-0-is failed.refused in
+    let there = ap (λ (x : Contents). slice_get x.tables c.in-Ok.table) (sym untouched.1) ∙ e.1 in
+    let it = cause e.0 there in
+    let T : List Column → Type 0 = λ cols. Tells cols c.in-Err-Refused.code c.in-Err-Refused.column it.refusal in
+    let told = subst T (e.2 ∙ sym c.as_slice-in-Err-Refused.ensures.value) it.told in
+    let r = it.refusal in
+    let was = ap (λ (x : Contents). slice_get x.tables k) (sym (d.catalog ∙ p.catalog)) ∙ there in
+    let step = insert-against a old new i c.args.texts.now c.as_slice.result.now k s c.requires.idle (d.scan ∙ p.scan) (d.max ∙ p.max) (d.mpl ∙ p.mpl) (untouched.1 ∙ d.catalog ∙ p.catalog)
+    placed.number placed.inside placed.stands (c.as_slice.ensures.value ∙ ap (λ t. t.items) d.targets ∙ placed.targets)
+    (subst (λ m. Draws old.stamps m s) (sym failed.uncommitted) (subst (λ m. Draws m c.draw.new.self.stamps s) p.stamps drawn.0)) (subst (λ m. last m < 2 ^ 20) p.stamps drawn.1) r
+    (λ t ht. subst (λ (w : CatalogTable). rows_cause w.columns (rows_of_tuples c.args.texts.now w.columns c.as_slice.result.now c.args.insert.now.values.now c.args.insert.now.ends.now) ≡ Some r)
+    (some-one e.0 t (sym was ∙ ht)) it.first) in (
+      refusal_line r ∷ [],
+      tells-one c.args.reply.now c.say_cause.new.reply (refusal_line r) c.requires.empty c.requires.no_error (c.say_cause.ensures.text r told) c.say_cause.ensures.errors,
+      subst (λ sp. CountedIn a (g.S.Pages.state sp) (refusal_line r ∷ [])) (sym untouched.0) (counted-plain a a (refusal_line r) (Later_same a.counts) (refusal-quiet r)),
+      subst (λ sp. StepsTo a (g.S.Pages.state sp) old new (BeginsSo a.told (InsertRows i) c.args.texts.now) (refusal_line r ∷ [])) (sym untouched.0) step,
+      sound-refusal _ r,
+    )
