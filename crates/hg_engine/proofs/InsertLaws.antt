@@ -16,7 +16,9 @@ use Rattle.hg_base.specs.declared.pages.PageFault.{PageFault}
 use Rattle.hg_base.specs.declared.pages.PageFault.TheVariants as fault
 use Rattle.hg_bind.specs.Bound.{table_of, tables_of}
 use Rattle.hg_catalog.specs.Contents.{Contents, CatalogTable, table_number, with_pages}
-use Rattle.hg_dml.specs.Inserting.{StandsAt, PutsAll, PutsPart, IsCause}
+use Rattle.hg_dml.specs.declared.insert.ChangeError.{ChangeError}
+use Rattle.hg_dml.specs.declared.insert.ChangeError.TheVariants as change
+use Rattle.hg_dml.specs.Inserting.{StandsAt, PutsAll, PutsPart, IsCause, OnFault, OnRefused}
 use Rattle.hg_dml.specs.Putting.{Grows, Puts, PutsSome, PutFault, FindsLast, table_mine}
 use Rattle.hg_dml.specs.Rows.{rows_of_tuples, rows_cause}
 use Rattle.hg_dml.specs.Seen.{seen_rows}
@@ -330,7 +332,7 @@ module _ (a b : Space) (old new : Tables) (i : InsertTree) (texts targets : List
     now-is : before ≡ now
     now-is = st.is ∙ ap (λ c. state_of a old.max old.mpl old.stamps c st.tables st.left) idle
 
-    at-k : FoundAt a old.stamps old.catalog.tables st.tables st.pages k
+    pub at-k : FoundAt a old.stamps old.catalog.tables st.tables st.pages k
     at-k = found-at a old.stamps old.catalog.tables st.tables st.pages k st.stand inside
 
     first : FirstAt (is_table i.table) st.tables k
@@ -443,20 +445,21 @@ module _ (a b : Space) (old new : Tables) (i : InsertTree) (texts targets : List
         let few : length (added before st) ≤ length i.ends = omega (arith, count) in
         let here : State = now before st in
         let t : Table = f.table.table in
+        let to : State = after before st all.after (t.rows ++ added before st) p.now new.stamps (length (added before st)) p.grows later one few w all.moves.tables refl in
         let made' = inserts-made here texts i t refl (named before st) room (unrefused-here before st)
-        (after before st all.after (t.rows ++ added before st) p.now new.stamps (length (added before st)) p.grows later one few w all.moves.tables refl)
+        to
         (subst (λ l. rows_cause t.columns l ≡ None) (same-rows before st) (subst (λ cs. rows_cause cs (added before st) ≡ None) (same-columns before st) all.no_cause))
         (subst (λ l. Spends (done_allowance (insertion here texts i)) i.table (with_rows here i.table (t.rows ++ l))
-        (after before st all.after (t.rows ++ added before st) p.now new.stamps (length (added before st)) p.grows later one few w all.moves.tables refl)) (same-rows before st)
+        to) (same-rows before st)
         (spent-made before st all.after (t.rows ++ added before st) p.now new.stamps (length (added before st)) p.grows later one few w all.moves.tables refl
         (insertion here texts i).need.main 0 (insertion here texts i).versions
         (let e = needs-enough here texts i t refl (named before st) in omega (arith, e, few))
         (let e = versions-is here texts i t refl (named before st) in omega (arith, e, few)))) in
         let counted : length (rows_of_tuples texts t.columns (insert_targets t.columns i.columns) i.values i.ends) ≡ length i.ends = count-rows texts t.columns (insert_targets t.columns i.columns) i.values i.ends in (
-          after before st all.after (t.rows ++ added before st) p.now new.stamps (length (added before st)) p.grows later one few w all.moves.tables refl,
+          to,
           stands-after before st all.after (t.rows ++ added before st) p.now new.stamps (length (added before st)) p.grows later one few w all.moves.tables refl,
-          begins-same a.told (InsertRows i) texts before _ (rows (length i.ends) ∷ [])
-              (subst (λ s. Inserts s texts i (rows (length i.ends) ∷ []) _) (sym (now-is before st)) (subst (λ n. Inserts here texts i (rows n ∷ []) _) counted made')),
+          begins-same a.told (InsertRows i) texts before to (rows (length i.ends) ∷ [])
+              (subst (λ s. Inserts s texts i (rows (length i.ends) ∷ []) to) (sym (now-is before st)) (subst (λ n. Inserts here texts i (rows n ∷ []) to) counted made')),
         );
   }
 
@@ -476,14 +479,15 @@ module _ (a b : Space) (old new : Tables) (i : InsertTree) (texts targets : List
         let less = p.few in
         let few : length p.done ≤ length i.ends = omega (arith, count, less) in
         let here : State = now before st in
-        let spent : Spends (ended_allowance (insertion here texts i)) i.table here (after before st some.after e.table.table.rows p.puts.now mid (length p.done) p.puts.grows later one few w some.moves.tables uncommitted) =
+        let to : State = after before st some.after e.table.table.rows p.puts.now mid (length p.done) p.puts.grows later one few w some.moves.tables uncommitted in
+        let spent : Spends (ended_allowance (insertion here texts i)) i.table here to =
         spent-kept before st some.after e.table.table.rows p.puts.now mid (length p.done) p.puts.grows later one few w some.moves.tables uncommitted
         (insertion here texts i).need.main (insertion here texts i).need.temp (insertion here texts i).versions
         (let m = needs-enough here texts i e.table.table refl (named before st) in omega (arith, m, few))
         (let m = versions-is here texts i e.table.table refl (named before st) in omega (arith, m, few)) refl in (
-          after before st some.after e.table.table.rows p.puts.now mid (length p.done) p.puts.grows later one few w some.moves.tables uncommitted,
+          to,
           stands-after before st some.after e.table.table.rows p.puts.now mid (length p.done) p.puts.grows later one few w some.moves.tables uncommitted,
-          subst (λ s. BeginsSo a.told (InsertRows i) texts s (line_of f ∷ []) _) (sym (now-is before st)) (by-cause f before st _ (length (added before st)) count p.cause spent),
+          subst (λ s. BeginsSo a.told (InsertRows i) texts s (line_of f ∷ []) to) (sym (now-is before st)) (by-cause f before st to (length (added before st)) count p.cause spent),
         );
   }
     where
@@ -560,7 +564,7 @@ module _ (s : Space) (old new : Tables) (i : InsertTree) (texts targets : List �
       → StepsTo s s old new (BeginsSo s.told (InsertRows i) texts) (refusal_line r ∷ [])
   insert-against r against = record {
     to = λ before st.
-        let e = at-k s s old old i texts targets k stamp old.stamps idle refl refl refl number inside unrefused targets_are before st in
+        let e = found-at s old.stamps old.catalog.tables st.tables st.pages k st.stand inside in
         let here : State = state_of s old.max old.mpl old.stamps None st.tables st.left in
         let here_is : before ≡ here = st.is ∙ ap (λ c. state_of s old.max old.mpl old.stamps c st.tables st.left) idle in
         let first : FirstAt (is_table i.table) st.tables k = number-first old.catalog st.tables i.table k st.stand.shape number in
@@ -650,3 +654,10 @@ module _ (a b : Space) (old : Tables) (now : Contents) (i : InsertTree) (texts t
       let named : same_name there.entry.name i.table ≡ true =
       first-holds (λ (c : CatalogTable). same_name c.name i.table) old.catalog.tables k there.entry (position-first (λ (c : CatalogTable). same_name c.name i.table) old.catalog.tables k number) there.at_entry in
       finds f _ (with_ends there.entry some.after) at named p.cause p.found
+
+-- what is told of an error of a change that is of one kind
+pub at-fault : (e : ChangeError) (f : PageFault) (P : PageFault → Type 0) → e ≡ change.Fault f → OnFault P e → P f
+at-fault e f P is h = subst (OnFault P) is h
+
+pub at-refused : (e : ChangeError) (code : ℕ) (column : Option ℕ) (P : ℕ → Option ℕ → Type 0) → e ≡ change.Refused code column → OnRefused P e → P code column
+at-refused e code column P is h = subst (OnRefused P) is h

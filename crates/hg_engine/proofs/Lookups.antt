@@ -1,6 +1,6 @@
 -- Tables by their names: what is found in a catalog is found in a state with the same tables, whatever rows
 -- they have.
-use Rattle.std.specs.Prelude.{◌≡◌, ℕ, zero, suc, ◌+◌, ◌<◌, ◌≤◌, nat_lt, Bool, true, false, List, [], ◌∷◌, Option, Some, None, is_some, map, length, option_map, slice_get, slice_set, position, if◌then◌else◌, not}
+use Rattle.std.specs.Prelude.{◌≡◌, ℕ, zero, suc, ◌+◌, ◌<◌, ◌≤◌, nat_lt, Bool, true, false, List, [], ◌∷◌, Option, Some, None, is_some, map, length, option_map, slice_get, slice_set, position, if◌then◌else◌, not, unwrap_or}
 use Rattle.std.specs.List.{find, position_or_len, AllByRecursion}
 use Rattle.std.proofs.Common.{sym, ◌∙◌, ap, subst, refl, arith, cond}
 use Rattle.std.proofs.lemmas.Bool.{false≢true}
@@ -81,6 +81,29 @@ none-named (c ∷ cs) name h = ap (λ b. if b then Some (table_of c) else table_
 -- no number, no table
 pub number-none : (c : Contents) (name : List ℕ) → table_number c name ≡ None → table_named (tables_of c) name ≡ None
 number-none c name e = none-named c.tables name (position-none (λ (t : CatalogTable). same_name t.name name) c.tables e)
+
+-- the table that a number names
+first-entry : (cs : List CatalogTable) (name : List ℕ) (k : ℕ) (c : CatalogTable) → FirstAt (λ (d : CatalogTable). same_name d.name name) cs k → slice_get cs k ≡ Some c
+    → table_named (map table_of cs) name ≡ Some (table_of c)
+first-entry [] name k c h at = absurd h
+first-entry (d ∷ ds) name zero c h at = ap (λ b. if b then Some (table_of d) else table_named (map table_of ds) name) h ∙ ap (λ (x : CatalogTable). Some (table_of x)) (let same : d ≡ c = cc in same)
+first-entry (d ∷ ds) name (suc k) c h at = ap (λ b. if b then Some (table_of d) else table_named (map table_of ds) name) h.0 ∙ first-entry ds name k c h.1 at
+
+pub number-entry : (c : Contents) (name : List ℕ) (k : ℕ) (e : CatalogTable) → table_number c name ≡ Some k → slice_get c.tables k ≡ Some e
+    → table_named (tables_of c) name ≡ Some (table_of e)
+number-entry c name k e number at = first-entry c.tables name k e (position-first (λ (d : CatalogTable). same_name d.name name) c.tables k number) at
+
+-- what is told of an element, and what it is
+pub mapped-some : {X Y : Type 0} (f : X → Y) (o : Option X) (y : Y) → option_map f o ≡ Some y → (x : X) × (o ≡ Some x) × (f x ≡ y)
+mapped-some f None y h = absurd (none-some y h)
+mapped-some f (Some x) y h = (x, refl, ap (λ o. unwrap_or o (f x)) h)
+
+pub mapped-one : {X Y : Type 0} (f : X → Y) (o : Option X) (x : X) (y : Y) → o ≡ Some x → option_map f o ≡ Some y → y ≡ f x
+mapped-one f o x y is h = ap (λ p. unwrap_or p y) (sym h ∙ ap (option_map f) is)
+
+pub no-one : {X : Type 0} (o : Option X) → is_some o ≡ false → o ≡ None
+no-one None h = refl
+no-one (Some x) h = absurd (false≢true (sym h))
 
 -- the table of the number that a catalog gives is the first of its name in the state too
 pub number-first : (c : Contents) (tables : List TableState) (name : List ℕ) (k : ℕ) → map rowless tables ≡ map table_of c.tables

@@ -18,7 +18,7 @@ use Rattle.hg_reply.specs.Steps.{BeginsSo}
 use Rattle.hg_table.specs.Calls.{none_mine, TakesNone}
 use Rattle.hg_engine.specs.Scanning.{ScanFault}
 use Rattle.hg_engine.specs.Standing.{Stands, state_of}
-use Rattle.hg_engine.specs.Stepping.{TablesAre, StepsTo, line_of}
+use Rattle.hg_engine.specs.Stepping.{TablesAre, StepsTo, IsSameSpace, line_of}
 use Rattle.hg_engine.specs.declared.tables.Tables.{Tables}
 use Rattle.hg_engine.proofs.PageLaws.{none-lent-still}
 use Rattle.hg_engine.proofs.StandLaws.{tables-stay, stays-still, stays-resized}
@@ -119,3 +119,13 @@ drops s x y catalog stamps scan max mpl before st =
 -- as many frames are reserved as the pool may have
 pub reserved : (s : Space) (x : Tables) (n : ℕ) (state : State) → TablesAre s x state → n ≤ x.max → n ≤ s.heaps.cap 0
 reserved s x n state st few = let m = st.most in omega (arith, m, few)
+
+-- another number of frames changes nothing else of the space
+pub resized-same : (a b : Space) (n : ℕ) → b ≡ with_current a n → NoPins a → Later a.counts b.counts → IsSameSpace a b
+resized-same a b n is pins later = record {
+  told = ap (λ (s : Space). s.told) is;
+  limit = ap (λ (s : Space). s.limit) is;
+  device_limit = ap (λ (s : Space). s.device_limit) is;
+  pins = subst NoPins (sym is) (record { none_out = pins.none_out; not_pinned = pins.not_pinned });
+  later = later;
+}

@@ -4,7 +4,7 @@ use Rattle.std.proofs.Common.{sym, ◌∙◌, ap, subst, refl, arith}
 use Rattle.std.proofs.lemmas.Bool.{false≢true}
 use Rattle.std.proofs.lemmas.List.{append-nil}
 use Rattle.hg_base.specs.Space.{Space, NoPins}
-use Rattle.hg_base.specs.Causes.{Later, Rose, MainFailed, TempFailed}
+use Rattle.hg_base.specs.Causes.{Later, Rose, MainFailed, TempFailed, PinFault}
 use Rattle.hg_base.specs.Steadiness.{Mine, Steady}
 use Rattle.hg_base.specs.SteadyLaws.{Later_same}
 use Rattle.hg_base.specs.declared.Check.{Check}
@@ -150,19 +150,19 @@ sound-refusal found r = sound-line found (refusal_line r) (refusal-sound r)
 
 main-says : (more : List ReplyLine) → Says more 0 0 0 0 → Says (line_of fault.MainFault ∷ more) 1 0 0 0
 unfolding code_lines
-main-says more q = record { main = ap (λ n. 1 + n) q.main; temp = q.temp; main_full = q.main_full; temp_full = q.temp_full }
+main-says more q = record { main = ap (λ n. 1 + n) q.main; temp = ap (λ n. 0 + n) q.temp; main_full = ap (λ n. 0 + n) q.main_full; temp_full = ap (λ n. 0 + n) q.temp_full }
 
 temp-says : (more : List ReplyLine) → Says more 0 0 0 0 → Says (line_of fault.TempFault ∷ more) 0 1 0 0
 unfolding code_lines
-temp-says more q = record { main = q.main; temp = ap (λ n. 1 + n) q.temp; main_full = q.main_full; temp_full = q.temp_full }
+temp-says more q = record { main = ap (λ n. 0 + n) q.main; temp = ap (λ n. 1 + n) q.temp; main_full = ap (λ n. 0 + n) q.main_full; temp_full = ap (λ n. 0 + n) q.temp_full }
 
 full-says : (more : List ReplyLine) → Says more 0 0 0 0 → Says (line_of fault.MainFull ∷ more) 0 0 1 0
 unfolding code_lines
-full-says more q = record { main = q.main; temp = q.temp; main_full = ap (λ n. 1 + n) q.main_full; temp_full = q.temp_full }
+full-says more q = record { main = ap (λ n. 0 + n) q.main; temp = ap (λ n. 0 + n) q.temp; main_full = ap (λ n. 1 + n) q.main_full; temp_full = ap (λ n. 0 + n) q.temp_full }
 
 damaged-says : (page : PageId) (check : Check) (more : List ReplyLine) → Says more 0 0 0 0 → Says (line_of (fault.Damaged page check) ∷ more) 0 0 0 0
 unfolding code_lines
-damaged-says page check more q = record { main = q.main; temp = q.temp; main_full = q.main_full; temp_full = q.temp_full }
+damaged-says page check more q = record { main = ap (λ n. 0 + n) q.main; temp = ap (λ n. 0 + n) q.temp; main_full = ap (λ n. 0 + n) q.main_full; temp_full = ap (λ n. 0 + n) q.temp_full }
 
 main-counted : (a b : Space) (lines : List ReplyLine) → Later a.counts b.counts → MainFailed a.counts b.counts → Says lines 1 0 0 0 → CountedIn a b lines
 main-counted a b lines later h says = record {
@@ -192,6 +192,22 @@ put-counted a b n fault.TempFault later h = temp-counted a b _ later h (temp-say
 put-counted a b n fault.MainFull later h = full-counted a b _ later h.1 (full-says [] none-says)
 put-counted a b n fault.TempFull later h = absurd h
 put-counted a b n (fault.Damaged page check) later h = quiet-counted a b _ later (damaged-says page check [] none-says)
+
+-- a look that failed, with no line behind its own
+pub look-counted : (a b : Space) (f : PageFault) → Later a.counts b.counts → ScanFault a b f → CountedIn a b (line_of f ∷ [])
+look-counted a b fault.MainFault later h = main-counted a b _ later h (main-says [] none-says)
+look-counted a b fault.TempFault later h = temp-counted a b _ later h (temp-says [] none-says)
+look-counted a b fault.MainFull later h = absurd h
+look-counted a b fault.TempFull later h = absurd h
+look-counted a b (fault.Damaged page check) later h = quiet-counted a b _ later (damaged-says page check [] none-says)
+
+-- the line of a pin that failed tells of no damage
+pub pin-sound : (found : Findings) (f : PageFault) → PinFault f → TellOnlyFound found (line_of f ∷ [])
+pin-sound found fault.MainFault h = sound-line found (line_of fault.MainFault) refl
+pin-sound found fault.TempFault h = sound-line found (line_of fault.TempFault) refl
+pin-sound found fault.MainFull h = absurd h
+pin-sound found fault.TempFull h = absurd h
+pin-sound found (fault.Damaged page check) h = absurd h
 
 closed-says : Says (closed None ∷ []) 0 0 0 0
 closed-says = says-quiet (closed None) (record { main = refl; temp = refl; main_full = refl; temp_full = refl })

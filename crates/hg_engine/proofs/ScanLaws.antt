@@ -39,7 +39,7 @@ use Rattle.hg_table.specs.Calls.{none_mine, TakesNone, HasWay, LookFault, NamesO
 use Rattle.hg_table.specs.Chains.{IsChain}
 use Rattle.hg_engine.specs.Scanning.{Position, IsScan, Finds, GoesOn, ScanFault, IsScanCheck}
 use Rattle.hg_engine.specs.Standing.{TableStands, TablesStand, HasLeft, ScanStands, LeftStands, Stands, state_of, keyless, rowless, cursor_with}
-use Rattle.hg_engine.specs.Stars.{star_of, from_one, star_cause}
+use Rattle.hg_engine.specs.Stars.{star_of, from_one, star_cause, declared}
 use Rattle.hg_engine.specs.Stepping.{TablesAre, StepsTo, TurnFinds, IsScanned, line_of}
 use Rattle.hg_engine.specs.declared.next.Found.{Found}
 use Rattle.hg_engine.specs.declared.scan.Scan.{Scan}
@@ -81,6 +81,30 @@ versions-few s c pages versions table =
     let few : length pages ≤ taken_in s Main = AreDistinctPages-few s.taken Main (s.limit Main) pages table.chain.line.taken in
     let same : length versions ≡ length (in_pages table.held pages) = ap length table.listed in
     omega arith
+
+-- ---- what stands against the star over a table that is there, or not
+
+pub star-unknown : (c : Contents) (name : List ℕ) → table_named (tables_of c) name ≡ None
+    → (length (columns_of (table_named (tables_of c) name)) ≤ 16)
+    × (star_cause name (is_some (table_named (tables_of c) name)) (columns_of (table_named (tables_of c) name)) ≡ Some (Rattle.hg_model.specs.Refusal.UnknownTable name))
+star-unknown c name none = (
+  subst (λ (o : Option Table). length (columns_of o) ≤ 16) (sym none) (omega arith),
+  ap (λ (o : Option Table). star_cause name (is_some o) (columns_of o)) none,
+)
+
+pub star-there : (c : Contents) (name : List ℕ) (e : CatalogTable) → table_named (tables_of c) name ≡ Some (table_of e) → length e.columns ≤ 16
+    → (length (columns_of (table_named (tables_of c) name)) ≤ 16)
+    × (star_cause name (is_some (table_named (tables_of c) name)) (columns_of (table_named (tables_of c) name)) ≡ (if nat_lt 3900 (declared e.columns) then Some Rattle.hg_model.specs.Refusal.RowTooLong else None))
+star-there c name e named few = (
+  subst (λ (o : Option Table). length (columns_of o) ≤ 16) (sym named) few,
+  ap (λ (o : Option Table). star_cause name (is_some o) (columns_of o)) named,
+)
+
+pub too-long : (n : ℕ) → 3900 < n → (if nat_lt 3900 n then Some Rattle.hg_model.specs.Refusal.RowTooLong else None) ≡ Some Rattle.hg_model.specs.Refusal.RowTooLong
+too-long n h = let yes : nat_lt 3900 n ≡ true = grind (arith, nat_tests) in ap (λ b. if b then Some Rattle.hg_model.specs.Refusal.RowTooLong else None) yes
+
+pub not-long : (n : ℕ) → n ≤ 3900 → (if nat_lt 3900 n then Some Rattle.hg_model.specs.Refusal.RowTooLong else None) ≡ None
+not-long n h = let off : nat_lt 3900 n ≡ false = grind (arith, nat_tests) in ap (λ b. if b then Some Rattle.hg_model.specs.Refusal.RowTooLong else None) off
 
 -- ---- a SELECT begins
 

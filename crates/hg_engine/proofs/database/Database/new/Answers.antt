@@ -1,6 +1,7 @@
 use Rattle.std.proofs.Common.{ap, arith, ◌∙◌}
 use Rattle.hg_base.specs.Space.{Space}
 use Rattle.hg_base.specs.declared.File.TheVariants.{Main}
+use Rattle.hg_pool.specs.Disks.{disk_of}
 use Rattle.hg_pool.specs.Shown.{state_of}
 use Rattle.hg_engine.proofs.FirstPage.{opened}
 use Rattle.hg_engine.proofs.database.Database.new.Goals as goal
@@ -17,7 +18,7 @@ returns-clause-start g c =
     let a = state_of g.M.PageDevice g.T.PageDevice c.in-Ok-new.pool in
     let b = state_of g.M.PageDevice g.T.PageDevice c.take_first.new.pool in
     let made = c.in-Ok.ensures {u = tt} in
-    opened a b c.in-Ok.tables c.args.config.now _ c.take_first.ensures.taken (c.in-Ok-new.ensures {u = tt}).start c.requires.some_request
+    opened a b c.in-Ok.tables c.args.config.now (record { main = disk_of g.M.PageDevice c.args.main; temp = disk_of g.T.PageDevice c.args.temp }) c.take_first.ensures.taken (c.in-Ok-new.ensures {u = tt}).start c.requires.some_request
     (let least = c.requires.main_least in omega (arith, least)) made.catalog made.stamps made.scan made.max made.mpl
 
 pub returns-clause-tells : goal.returns-clause-tells
@@ -29,6 +30,6 @@ invariant_of-result g c =
     let b = state_of g.M.PageDevice g.T.PageDevice c.take_first.new.pool in
     let made = c.in-Ok.ensures {u = tt} in (
       _,
-      opened a b c.in-Ok.tables c.args.config.now _ c.take_first.ensures.taken (c.in-Ok-new.ensures {u = tt}).start c.requires.some_request
+      opened a b c.in-Ok.tables c.args.config.now (record { main = disk_of g.M.PageDevice c.args.main; temp = disk_of g.T.PageDevice c.args.temp }) c.take_first.ensures.taken (c.in-Ok-new.ensures {u = tt}).start c.requires.some_request
           (let least = c.requires.main_least in omega (arith, least)) made.catalog made.stamps made.scan made.max made.mpl,
     )

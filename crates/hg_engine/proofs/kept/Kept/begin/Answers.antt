@@ -1,5 +1,5 @@
 use Rattle.std.proofs.Common.{sym, subst}
-use Rattle.hg_reply.specs.Asked.{command_in, texts_in}
+use Rattle.hg_reply.specs.Asked.{command_in, texts_in, IsReadAs}
 use Rattle.hg_reply.specs.Steps.{BeginsSo}
 use Rattle.hg_reply.specs.declared.asked.CommandAt.{CommandAt}
 use Rattle.hg_engine.specs.Shown.{space_of, tells_of, EngineSteps}
@@ -34,3 +34,13 @@ returns-in-Pool-clause-step g c =
     let P : CommandAt → Type 0 = λ k. EngineSteps g.M.PageDevice g.T.PageDevice old c.resize.new.self c.resize.new.reply
     (BeginsSo (tells_of g.M.PageDevice g.T.PageDevice old) (command_in k) (texts_in c.args.asked.now)) (λ now. CommandFinds (space_of g.M.PageDevice g.T.PageDevice old) now (command_in k)) in
     subst P (sym c.in-Pool.is) (c.resize.ensures.step (texts_in c.args.asked.now))
+
+pub resize-requires-clause-at_least : goal.resize-requires-clause-at_least
+resize-requires-clause-at_least g c =
+    (pool-range c.args.self.now.tables.max c.in-Pool.frames (texts_in c.args.asked.now)
+    (subst (λ k. IsReadAs c.args.self.now.tables.max (command_in k) (texts_in c.args.asked.now)) c.in-Pool.is c.requires.read)).0
+
+pub resize-requires-clause-at_most : goal.resize-requires-clause-at_most
+resize-requires-clause-at_most g c =
+    (pool-range c.args.self.now.tables.max c.in-Pool.frames (texts_in c.args.asked.now)
+    (subst (λ k. IsReadAs c.args.self.now.tables.max (command_in k) (texts_in c.args.asked.now)) c.in-Pool.is c.requires.read)).1
