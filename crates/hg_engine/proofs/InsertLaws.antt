@@ -323,7 +323,6 @@ module _ (a b : Space) (old new : Tables) (i : InsertTree) (texts targets : List
     (unrefused : insert_refusal (tables_of old.catalog) i ≡ None)
     (targets_are : targets ≡ insert_targets (columns_of (table_named (tables_of old.catalog) i.table)) i.columns)
     (draws : Draws old.stamps mid stamp) (room : last old.stamps < 2 ^ 20) where
-
   -- what is known of the state before
   module _ (before : State) (st : TablesAre a old before) where
     abbrev now : State

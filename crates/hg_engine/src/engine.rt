@@ -1,9 +1,7 @@
 //! The engine over two devices.
 use crate::database::{Database, Devices};
 use hg_io::PageDevice;
-
 use hg_pool::Config;
-
 use std::alloc::Global;
 
 /// An engine over two devices. It takes memory only when it is made, and must be spent by `close`.
