@@ -10,6 +10,9 @@ use hg_base::{File, PageFault, Pages, Tree};
 /// refused or not, and needs no memory. No pin is out when it is called. A key has at most 512 bytes
 /// where it is stored.
 ///
+/// What a caller holds between calls is one relation (`IsReady`), which each call keeps, refused or not: no
+/// pin is out, the tree has its line of pages, and where the space tells, it is a tree.
+///
 /// Over a space that does not tell its bytes each call is safe and ends. What it finds damaged then it
 /// answers as [`PageFault::Damaged`], with the page and what was wrong: `Kind` and `Size` of a page that
 /// is no page of a tree, `Level` of one whose level does not fit its place in the tree or that cannot be
@@ -28,6 +31,7 @@ pub trait TreeCalls {
     ghost use Rattle.hg_btree.specs.Deleting.{Deletes, pages_mine};
     ghost use Rattle.hg_btree.specs.Steps.{Looks, LookFault, GrowFault};
     ghost use Rattle.hg_btree.specs.Growing.{Inserts, LineGrows, most_pages};
+    ghost use Rattle.hg_btree.specs.Kept.{IsReady};
 
     // where the tree stands
     ghost stands: { Self → TreeOf };
@@ -50,6 +54,8 @@ pub trait TreeCalls {
         ensures line { (pages : List ℕ)
             → IsLine (stands self.old).file (S.state space.old) (Some (stands self.old).top) pages
             → LineGrows (stands self.old).file (S.state space.old) (S.state space.new) (stands self.old).top pages }
+        ensures ready { IsReady (S.state space.old) (stands self.old)
+            → IsReady (S.state space.new) (stands self.old) }
         ensures same { stands self.new ≡ stands self.old }
         ensures cause { HasCause (S.state space.old) (S.state space.new) (fault_of result) }
         ensures fault { IfErr result (GrowFault (stands self.old).file (S.state space.new)) };
@@ -71,6 +77,8 @@ pub trait TreeCalls {
         ensures line { (pages : List ℕ)
             → IsLine (stands self.old).file (S.state space.old) (Some (stands self.old).top) pages
             → IsLine (stands self.old).file (S.state space.new) (Some (stands self.old).top) pages }
+        ensures ready { IsReady (S.state space.old) (stands self.old)
+            → IsReady (S.state space.new) (stands self.old) }
         ensures same { stands self.new ≡ stands self.old }
         ensures err { OnErr result (Looks (S.state space.old) (S.state space.new)) }
         ensures cause { HasCause (S.state space.old) (S.state space.new) (fault_of result) }
@@ -92,6 +100,8 @@ pub trait TreeCalls {
             → IsTree (stands self.now).file (S.state space.old) (stands self.now).top es pages leaves
             → IsFirst es (record { key = key.now; place = at; child = 0 }) found out.new.items) }
         ensures looks { Looks (S.state space.old) (S.state space.new) }
+        ensures ready { IsReady (S.state space.old) (stands self.now)
+            → IsReady (S.state space.new) (stands self.now) }
         ensures cause { HasCause (S.state space.old) (S.state space.new) (fault_of result) }
         ensures fault { IfErr result (LookFault (stands self.now).file) };
 

@@ -39,6 +39,8 @@ mod halve;
 mod insert;
 mod life;
 mod look;
+#[cfg(test)]
+mod mixed_tests;
 mod node;
 mod plan;
 mod seek;

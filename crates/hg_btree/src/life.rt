@@ -3,6 +3,7 @@ ghost use Rattle.std.specs.Prelude.{◌≡◌, ℕ, ◌^◌, ◌<◌, true, fals
 ghost use Rattle.hg_base.specs.Space.{NoPins};
 ghost use Rattle.hg_base.specs.Causes.{HasCause, FreshFault, fault_of};
 ghost use Rattle.hg_base.specs.Lines.{IsLine};
+ghost use Rattle.hg_btree.specs.Kept.{IsReady};
 ghost use Rattle.hg_btree.specs.Life.{Makes, MakesLeaf, Ends};
 ghost use Rattle.hg_btree.specs.Steps.{Looks};
 
@@ -30,6 +31,7 @@ pub fn make<S: Pages>(space: &mut S, file: File) -> Result<Tree, PageFault>
     requires out { NoPins (S.state space.old) }
     requires numbers { (S.state space.old).limit file < 2 ^ 32 }
     ensures made { IfOk result (Makes file (S.state space.old) (S.state space.new)) }
+    ensures ready { IfOk result (λ tree. IsReady (S.state space.new) tree) }
     ensures err { OnErr result (Looks (S.state space.old) (S.state space.new)) }
     ensures cause { HasCause (S.state space.old) (S.state space.new) (fault_of result) }
     ensures fault { IfErr result (FreshFault file (S.state space.old)) }

@@ -87,7 +87,7 @@ struct Totals {
 }
 
 /// Makes a tree with no entries.
-fn begin<S: Pages>(space: &mut S) -> Result<Tree, PageFault>
+pub fn begin<S: Pages>(space: &mut S) -> Result<Tree, PageFault>
     requires no_pins { NoPins (S.state space.old) }
     requires numbers { (S.state space.old).limit File.Temp < 2 ^ 32 }
     ensures { IfOk result (λ tree. IsReady (S.state space.new) tree) }
@@ -96,7 +96,7 @@ fn begin<S: Pages>(space: &mut S) -> Result<Tree, PageFault>
 }
 
 /// Puts an entry in.
-fn put<S: Pages>(tree: Tree, space: &mut S, key: &[u8], place: u64) -> Result<bool, PageFault>
+pub fn put<S: Pages>(tree: Tree, space: &mut S, key: &[u8], place: u64) -> Result<bool, PageFault>
     requires ready { IsReady (S.state space.old) tree }
     requires short { length key.now ≤ 512 }
     ensures { IsReady (S.state space.new) tree }
@@ -105,24 +105,25 @@ fn put<S: Pages>(tree: Tree, space: &mut S, key: &[u8], place: u64) -> Result<bo
 }
 
 /// Takes an entry out.
-fn take<S: Pages>(tree: Tree, space: &mut S, key: &[u8], place: u64) -> Result<bool, PageFault>
+pub fn take<S: Pages>(tree: Tree, space: &mut S, key: &[u8], place: u64) -> Result<bool, PageFault>
     requires { IsReady (S.state space.old) tree }
     ensures { IsReady (S.state space.new) tree }
 {
     delete(tree, space, key, place)
 }
 
-/// The first entry from a key on.
-fn next<S: Pages>(
+/// The first entry that is not before the one given.
+pub fn next<S: Pages>(
     tree: Tree,
     space: &mut S,
     key: &[u8],
+    place: u64,
     out: &mut ArrayVec<u8, 512>,
 ) -> Result<Option<u64>, PageFault>
     requires { IsReady (S.state space.old) tree }
     ensures { IsReady (S.state space.new) tree }
 {
-    seek(tree, space, key, 0, out)
+    seek(tree, space, key, place, out)
 }
 
 /// Puts so many keys in, from the last to the first. How many were new.
@@ -165,7 +166,7 @@ fn walk<S: Pages>(tree: Tree, space: &mut S, first: u32, step: u32) -> Result<u3
     let mut out: ArrayVec<u8, 512> = ArrayVec::new();
     let mut number = first;
     for n in 0..100_000u32 {
-        let Some(place) = next(tree, space, key.as_slice(), &mut out)? else {
+        let Some(place) = next(tree, space, key.as_slice(), 0, &mut out)? else {
             return Ok(n);
         };
         if place != 5 || out.as_slice() != number.to_be_bytes().as_slice() {
