@@ -8,8 +8,6 @@ use Rattle.hg_model.specs.Types.{all_narrow}
 use Rattle.hg_model.specs.declared.trees.Count.TheVariants as count
 use Rattle.hg_model.specs.Query.{Query}
 use Rattle.hg_model.specs.Scope.{scope_of, positions_of, target_of, columns_of, output_count}
-use Rattle.hg_model.specs.SelectMeaning.{Setting, kept_rows, pairs_of, first_pairs_from}
-use Rattle.hg_model.specs.Order.{Pair}
 use Rattle.hg_model.specs.Tables.{Table, table_named}
 use Rattle.hg_model.specs.declared.tables.FromColumn.{FromColumn}
 use Rattle.hg_model.specs.declared.tables.Target.{Target}
@@ -146,18 +144,3 @@ position_at widths p = if nat_lt p.0 (length widths) then sum_before widths p.0 
 
 abbrev pub widths_of : List Table → List FromTable → List ℕ
 widths_of tables froms = map (λ (f : FromTable). length (columns_of (table_named tables f.table))) froms
-
--- The meaning of a bound SELECT: it looks at numbers alone, and at no name of a column.
-abbrev pub bound_setting : Query → List (ℕ × ℕ) → List ℕ → List Table → Setting
-bound_setting bound places texts tables = record {
-  query = bound;
-  texts = texts;
-  positions = map (position_at (widths_of tables bound.tables)) places;
-  targets = map (λ (k : OrderKey). (k.descending, bound_target k.by)) bound.order;
-}
-
-unfoldable pub bound_meaning : Query → List (ℕ × ℕ) → List ℕ → List Table → List Pair
-bound_meaning bound places texts tables =
-    let s = bound_setting bound places texts tables in
-    let pairs = pairs_of s (kept_rows s tables) in
-    if bound.distinct then first_pairs_from [] pairs else pairs

@@ -17,7 +17,8 @@
 //!           -- declared lengths, once a node --> bound, or 23
 //! ```
 //!
-//! In the bound form of a SELECT no name is looked at again ([`bound_selects_need_no_names`]):
+//! The bound form of a SELECT has numbers in the place of names; a place is the position in a row of the cross
+//! product ([`places_are_positions`]):
 //!
 //! ```text
 //! SELECT * FROM t, w ORDER BY b        t (k, v), w (a, b)
@@ -47,6 +48,8 @@ mod nodes;
 mod scope;
 mod select;
 #[cfg(test)]
+mod select_tests;
+#[cfg(test)]
 mod tests;
 mod typing;
 mod update;
@@ -57,7 +60,7 @@ pub use create_index::{place_index, place_key};
 pub use delete::{BoundDelete, bind_delete, place_delete, place_filter};
 pub use errors::BindError;
 pub use insert::{BoundInsert, bind_insert, place_insert, place_values};
-pub use laws::bound_selects_need_no_names;
+pub use laws::places_are_positions;
 pub use nodes::Places;
 pub use select::{BoundSelect, bind_select, place_select};
 pub use update::{BoundUpdate, bind_update, place_sets, place_update};

@@ -1,6 +1,6 @@
 use Rattle.hg_model.specs.Scope.{scope_of}
 use Rattle.hg_bind.proofs.Positions.{place_is, keys_alike}
-use Rattle.hg_bind.proofs.laws.bound_selects_need_no_names.Goals as goal
+use Rattle.hg_bind.proofs.laws.places_are_positions.Goals as goal
 
 pub returns : goal.returns
 returns c = record { places = λ tables q position few h. place_is tables q.tables few position h; keys = keys_alike }
