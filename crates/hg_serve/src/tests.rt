@@ -181,7 +181,10 @@ fn longest_rows(rt: HostRuntime) -> Result<(), Fail> {
     let (_, sink) = through_engine(alloc, texts_of(alloc, 227)?, device(alloc))?;
     assert_eq!(rt; sink.bytes(), b"created\nrows 1\n".as_slice());
     let (_, sink) = through_engine(alloc, texts_of(alloc, 228)?, device(alloc))?;
-    assert_eq!(rt; sink.bytes(), b"created\nerror 23 row too long\n".as_slice());
+    assert_eq!(rt;
+        sink.bytes(),
+        b"created\nerror 23 row too long\n".as_slice()
+    );
     Ok(())
 }
 
