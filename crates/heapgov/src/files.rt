@@ -1,6 +1,7 @@
 //! A file as a device of pages. It tells no bytes: what a file holds or gives, no proof says.
 ghost use Rattle.std.specs.Prelude.{◌≡◌, ◌≤◌, ◌<◌, ◌*◌, ◌↔◌, IsOk, IsSome, IfSome, false, [], length};
-ghost use Rattle.hg_io.specs.Count.{Ends, HasCause};
+ghost use Rattle.hg_base.specs.Count.{Ends};
+ghost use Rattle.hg_io.specs.Count.{CountsFaults};
 
 use hg_io::{Failed, PAGE_BYTES, PAGE_LIMIT, PageDevice};
 use std::fs::{File, OpenFile, OpenOptions};
@@ -163,7 +164,7 @@ where
         ensures said { IsOk result ↔ IsSome done }
         ensures reads { self.new.reads ≡ self.old.reads }
         ensures writes { self.new.writes ≡ self.old.writes }
-        ensures cause { HasCause self.old.faults self.new.faults result }
+        ensures cause { CountsFaults self.old.faults self.new.faults result }
     {
         if done.is_none() {
             self.faults = self.faults.saturating_add(1);

@@ -1,6 +1,6 @@
 //! Standard input as a source and standard output as a sink. They tell no bytes.
 ghost use Rattle.std.specs.Prelude.{◌≡◌, ◌≤◌, ◌<◌, None, IfSome, length};
-ghost use Rattle.hg_io.specs.Count.{Ends};
+ghost use Rattle.hg_base.specs.Count.{Ends};
 
 use hg_io::{Failed, Sink, Source};
 use std::io::{ErrorKind, Read, Write};

@@ -1,27 +1,20 @@
 -- When a call over a space may fail, and what it counts. Our own rule.
-use Rattle.std.specs.Prelude.{◌≡◌, ℕ, ◌+◌, ◌-◌, ◌^◌, ◌≤◌, min, false, Result, Ok, Err, Option, None, Some, IfSome, ⊤}
+use Rattle.std.specs.Prelude.{◌≡◌, ◌≤◌, false, Result, Ok, Err, Option, None, Some, IfSome, ⊤}
+use Rattle.hg_base.specs.Count.{raised, Rose}
 use Rattle.hg_base.specs.Space.{Space, Counts, IsFull}
 use Rattle.hg_base.specs.declared.File.{File}
 use Rattle.hg_base.specs.declared.File.TheVariants as file
 use Rattle.hg_base.specs.declared.pages.PageFault.{PageFault}
 use Rattle.hg_base.specs.declared.pages.PageFault.TheVariants as fault
 
--- A count after one more: it goes up to 2 ^ 64 - 1 and then stays there.
-abbrev pub one_more : ℕ → ℕ
-one_more n = min (n + 1) (2 ^ 64 - 1)
-
--- A count rose, or it stands at its end.
-abbrev pub Rose : ℕ → ℕ → Type 0
-Rose before now = one_more before ≤ now
-
 -- The counts behind a call that found this fault, or none: the fault's own count is one more, the
 -- device's and that of the space, and no other is; damage is not counted.
 abbrev pub counts_after : Counts → Option PageFault → Counts
 counts_after n None = n
-counts_after n (Some fault.MainFault) = record n { main_device = one_more n.main_device; main = one_more n.main }
-counts_after n (Some fault.TempFault) = record n { temp_device = one_more n.temp_device; temp = one_more n.temp }
-counts_after n (Some fault.MainFull) = record n { main_full = one_more n.main_full }
-counts_after n (Some fault.TempFull) = record n { temp_full = one_more n.temp_full }
+counts_after n (Some fault.MainFault) = record n { main_device = raised n.main_device 1; main = raised n.main 1 }
+counts_after n (Some fault.TempFault) = record n { temp_device = raised n.temp_device 1; temp = raised n.temp 1 }
+counts_after n (Some fault.MainFull) = record n { main_full = raised n.main_full 1 }
+counts_after n (Some fault.TempFull) = record n { temp_full = raised n.temp_full 1 }
 counts_after n (Some (fault.Damaged page check)) = n
 
 -- the fault that an answer tells, if any; other types of answers have a function like it

@@ -76,10 +76,11 @@ pub record Heap : Type 0 where
   pub request : ℕ
   pub pages : List ℕ
 
--- The heaps of a space by number; how many frames are in use; and for each request the most pages
+-- The heaps of a space by number; how many frames are in use, and how many may be; and for each request the most pages
 -- that its heaps may have, and the most that they had at once since that was last set.
 pub record Heaps : Type 0 where
   pub heap : ℕ → Option Heap
   pub current : ℕ
+  pub most : ℕ
   pub cap : ℕ → ℕ
   pub peak : ℕ → ℕ

@@ -1,5 +1,5 @@
 -- The objects of a heap by their addresses, and what a change of one of them is. Our own rule.
-use Rattle.std.specs.Prelude.{◌≡◌, ℕ, ◌+◌, ◌-◌, ◌*◌, ◌==◌, zero, suc, Bool, true, false, List, [], ◌∷◌, ◌++◌, length, map, slice_get, slice_set, nat_lt, Option, None, Some, option_map, option_and_then, if◌then◌else◌}
+use Rattle.std.specs.Prelude.{ℕ, ◌+◌, ◌-◌, ◌*◌, ◌==◌, zero, suc, List, [], ◌∷◌, ◌++◌, length, map, slice_get, slice_set, nat_lt, Option, None, Some, option_map, option_and_then, if◌then◌else◌}
 use Rattle.hg_base.specs.Content.{Object, row_object, directory, Objects, placed, page_end, room_on, addresses_in, address_of}
 use Rattle.hg_base.specs.HeapPage.{link_word}
 

@@ -11,13 +11,10 @@ abbrev pub LeadsBelow : ℕ → Option ℕ → Type 0
 LeadsBelow n None = ⊤
 LeadsBelow n (Some m) = m < n
 
-abbrev pub IsByte : ℕ → Type 0
-IsByte b = b < 256
-
 -- the n-th of so many objects: a row has 1 to 3,920 bytes and leads to an earlier object, a directory
 -- leads to any
 abbrev pub IsObject : ℕ → ℕ → Object → Type 0
-IsObject n count (row_object payload link) = (0 < length payload) × (length payload ≤ 3920) × AllByRecursion IsByte payload × LeadsBelow n link
+IsObject n count (row_object payload link) = (0 < length payload) × (length payload ≤ 3920) × LeadsBelow n link
 IsObject n count (directory links) = AllByRecursion (LeadsBelow count) links
 
 abbrev pub AreObjects : ℕ → ℕ → List Object → Type 0

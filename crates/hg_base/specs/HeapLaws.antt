@@ -1,13 +1,12 @@
 -- Laws of a heap's objects by their addresses: what is placed next stands behind all others and moves
 -- none of them, and a page more moves none either.
-use Rattle.std.specs.Prelude.{◌≡◌, ◌≢◌, ℕ, ◌+◌, ◌-◌, ◌*◌, ◌<◌, ◌≤◌, ◌==◌, zero, suc, Bool, true, false, List, [], ◌∷◌, ◌++◌, length, map, sum_by, slice_get, nat_lt, Option, None, Some, option_map, option_and_then, if◌then◌else◌}
+use Rattle.std.specs.Prelude.{◌≡◌, ℕ, ◌+◌, ◌*◌, ◌≤◌, ◌==◌, zero, suc, true, false, List, [], ◌∷◌, ◌++◌, length, map, sum_by, slice_get, Option, None, Some, option_map, option_and_then, if◌then◌else◌}
 use Rattle.std.proofs.Common.{◌∙◌, sym, ap, refl, arith, append_assoc, append-nil, eq-eqb}
-use Rattle.std.proofs.lemmas.Bool.Decides.{nat_tests}
 use Rattle.std.proofs.lemmas.List.{map-append}
 use Rattle.std.proofs.lemmas.List.Sums.{sum_by-cons}
 use Rattle.std.proofs.lemmas.Option.{none-some}
-use Rattle.hg_base.specs.Content.{Object, Objects, placed, object_size, page_end, offsets_from, addresses_in}
-use Rattle.hg_base.specs.HeapContent.{place_in, named_by, object_at, with_last, with_object, next_address}
+use Rattle.hg_base.specs.Content.{Object, placed, object_size, page_end, offsets_from, addresses_in}
+use Rattle.hg_base.specs.HeapContent.{place_in, object_at, with_last, with_object, next_address}
 
 offsets_from-last : (at : ℕ) (xs : List Object) (x : Object)
     → offsets_from at (xs ++ x ∷ []) ≡ offsets_from at xs ++ (at + sum_by object_size xs) ∷ []

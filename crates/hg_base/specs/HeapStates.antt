@@ -1,8 +1,8 @@
 -- The heaps of a space: what is found there, and what each call changes, as the whole space after it.
 -- Our own rule.
 use Rattle.std.specs.List.{AllByRecursion}
-use Rattle.std.specs.Prelude.{◌≡◌, ℕ, ◌+◌, ◌<◌, ◌≤◌, ◌==◌, ◌⊎◌, zero, suc, Bool, true, false, List, [], ◌∷◌, ◌++◌, length, take, drop, max, map, slice_get, slice_set, Result, Ok, Err, Option, None, Some, IsSome, IfSome, option_map, option_and_then, ⊤, if◌then◌else◌}
-use Rattle.hg_base.specs.Content.{Object, row_object, directory, Objects, address_of, payloads_of, Standing, locked, unlocked, draining, Heap, Heaps}
+use Rattle.std.specs.Prelude.{◌≡◌, ℕ, ◌+◌, ◌<◌, ◌≤◌, ◌==◌, ◌⊎◌, zero, suc, Bool, true, false, List, [], ◌∷◌, ◌++◌, length, drop, max, map, slice_get, slice_set, Result, Ok, Err, Option, None, Some, IsSome, IfSome, option_map, option_and_then, ⊤, if◌then◌else◌}
+use Rattle.hg_base.specs.Content.{Object, row_object, directory, Objects, address_of, payloads_of, Standing, locked, unlocked, draining, Heap}
 use Rattle.hg_base.specs.HeapContent.{object_at, link_of, payload_of, row_link, links_of, words_of, with_payload, with_link, changed_at, with_object, room_left, next_address, no_links, no_objects}
 use Rattle.hg_base.specs.HeapFacts.{AreWellPlaced}
 use Rattle.hg_base.specs.HeapPage.{link_word, IsHeapPage}

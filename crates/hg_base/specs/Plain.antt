@@ -36,7 +36,7 @@ successor_of q x = if is_taken q x then x.next else None
 
 -- no heaps, and the numbers that stand for a store of heaps with as many frames as pages
 abbrev pub no_heaps : Heaps
-no_heaps = record { heap = λ _. None; current = 65536; cap = λ _. 65536; peak = λ _. 0 }
+no_heaps = record { heap = λ _. None; current = 65536; most = 65536; cap = λ _. 65536; peak = λ _. 0 }
 
 -- the space of these slots
 abbrev pub shown : (ℕ → Slot) → ℕ → Counts → Space

@@ -27,7 +27,7 @@ pub record IsSamePage (a b : Space) (q : ℕ) : Type 0 where
 
 -- No pin is out before and after. Of what is not mine nothing changed: the same pages are taken and of
 -- a heap, also those of heaps of others, the taken ones of no heap have their bytes and successors,
--- and heaps, caps and peaks are as before. No count of faults or of full files fell.
+-- and heaps, caps and peaks are as before, and so is how many frames are in use, and how many may be. No count of faults or of full files fell.
 pub record Steady (mine : Mine) (a b : Space) : Type 0 where
   pub pins_before : NoPins a
   pub pins_after : NoPins b
@@ -39,6 +39,7 @@ pub record Steady (mine : Mine) (a b : Space) : Type 0 where
   pub pages : (q : ℕ) → (mine.pages q → ⊥) → IsPlain a q → IsSamePage a b q
   pub heaps : (h : ℕ) → (mine.heaps h → ⊥) → b.heaps.heap h ≡ a.heaps.heap h
   pub current : b.heaps.current ≡ a.heaps.current
+  pub most : b.heaps.most ≡ a.heaps.most
   pub caps : (r : ℕ) → b.heaps.cap r ≡ a.heaps.cap r
   pub peaks : (r : ℕ) → (mine.requests r → ⊥) → b.heaps.peak r ≡ a.heaps.peak r
   pub counts : Later a.counts b.counts

@@ -129,6 +129,7 @@ rewritten_steady a d p c n taken next xp xc xn m out h ft fn mp mc mn = record {
   };
   heaps = λ q x. ap (λ s. s.heap q) h.heaps;
   current = ap (λ s. s.current) h.heaps;
+  most = ap (λ s. s.most) h.heaps;
   caps = λ r. ap (λ s. s.cap r) h.heaps;
   peaks = λ r x. ap (λ s. s.peak r) h.heaps;
   counts = h.counts;

@@ -51,6 +51,7 @@ steady_behind m a p held n new out l b = record {
   pages = λ q x h. record { taken = refl; of_heap = refl; bytes = b q x; next = refl };
   heaps = λ q x. refl;
   current = refl;
+  most = refl;
   caps = λ r. refl;
   peaks = λ r x. refl;
   counts = l;

@@ -17,7 +17,8 @@ use Rattle.hg_base.specs.declared.Place.{Place}
 use Rattle.hg_base.specs.declared.Table.{Table}
 use Rattle.hg_model.specs.declared.values.Value.{Value}
 use Rattle.hg_table.specs.Chains.{IsChain}
-use Rattle.hg_base.specs.Causes.{Later, HasCause, one_more}
+use Rattle.hg_base.specs.Count.{raised}
+use Rattle.hg_base.specs.Causes.{Later, HasCause}
 use Rattle.hg_base.specs.declared.pages.PageFault.{PageFault}
 use Rattle.hg_base.specs.declared.pages.PageFault.TheVariants as fault
 use Rattle.hg_model.specs.Tables.{fits_columns}
@@ -289,7 +290,7 @@ put-fault a b c n m fault.TempFault told limit later few less h k =
     let failed = temp_failed b c k in (let seen = failed.0 in let was = later.temp in omega arith, let own = failed.1 in let was = later.temp_device in omega arith)
 put-fault a b c n m fault.MainFull told limit later few less h k =
     let all : taken_in b Main ≡ b.limit Main = full-count b.taken (b.limit Main) h in
-    let rose : c.counts.main_full ≡ one_more b.counts.main_full = ap (λ (w : Counts). w.main_full) k.counts in
+    let rose : c.counts.main_full ≡ raised b.counts.main_full 1 = ap (λ (w : Counts). w.main_full) k.counts in
     (omega arith, let was = later.main_full in omega arith)
 put-fault a b c n m fault.TempFull told limit later few less h k = h
 put-fault a b c n m (fault.Damaged page check) told limit later few less h k = sym told ∙ k.damage

@@ -5,7 +5,8 @@ use Rattle.std.specs.List.{AllByRecursion}
 use Rattle.std.specs.List.Sorted.{IsPermutation}
 use Rattle.hg_base.specs.Space.{Space, key_in, taken_in}
 use Rattle.hg_base.specs.Lines.{has_page}
-use Rattle.hg_base.specs.Causes.{Rose, MainFailed, TempFailed}
+use Rattle.hg_base.specs.Count.{Rose}
+use Rattle.hg_base.specs.Causes.{MainFailed, TempFailed}
 use Rattle.hg_base.specs.Steadiness.{Mine, Steady, these_pages}
 use Rattle.hg_base.specs.declared.File.TheVariants.{Main, Temp}
 use Rattle.hg_base.specs.declared.Table.{Table}

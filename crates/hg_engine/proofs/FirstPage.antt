@@ -75,7 +75,7 @@ opened a b x c d first new mpl some catalog stamps scan max_is mpl_is =
     kept b x None (first_state (sizes_of c)) c.max c.mpl (record { tables = []; indexes = [] }) [] catalog stamps scan max_is mpl_is (record {
       pins = first.pins;
       none_lent = first.none_lent (λ q. ap (λ (s : Space). s.of_heap q) new);
-      most = ap (λ (h : Heaps). h.cap 0) first.heaps ∙ ap (λ (s : Space). s.heaps.cap 0) new;
+      most = ap (λ (h : Heaps). h.most) first.heaps ∙ ap (λ (s : Space). s.heaps.most) new;
       some_may = mpl;
       no_indexes = refl;
       tables = [];

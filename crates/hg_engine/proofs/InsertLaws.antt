@@ -382,7 +382,7 @@ module _ (a b : Space) (old new : Tables) (i : InsertTree) (texts targets : List
       standing = record {
         pins = g.steady.pins_after;
         none_lent = g.none_lent st.none_lent;
-        most = g.steady.caps 0 ∙ st.most;
+        most = g.steady.most ∙ st.most;
         some_may = st.some_may;
         no_indexes = st.no_indexes;
         tables = more;

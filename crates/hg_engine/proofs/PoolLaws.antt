@@ -63,7 +63,7 @@ module _ (a : Space) (x : Tables) (n : ℕ) (texts : List ℕ) (idle : x.scan �
       record {
         pins = steady.pins_after;
         none_lent = none-lent-still a b steady st.none_lent;
-        most = steady.caps 0 ∙ st.most;
+        most = steady.most ∙ st.most;
         some_may = st.some_may;
         no_indexes = st.no_indexes;
         tables = st.tables;
@@ -117,7 +117,7 @@ drops s x y catalog stamps scan max mpl before st =
     }))
 
 -- as many frames are reserved as the pool may have
-pub reserved : (s : Space) (x : Tables) (n : ℕ) (state : State) → TablesAre s x state → n ≤ x.max → n ≤ s.heaps.cap 0
+pub reserved : (s : Space) (x : Tables) (n : ℕ) (state : State) → TablesAre s x state → n ≤ x.max → n ≤ s.heaps.most
 reserved s x n state st few = let m = st.most in omega (arith, m, few)
 
 -- another number of frames changes nothing else of the space

@@ -4,7 +4,8 @@ use Rattle.std.proofs.Common.{sym, ◌∙◌, ap, subst, refl, arith}
 use Rattle.std.proofs.lemmas.Bool.{false≢true}
 use Rattle.std.proofs.lemmas.List.{append-nil}
 use Rattle.hg_base.specs.Space.{Space, NoPins}
-use Rattle.hg_base.specs.Causes.{Later, Rose, MainFailed, TempFailed, PinFault}
+use Rattle.hg_base.specs.Count.{Rose}
+use Rattle.hg_base.specs.Causes.{Later, MainFailed, TempFailed, PinFault}
 use Rattle.hg_base.specs.Steadiness.{Mine, Steady}
 use Rattle.hg_base.specs.SteadyLaws.{Later_same}
 use Rattle.hg_base.specs.declared.Check.{Check}
@@ -69,7 +70,7 @@ same-here a pins = record { told = refl; limit = refl; device_limit = refl; pins
 -- ---- what lines count
 
 -- how often lines say that each device failed, and that each file is full
-pub record Says (lines : List ReplyLine) (a b c d : ℕ) : Type 0 where
+pub record HasFaultLines (lines : List ReplyLine) (a b c d : ℕ) : Type 0 where
   pub main : code_lines 17 lines ≡ a
   pub temp : code_lines 18 lines ≡ b
   pub main_full : code_lines 19 lines ≡ c
@@ -82,7 +83,7 @@ pub record IsQuiet (line : ReplyLine) : Type 0 where
   pub main_full : is_code 19 line ≡ false
   pub temp_full : is_code 20 line ≡ false
 
-says-quiet : (line : ReplyLine) → IsQuiet line → Says (line ∷ []) 0 0 0 0
+says-quiet : (line : ReplyLine) → IsQuiet line → HasFaultLines (line ∷ []) 0 0 0 0
 unfolding code_lines
 says-quiet line q = record {
   main = ap (λ b. (if b then 1 else 0) + 0) q.main;
@@ -91,7 +92,7 @@ says-quiet line q = record {
   temp_full = ap (λ b. (if b then 1 else 0) + 0) q.temp_full;
 }
 
-quiet-counted : (a b : Space) (lines : List ReplyLine) → Later a.counts b.counts → Says lines 0 0 0 0 → CountedIn a b lines
+quiet-counted : (a b : Space) (lines : List ReplyLine) → Later a.counts b.counts → HasFaultLines lines 0 0 0 0 → CountedIn a b lines
 quiet-counted a b lines later says = record {
   devices = record { main = (let s = says.main in let l = later.main_device in omega (arith, s, l)); temp = (let s = says.temp in let l = later.temp_device in omega (arith, s, l)) };
   full = record { main = (let s = says.main_full in let l = later.main_full in omega (arith, s, l)); temp = (let s = says.temp_full in let l = later.temp_full in omega (arith, s, l)) };
@@ -148,41 +149,41 @@ sound-refusal found r = sound-line found (refusal_line r) (refusal-sound r)
 
 -- ---- the lines of faults
 
-main-says : (more : List ReplyLine) → Says more 0 0 0 0 → Says (line_of fault.MainFault ∷ more) 1 0 0 0
+main-says : (more : List ReplyLine) → HasFaultLines more 0 0 0 0 → HasFaultLines (line_of fault.MainFault ∷ more) 1 0 0 0
 unfolding code_lines
 main-says more q = record { main = ap (λ n. 1 + n) q.main; temp = ap (λ n. 0 + n) q.temp; main_full = ap (λ n. 0 + n) q.main_full; temp_full = ap (λ n. 0 + n) q.temp_full }
 
-temp-says : (more : List ReplyLine) → Says more 0 0 0 0 → Says (line_of fault.TempFault ∷ more) 0 1 0 0
+temp-says : (more : List ReplyLine) → HasFaultLines more 0 0 0 0 → HasFaultLines (line_of fault.TempFault ∷ more) 0 1 0 0
 unfolding code_lines
 temp-says more q = record { main = ap (λ n. 0 + n) q.main; temp = ap (λ n. 1 + n) q.temp; main_full = ap (λ n. 0 + n) q.main_full; temp_full = ap (λ n. 0 + n) q.temp_full }
 
-full-says : (more : List ReplyLine) → Says more 0 0 0 0 → Says (line_of fault.MainFull ∷ more) 0 0 1 0
+full-says : (more : List ReplyLine) → HasFaultLines more 0 0 0 0 → HasFaultLines (line_of fault.MainFull ∷ more) 0 0 1 0
 unfolding code_lines
 full-says more q = record { main = ap (λ n. 0 + n) q.main; temp = ap (λ n. 0 + n) q.temp; main_full = ap (λ n. 1 + n) q.main_full; temp_full = ap (λ n. 0 + n) q.temp_full }
 
-damaged-says : (page : PageId) (check : Check) (more : List ReplyLine) → Says more 0 0 0 0 → Says (line_of (fault.Damaged page check) ∷ more) 0 0 0 0
+damaged-says : (page : PageId) (check : Check) (more : List ReplyLine) → HasFaultLines more 0 0 0 0 → HasFaultLines (line_of (fault.Damaged page check) ∷ more) 0 0 0 0
 unfolding code_lines
 damaged-says page check more q = record { main = ap (λ n. 0 + n) q.main; temp = ap (λ n. 0 + n) q.temp; main_full = ap (λ n. 0 + n) q.main_full; temp_full = ap (λ n. 0 + n) q.temp_full }
 
-main-counted : (a b : Space) (lines : List ReplyLine) → Later a.counts b.counts → MainFailed a.counts b.counts → Says lines 1 0 0 0 → CountedIn a b lines
+main-counted : (a b : Space) (lines : List ReplyLine) → Later a.counts b.counts → MainFailed a.counts b.counts → HasFaultLines lines 1 0 0 0 → CountedIn a b lines
 main-counted a b lines later h says = record {
   devices = record { main = (let s = says.main in let l = h.1 in omega (arith, s, l)); temp = (let s = says.temp in let l = later.temp_device in omega (arith, s, l)) };
   full = record { main = (let s = says.main_full in let l = later.main_full in omega (arith, s, l)); temp = (let s = says.temp_full in let l = later.temp_full in omega (arith, s, l)) };
 }
 
-temp-counted : (a b : Space) (lines : List ReplyLine) → Later a.counts b.counts → TempFailed a.counts b.counts → Says lines 0 1 0 0 → CountedIn a b lines
+temp-counted : (a b : Space) (lines : List ReplyLine) → Later a.counts b.counts → TempFailed a.counts b.counts → HasFaultLines lines 0 1 0 0 → CountedIn a b lines
 temp-counted a b lines later h says = record {
   devices = record { main = (let s = says.main in let l = later.main_device in omega (arith, s, l)); temp = (let s = says.temp in let l = h.1 in omega (arith, s, l)) };
   full = record { main = (let s = says.main_full in let l = later.main_full in omega (arith, s, l)); temp = (let s = says.temp_full in let l = later.temp_full in omega (arith, s, l)) };
 }
 
-full-counted : (a b : Space) (lines : List ReplyLine) → Later a.counts b.counts → Rose a.counts.main_full b.counts.main_full → Says lines 0 0 1 0 → CountedIn a b lines
+full-counted : (a b : Space) (lines : List ReplyLine) → Later a.counts b.counts → Rose a.counts.main_full b.counts.main_full → HasFaultLines lines 0 0 1 0 → CountedIn a b lines
 full-counted a b lines later h says = record {
   devices = record { main = (let s = says.main in let l = later.main_device in omega (arith, s, l)); temp = (let s = says.temp in let l = later.temp_device in omega (arith, s, l)) };
   full = record { main = (let s = says.main_full in omega (arith, s, h)); temp = (let s = says.temp_full in let l = later.temp_full in omega (arith, s, l)) };
 }
 
-none-says : Says [] 0 0 0 0
+none-says : HasFaultLines [] 0 0 0 0
 unfolding code_lines
 none-says = record { main = refl; temp = refl; main_full = refl; temp_full = refl }
 
@@ -209,7 +210,7 @@ pin-sound found fault.MainFull h = absurd h
 pin-sound found fault.TempFull h = absurd h
 pin-sound found (fault.Damaged page check) h = absurd h
 
-closed-says : Says (closed None ∷ []) 0 0 0 0
+closed-says : HasFaultLines (closed None ∷ []) 0 0 0 0
 closed-says = says-quiet (closed None) (record { main = refl; temp = refl; main_full = refl; temp_full = refl })
 
 pub scan-counted : (a b : Space) (f : PageFault) → Later a.counts b.counts → ScanFault a b f → CountedIn a b (line_of f ∷ closed None ∷ [])

@@ -235,7 +235,7 @@ module _ (a b : Space) (old new : Tables) (scan : Scan) (is : old.scan ≡ Some 
       kept b new work (state_of a old.max old.mpl old.stamps work st.tables left) old.max old.mpl old.catalog old.stamps catalog stamps scanned max mpl (record {
         pins = steady.pins_after;
         none_lent = none-lent-still a b steady st.none_lent;
-        most = steady.caps 0 ∙ st.most;
+        most = steady.most ∙ st.most;
         some_may = st.some_may;
         no_indexes = st.no_indexes;
         tables = st.tables;

@@ -119,7 +119,7 @@ state_of s max mpl marks scan tables left = record {
 pub record Stands (s : Space) (max mpl : ℕ) (catalog : Contents) (marks : List Bool) (scan : Option Scan) (state : State) : Type 0 where
   pub pins : NoPins s
   pub none_lent : NoneLent s
-  pub most : s.heaps.cap 0 ≡ max
+  pub most : s.heaps.most ≡ max
   pub some_may : 1 ≤ mpl
   pub no_indexes : catalog.indexes ≡ []
   pub tables : List TableState

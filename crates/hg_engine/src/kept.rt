@@ -17,7 +17,7 @@ impl<M: PageDevice, T: PageDevice> Kept<M, T> {
     ghost use Rattle.std.specs.Prelude.{◌≡◌, ◌<◌, ◌≤◌, ◌↔◌, ℕ, List, true, false, length, IsTrue};
     ghost use Rattle.std.specs.List.{list_all};
     ghost use Rattle.arrayvec.specs.ArrayVec.{array_vec_len};
-    ghost use Rattle.hg_io.specs.Count.{raised};
+    ghost use Rattle.hg_base.specs.Count.{raised};
     ghost use Rattle.hg_machine.specs.Plain.Replies.{ReplyLine as ReplyLineOf};
     ghost use Rattle.hg_machine.specs.Plain.State.{State};
     ghost use Rattle.hg_model.specs.Statements.{CreateTable, InsertRows, SelectRows, Pool as PoolTo};

@@ -163,7 +163,7 @@ follow_row o frames a word n payload link w names e f t =
     let count : ℕ = length (placed o) in
     let below : n < count = slice_get_within (placed o) n (row_object payload link) f in
     let is : IsObject (0 + n) count (row_object payload link) = nth_object count 0 (placed o) n (row_object payload link) w.objects f in
-    let leads : LeadsBelow n link = subst (λ q. LeadsBelow q link) (let z : 0 + n ≡ n = omega arith in z) is.3 in
+    let leads : LeadsBelow n link = subst (λ q. LeadsBelow q link) (let z : 0 + n ≡ n = omega arith in z) is.2 in
     let g = place_in-get (addresses_in o.layout frames) a n e in
     let c = many-placed o.layout o.roots in
     let low = nth-low o.layout frames n names.same (omega arith) in

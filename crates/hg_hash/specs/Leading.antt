@@ -64,5 +64,5 @@ no_link o None w t e = refl
 no_link o (Some n) w t e =
     let r : RowAt (placed o) n = row_at (placed o) n t in
     let is : IsObject (0 + n) (length (placed o)) (row_object r.payload r.link) = nth_object (length (placed o)) 0 (placed o) n (row_object r.payload r.link) w.objects r.is in
-    let leads : LeadsBelow n r.link = subst (λ q. LeadsBelow q r.link) (let z : 0 + n ≡ n = omega arith in z) is.3 in
+    let leads : LeadsBelow n r.link = subst (λ q. LeadsBelow q r.link) (let z : 0 + n ≡ n = omega arith in z) is.2 in
     let f : r.payload ∷ chain (placed o) r.link ≡ [] = sym (chain-nth (placed o) n r.payload r.link r.is leads) ∙ e in absurd (cc)

@@ -1,23 +1,8 @@
--- Counts of faults, of calls and of bytes. Our own rule: a count goes up to 2^64 - 1 and then stays there.
-use Rattle.std.specs.Prelude.{◌≡◌, ℕ, ◌+◌, ◌-◌, ◌^◌, ◌≤◌, min, Result, OnOk, OnErr}
-use Rattle.std.proofs.Common.{arith}
-
--- a count after n more
-abbrev pub raised : ℕ → ℕ → ℕ
-raised count n = min (count + n) (2 ^ 64 - 1)
-
--- the count rose, or it stands at its end
-abbrev pub Rose : ℕ → ℕ → Type 0
-Rose before now = raised before 1 ≤ now
-
--- a count never passes its end
-abbrev pub Ends : ℕ → Type 0
-Ends count = count ≤ 2 ^ 64 - 1
-
-pub none_ends : Ends 0
-none_ends = omega arith
+-- What a call of the outside counts. Our own rule.
+use Rattle.std.specs.Prelude.{◌≡◌, ℕ, Result, OnOk, OnErr}
+use Rattle.hg_base.specs.Count.{raised}
 
 -- a call that did its work leaves the count of faults as it was, and one that failed raises it by one
-pub record HasCause {T E : Type 0} (before now : ℕ) (result : Result T E) : Type 0 where
+pub record CountsFaults {T E : Type 0} (before now : ℕ) (result : Result T E) : Type 0 where
   pub stays : OnOk result (now ≡ before)
   pub failed : OnErr result (now ≡ raised before 1)

@@ -1,6 +1,6 @@
 //! A device of pages in memory that never fails.
 ghost use Rattle.std.specs.Prelude.{◌≡◌, ◌<◌, ◌^◌, true, IfOk, IsOk, length, replicate};
-ghost use Rattle.hg_io.specs.Count.{raised, Ends, none_ends};
+ghost use Rattle.hg_base.specs.Count.{raised, Ends, none_ends};
 ghost use Rattle.hg_io.specs.Device.{SameButOne, page_of, zeros};
 
 use crate::device::PageDevice;

@@ -1,6 +1,7 @@
 //! A device of pages, and one in memory.
 ghost use Rattle.std.specs.Prelude.{◌≡◌, ◌<◌, ◌≤◌, ◌↔◌, ℕ, List, Bool, true, OnOk, IsErr, Contains, length};
-ghost use Rattle.hg_io.specs.Count.{raised, Ends, HasCause};
+ghost use Rattle.hg_base.specs.Count.{raised, Ends};
+ghost use Rattle.hg_io.specs.Count.{CountsFaults};
 ghost use Rattle.hg_io.specs.Device.{SamePages, SameButOne, GivesPage, page_at, zeros};
 
 use crate::page::{Page, put_zeros};
@@ -45,7 +46,7 @@ pub trait PageDevice {
         ensures same_writes { writes self.new ≡ writes self.old }
         ensures same_limit { pages self.new ≡ pages self.old }
         ensures same_told { told self.new ≡ told self.old }
-        ensures cause { HasCause (faults self.old) (faults self.new) result };
+        ensures cause { CountsFaults (faults self.old) (faults self.new) result };
 
     /// Puts `bytes` into the page. A write that failed leaves any bytes in that page.
     fn write(&mut self, no: u32, bytes: &[u8]) -> Result<(), Failed>
@@ -57,7 +58,7 @@ pub trait PageDevice {
         ensures same_reads { reads self.new ≡ reads self.old }
         ensures same_limit { pages self.new ≡ pages self.old }
         ensures same_told { told self.new ≡ told self.old }
-        ensures cause { HasCause (faults self.old) (faults self.new) result };
+        ensures cause { CountsFaults (faults self.old) (faults self.new) result };
 
     /// The counts end at 2^64 - 1.
     ghost reads_end: { (d : Self) → Ends (reads d) };
@@ -140,7 +141,7 @@ impl PageDevice for MemDevice {
         requires whole_page { length buf.old ≡ 4096 }
         ensures gives { OnOk result (GivesPage true (page_at self.old.pages) no buf.new) }
         ensures keeps { SamePages true (page_at self.old.pages) (page_at self.new.pages) }
-        ensures cause { HasCause self.old.faults self.new.faults result }
+        ensures cause { CountsFaults self.old.faults self.new.faults result }
 
         // Each read has the next number, and fails exactly where its number is in the list of reads.
         ensures counted { self.new.reads ≡ raised self.old.reads 1 }
@@ -165,7 +166,7 @@ impl PageDevice for MemDevice {
         requires whole_page { length bytes.now ≡ 4096 }
         ensures puts { OnOk result (GivesPage true (page_at self.new.pages) no bytes.now) }
         ensures keeps { SameButOne true (page_at self.old.pages) (page_at self.new.pages) no }
-        ensures cause { HasCause self.old.faults self.new.faults result }
+        ensures cause { CountsFaults self.old.faults self.new.faults result }
 
         // Each write has the next number, and fails where its number is in the list of writes.
         ensures counted { self.new.writes ≡ raised self.old.writes 1 }

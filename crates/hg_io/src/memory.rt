@@ -1,7 +1,8 @@
 //! A source and a sink in memory, which tell their bytes and fail at the calls that they are told to
 //! fail at. Calls are numbered from 1.
 ghost use Rattle.std.specs.Prelude.{◌≡◌, ◌≤◌, ◌↔◌, Some, [], take, drop, min, IfOk, IsErr, OnErr, Contains, length};
-ghost use Rattle.hg_io.specs.Count.{raised, Ends, HasCause};
+ghost use Rattle.hg_base.specs.Count.{raised, Ends};
+ghost use Rattle.hg_io.specs.Count.{CountsFaults};
 ghost use Rattle.hg_io.specs.Bytes.{Reads, Writes};
 
 use crate::stream::{Failed, Sink, Source, count_fault};
@@ -58,7 +59,7 @@ impl Source for MemSource {
         ensures bytes { Reads (Some (drop self.old.at self.old.bytes.items)) (Some (drop self.new.at self.new.bytes.items)) result buf.new }
         ensures given { IfOk result (λ n. self.new.given ≡ raised self.old.given n) }
         ensures given_stays { OnErr result (self.new.given ≡ self.old.given) }
-        ensures cause { HasCause self.old.faults self.new.faults result }
+        ensures cause { CountsFaults self.old.faults self.new.faults result }
 
         // Each call has the next number, and fails exactly where its number is in the list.
         ensures counted { self.new.calls ≡ raised self.old.calls 1 }
@@ -136,7 +137,7 @@ impl Sink for MemSink {
     fn write(&mut self, bytes: &[u8]) -> Result<usize, Failed>
         ensures bound { IfOk result (λ n. n ≤ length bytes.now) }
         ensures bytes { Writes (Some self.old.bytes.items) (Some self.new.bytes.items) result bytes.now }
-        ensures cause { HasCause self.old.faults self.new.faults result }
+        ensures cause { CountsFaults self.old.faults self.new.faults result }
 
         // Each call has the next number, and fails where its number is in the list.
         ensures counted { self.new.calls ≡ raised self.old.calls 1 }

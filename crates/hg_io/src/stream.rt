@@ -1,6 +1,7 @@
 //! A source of bytes and a sink for bytes.
 ghost use Rattle.std.specs.Prelude.{◌≡◌, ◌≤◌, ℕ, List, Option, IfOk, OnErr, length};
-ghost use Rattle.hg_io.specs.Count.{raised, Ends, HasCause};
+ghost use Rattle.hg_base.specs.Count.{raised, Ends};
+ghost use Rattle.hg_io.specs.Count.{CountsFaults};
 ghost use Rattle.hg_io.specs.Bytes.{Reads, Writes};
 
 /// The answer of a call on the outside that did not do its work.
@@ -33,7 +34,7 @@ pub trait Source {
         ensures bytes { Reads (left self.old) (left self.new) result buf.new }
         ensures given { IfOk result (λ n. given self.new ≡ raised (given self.old) n) }
         ensures given_stays { OnErr result (given self.new ≡ given self.old) }
-        ensures cause { HasCause (faults self.old) (faults self.new) result };
+        ensures cause { CountsFaults (faults self.old) (faults self.new) result };
 
     /// The counts end at 2^64 - 1.
     ghost given_ends: { (s : Self) → Ends (given s) };
@@ -54,7 +55,7 @@ pub trait Sink {
     fn write(&mut self, bytes: &[u8]) -> Result<usize, Failed>
         ensures bound { IfOk result (λ n. n ≤ length bytes.now) }
         ensures bytes { Writes (written self.old) (written self.new) result bytes.now }
-        ensures cause { HasCause (faults self.old) (faults self.new) result };
+        ensures cause { CountsFaults (faults self.old) (faults self.new) result };
 
     /// The count ends at 2^64 - 1.
     ghost faults_end: { (s : Self) → Ends (faults s) };

@@ -29,7 +29,7 @@ same_some a b e = cc
 
 -- what a cursor is before a turn, of one that is open behind it: it was open, and what it gave is the front
 -- of an answer
-record Answers (name : CursorName) (old : State) (now : CursorState) (lines : List ReplyLine) : Type 0 where
+record CursorAnswers (name : CursorName) (old : State) (now : CursorState) (lines : List ReplyLine) : Type 0 where
   before : CursorState
   was : cursor_named old.cursors name ≡ Some before
   gives : (more : List (List Value)) → IsAnswer now.left more → IsAnswer before.left (rows_under name lines ++ more)
@@ -104,7 +104,7 @@ unfolding rows_under
 no_rows_limit n name pages most = refl
 
 none_given : (n : CursorName) (old : State) (now : CursorState) (lines : List ReplyLine) → cursor_named old.cursors n ≡ Some now → rows_under n lines ≡ []
-    → says_end n lines ≡ false → Answers n old now lines
+    → says_end n lines ≡ false → CursorAnswers n old now lines
 none_given n old now lines was none silent = record {
   before = now;
   was = was;
@@ -119,29 +119,29 @@ set_answers : (old new : State) (lines : List ReplyLine) (name : CursorName) (ot
     → ((more : List (List Value)) → IsAnswer after.left more → IsAnswer c.left (rows_under name lines ++ more))
     → (c.left ≡ [] → after.left ≡ []) → (says_end name lines ≡ true → after.left ≡ [])
     → ((n : CursorName) → same_cursor n name ≡ false → rows_under n lines ≡ []) → ((n : CursorName) → same_cursor n name ≡ false → says_end n lines ≡ false)
-    → (n : CursorName) (now : CursorState) → cursor_named new.cursors n ≡ Some now → Answers n old now lines
+    → (n : CursorName) (now : CursorState) → cursor_named new.cursors n ≡ Some now → CursorAnswers n old now lines
 set_answers old new lines name others c after is same made its its_empty its_end quiet silent n now there = go (same_cursor name n) refl
   where
     cursors : cursor_named (cursor_set old.cursors name after) n ≡ Some now
     cursors = ap (λ cs. cursor_named cs n) (sym (ap (λ (s : State). s.cursors) made ∙ cursors_going_on old name others after)) ∙ there
 
-    go : (b : Bool) → same_cursor name n ≡ b → Answers n old now lines
+    go : (b : Bool) → same_cursor name n ≡ b → CursorAnswers n old now lines
     go true e =
         let at : after ≡ now = same_some after now (sym (named_set_itself old.cursors name c after is same) ∙ (named_congr (cursor_set old.cursors name after) name n e ∙ cursors)) in
-        let mine : Answers name old after lines = record { before = c; was = is; gives = its; empty = its_empty; at_end = its_end } in
-        subst (λ (x : CursorState). Answers n old x lines) at (subst (λ (m : CursorName). Answers m old after lines) (one_name name n e) mine)
+        let mine : CursorAnswers name old after lines = record { before = c; was = is; gives = its; empty = its_empty; at_end = its_end } in
+        subst (λ (x : CursorState). CursorAnswers n old x lines) at (subst (λ (m : CursorName). CursorAnswers m old after lines) (one_name name n e) mine)
     go false e =
         none_given n old now lines (sym (named_set old.cursors name c after is same n e) ∙ cursors) (quiet n (same_symm n name ∙ e)) (silent n (same_symm n name ∙ e))
 
 closing_answers : (old new : State) (lines : List ReplyLine) (name : CursorName) → new ≡ counted (closes old name)
     → ((n : CursorName) → rows_under n lines ≡ []) → ((n : CursorName) → says_end n lines ≡ false)
-    → (n : CursorName) (now : CursorState) → cursor_named new.cursors n ≡ Some now → Answers n old now lines
+    → (n : CursorName) (now : CursorState) → cursor_named new.cursors n ≡ Some now → CursorAnswers n old now lines
 closing_answers old new lines name made quiet silent n now there = go (same_cursor name n) refl
   where
     cursors : cursor_named (without_cursor old.cursors name) n ≡ Some now
     cursors = ap (λ cs. cursor_named cs n) (sym (ap (λ (s : State). s.cursors) made)) ∙ there
 
-    go : (b : Bool) → same_cursor name n ≡ b → Answers n old now lines
+    go : (b : Bool) → same_cursor name n ≡ b → CursorAnswers n old now lines
     go true e = absurd (closed_named old.cursors name n now e cursors)
     go false e = none_given n old now lines (sym (named_without old.cursors name n e) ∙ cursors) (quiet n) (silent n)
 
@@ -149,7 +149,7 @@ none_taken : (bag : List Pair) (pair : Pair) (left : List Pair) → bag ≡ [] �
 none_taken bag pair left none took = let n = length_permutation bag (pair ∷ left) took in let z = ap length none in omega arith
 
 turn_answers : (old new : State) (lines : List ReplyLine) → Turn old lines new → (n : CursorName) (now : CursorState) → cursor_named new.cursors n ≡ Some now
-    → Answers n old now lines
+    → CursorAnswers n old now lines
 turn_answers old new lines (gives_row name c others pair left held has fine may took holds said is) =
     let rest = done_line name (one_less c.wanted) in
     let mine : rows_under name lines ≡ pair.row ∷ [] =
@@ -195,7 +195,7 @@ end_first n one others never said =
     or_false false = refl
 
 all_answers : (built : CommandTree → Bool) (old new : State) (turns : List (List ReplyLine)) → GivesTurns (exactly built) old turns new
-    → (n : CursorName) (now : CursorState) → cursor_named new.cursors n ≡ Some now → Answers n old now (lines_of_turns turns)
+    → (n : CursorName) (now : CursorState) → cursor_named new.cursors n ≡ Some now → CursorAnswers n old now (lines_of_turns turns)
 unfolding GivesTurns
 all_answers built old new [] given n now there = none_given n old now [] (ap (λ (s : State). cursor_named s.cursors n) (sym given) ∙ there) (no_rows_none n) (no_end_none n)
 all_answers built old new (turn ∷ turns) given n now there =

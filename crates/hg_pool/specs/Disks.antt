@@ -3,7 +3,7 @@ use Rattle.std.specs.Prelude.{◌≡◌, ◌≢◌, ℕ, ◌≤◌, ◌&&◌, Bo
 use Rattle.hg_io.specs.declared.device.PageDevice.{Ghosts}
 use Rattle.hg_base.specs.Causes.{PinFault, fault_of}
 use Rattle.hg_base.specs.Changes.{functions_agree}
-use Rattle.hg_io.specs.Count.{raised}
+use Rattle.hg_base.specs.Count.{raised}
 use Rattle.hg_base.specs.declared.File.{File}
 use Rattle.hg_base.specs.declared.File.TheVariants.{Main, Temp}
 use Rattle.hg_base.specs.declared.pages.PageFault.{PageFault}

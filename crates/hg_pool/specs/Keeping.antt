@@ -15,7 +15,7 @@ use Rattle.hg_pool.specs.declared.places.Places.{Places}
 use Rattle.hg_pool.specs.declared.maps.Maps.{Maps}
 use Rattle.hg_pool.specs.declared.store.Answers.{Answers}
 use Rattle.hg_pool.specs.declared.store.Store.{Store}
-use Rattle.hg_io.specs.Count.{raised}
+use Rattle.hg_base.specs.Count.{raised}
 use Rattle.hg_base.specs.declared.pages.PageFault.{PageFault}
 use Rattle.hg_base.specs.declared.pages.PageFault.TheVariants as fault
 

@@ -86,10 +86,9 @@ tells v q = (v.told || is_pinned v.frame v.place q) && not (is_lent v.frame v.pl
 abbrev pub bytes_told : Picture → ℕ → Option (List ℕ)
 bytes_told v q = if v.taken q && tells v q then Some (held_in v.frame v.place v.page q) else None
 
--- no heaps, and the numbers of a pool that has none: so many frames in use, and for each request as many pages at
--- most as frames are reserved
+-- no heaps, and the numbers of a pool that has none: so many frames in use, and so many reserved
 abbrev pub no_heaps : (current most : ℕ) → Heaps
-no_heaps current most = record { heap = λ _. None; current = current; cap = λ _. most; peak = λ _. 0 }
+no_heaps current most = record { heap = λ _. None; current = current; most = most; cap = λ _. 65536; peak = λ _. 0 }
 
 abbrev pub shown : Picture → Space
 shown v = record {

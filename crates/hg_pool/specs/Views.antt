@@ -61,7 +61,7 @@ shown-same a b front h = λ i. record (shown b) {
   pins = front.pins i;
   next = front.next i;
   of_heap = λ q. (h q).lent i;
-  heaps = record (shown b).heaps { current = front.current i; cap = λ _. front.most i };
+  heaps = record (shown b).heaps { current = front.current i; most = front.most i };
 }
 
 -- where all pages but one show the same, the bytes that are told change at its key alone

@@ -1,6 +1,6 @@
 -- What a call of a pool asks of its devices, and what the pool counts of it. Our own rule: a count stops at 2^64 - 1.
 use Rattle.std.specs.Prelude.{◌≡◌, ℕ, ◌<◌, Bool, true, false, Option, None, Some, Result, IfErr, if◌then◌else◌}
-use Rattle.hg_io.specs.Count.{raised}
+use Rattle.hg_base.specs.Count.{raised}
 use Rattle.hg_base.specs.Causes.{device_fault}
 use Rattle.hg_base.specs.Space.{Space, key_in}
 use Rattle.hg_base.specs.declared.File.{File}

@@ -8,7 +8,7 @@ ghost use Rattle.hg_pool.specs.Sound.{IsShaped};
 ghost use Rattle.hg_pool.specs.Keeping.{with_place, with_frame, IsFoundAt, IsFullIn, is_inside, new_frame, lent_frame, put_frame, IsJust};
 ghost use Rattle.hg_raw.specs.Frames.{bytes_of};
 ghost use Rattle.hg_pool.specs.Passing.{IsClean, HasRoom};
-ghost use Rattle.hg_io.specs.Count.{raised};
+ghost use Rattle.hg_base.specs.Count.{raised};
 
 use crate::PoolCounts;
 use crate::frames::Frames;

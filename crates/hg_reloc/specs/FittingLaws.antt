@@ -227,7 +227,7 @@ link_earlier own max os base count i at a (Some n) k s e c h = known_fits own ma
 
 object_fits : (own max : ℕ) (os : List Object) (base count i at : ℕ) (a : ℕ → ℕ) (o : Object) → AllKnown own max os base count a → i < length os → at ≡ slice_index_or (offsets_from 64 os) i 0
     → base + i ≤ count → IsObject (base + i) count o → LinksFit own max (offsets_from 64 os) at a o
-object_fits own max os base count i at a (row_object payload link) k s e c h = (h.0, h.1, link_earlier own max os base count i at a link k s e c h.3)
+object_fits own max os base count i at a (row_object payload link) k s e c h = (h.0, h.1, link_earlier own max os base count i at a link k s e c h.2)
 object_fits own max os base count i at a (directory links) k s e c h = links_any own max os base count a links k h
 
 -- Where an object of a page begins.

@@ -74,7 +74,7 @@ links_below a b count [] s k = tt
 links_below a b count (l ∷ ls) s k = (link_below a b count count l s (omega arith) k.0, links_below a b count ls s k.1)
 
 object_below : (a b : ℕ → ℕ) (count n : ℕ) (o : Object) → SameBelow a b count → n ≤ count → IsObject n count o → SameLinks a b o
-object_below a b count n (row_object payload link) s h i = link_below a b count n link s h i.3
+object_below a b count n (row_object payload link) s h i = link_below a b count n link s h i.2
 object_below a b count n (directory links) s h i = links_below a b count links s i
 
 objects_below : (a b : ℕ → ℕ) (count n : ℕ) (os : List Object) → SameBelow a b count → n + length os ≡ count → AreObjects n count os → AllByRecursion (SameLinks a b) os

@@ -151,7 +151,7 @@ links_move m a b count [] t k = tt
 links_move m a b count (l ∷ ls) t k = (link_moves m a b count count l t (omega arith) k.0, links_move m a b count ls t k.1)
 
 object_moves : (m : Moves) (a b : ℕ → ℕ) (count n : ℕ) (o : Object) → MovesTo m a b count → n ≤ count → IsObject n count o → MovesLinks m a b o
-object_moves m a b count n (row_object payload link) t h i = (i.0, i.1, link_moves m a b count n link t h i.3)
+object_moves m a b count n (row_object payload link) t h i = (i.0, i.1, link_moves m a b count n link t h i.2)
 object_moves m a b count n (directory links) t h i = links_move m a b count links t i
 
 objects_move : (m : Moves) (a b : ℕ → ℕ) (count n : ℕ) (os : List Object) → MovesTo m a b count → n + length os ≡ count → AreObjects n count os → AllByRecursion (MovesLinks m a b) os

@@ -4,7 +4,7 @@ use Rattle.std.specs.List.{AllByRecursion}
 use Rattle.hg_base.specs.declared.Check.{Check}
 use Rattle.hg_base.specs.declared.File.TheVariants.{Main, Temp}
 use Rattle.hg_base.specs.declared.PageId.{PageId}
-use Rattle.hg_io.specs.Count.{raised}
+use Rattle.hg_base.specs.Count.{raised}
 use Rattle.hg_machine.specs.Plain.Begin.{BeginsCommand}
 use Rattle.hg_machine.specs.Plain.Loose.{Loosely, loosely, looks_at_pages}
 use Rattle.hg_machine.specs.Plain.Refused.{damaged}

@@ -20,7 +20,7 @@ pub enum Next {
 pub trait Machine {
     ghost use Rattle.std.specs.Prelude.{◌≡◌, ◌<◌, ◌≤◌, ◌↔◌, ℕ, List, Bool, true, false};
     ghost use Rattle.arrayvec.specs.ArrayVec.{array_vec_len};
-    ghost use Rattle.hg_io.specs.Count.{raised};
+    ghost use Rattle.hg_base.specs.Count.{raised};
     ghost use Rattle.hg_machine.specs.Plain.Replies.{ReplyLine};
     ghost use Rattle.hg_machine.specs.Plain.Run.{is_pending};
     ghost use Rattle.hg_machine.specs.Plain.State.{State};

@@ -87,6 +87,7 @@ released_steady b pages x out h =
       };
       heaps = λ q n. refl;
       current = refl;
+      most = refl;
       caps = λ r. refl;
       peaks = λ r n. refl;
       counts = Later_same b.counts;

@@ -50,6 +50,7 @@ link_steady s l to out = record {
   of_heap = λ q n. refl;
   heaps = λ h n. refl;
   current = refl;
+  most = refl;
   caps = λ r. refl;
   peaks = λ r n. refl;
   counts = Later_same s.counts;

@@ -12,7 +12,7 @@ use Rattle.hg_serve.specs.declared.statuses.Status.{Status}
 use Rattle.hg_serve.specs.declared.statuses.Status.TheVariants as status
 use Rattle.hg_serve.specs.Output.{Moment, moment, Passes, Breaks}
 use Rattle.hg_serve.specs.Session.{AnswersLine, StoppingLine, BreaksOff}
-use Rattle.hg_serve.specs.Serving.{Running, Halting, Serves, Halts, Answers, AllAnswered, Finishes, Closes}
+use Rattle.hg_serve.specs.Serving.{Running, Halting, Serves, Halts, AnswersLines, AllAnswered, Finishes, Closes}
 use Rattle.hg_serve.proofs.Telling.{passes-then, breaks-then, text_of-append, has_error-append, counted-then, said-then, stops-put, stops-later}
 use Rattle.hg_serve.proofs.Breaking.{breaks-between, breaks-lines}
 use Rattle.hg_serve.proofs.Moving.{moves-lines}
@@ -78,7 +78,7 @@ module _ {E : Type 0} (Stands : E → State → Type 0) where
   }
 
   pub answers-serves : (tells : Bool) (first now : E) (old new : Moment) (s : Session) (taken : List ℕ) → Serves Stands tells first now old new s taken
-      → last_part [] taken ≡ [] → Answers Stands tells first now old new s.output (lines_of taken)
+      → last_part [] taken ≡ [] → AnswersLines Stands tells first now old new s.output (lines_of taken)
   answers-serves tells first now old new s taken serves none = record {
     replies = serves.replies;
     moves = rw (no-last-line taken none) serves.moves;
@@ -91,7 +91,7 @@ module _ {E : Type 0} (Stands : E → State → Type 0) where
   module _ (tells : Bool) (first now after : E) (old new later : Moment) (s : Session) (taken : List ℕ)
       (serves : Serves Stands tells first now old new s taken) (some : 0 < length (last_part [] taken)) where
     pub answers-last : (output : Output) → AnswersLine Stands tells now after new later s.output output (last_line taken)
-        → Answers Stands tells first after old later output (lines_of taken)
+        → AnswersLines Stands tells first after old later output (lines_of taken)
     answers-last output a = record {
       replies = serves.replies ++ a.replies;
       moves = rw (with-last-line taken some) (moves-lines Stands first now after tells (whole_lines taken) (last_line taken) serves.replies a.replies serves.moves a.moves);
@@ -114,7 +114,7 @@ module _ {E : Type 0} (Stands : E → State → Type 0) where
     }
 
   all-answered : (tells : Bool) (first now : E) (old : Moment) (w1 w2 : Option (List ℕ)) (f : DeviceFacts) (n : ℕ) (output : Output) (lines : List Line) (errors : Bool)
-      → Answers Stands tells first now old (moment w1 f n) output lines → Passes w1 w2 output.bytes.items [] [] → output.errors ≡ errors
+      → AnswersLines Stands tells first now old (moment w1 f n) output lines → Passes w1 w2 output.bytes.items [] [] → output.errors ≡ errors
       → AllAnswered Stands tells first now old (moment w2 f n) lines errors
   all-answered tells first now old w1 w2 f n output lines errors a passes shown = record {
     replies = a.replies;
@@ -126,7 +126,7 @@ module _ {E : Type 0} (Stands : E → State → Type 0) where
 
   -- what waited was written at the end
   pub closes-answers : (tells : Bool) (first now : E) (old : Moment) (w1 w2 : Option (List ℕ)) (f : DeviceFacts) (n : ℕ) (output : Output) (lines : List Line) (s : Status)
-      → Answers Stands tells first now old (moment w1 f n) output lines → Finishes w1 w2 output s
+      → AnswersLines Stands tells first now old (moment w1 f n) output lines → Finishes w1 w2 output s
       → Closes Stands tells first now old (moment w2 f n) lines s
   closes-answers tells first now old w1 w2 f n output lines status.Clean a (passes, shown) =
       all-answered tells first now old w1 w2 f n output lines false a passes shown

@@ -1,12 +1,12 @@
 -- from where a session stands to how a script ends
 use Rattle.std.proofs.Common.{◌≡◌, ◌≢◌, ℕ, ◌<◌, ◌≤◌, ◌+◌, ◌-◌, ◌^◌, Bool, List, [], ◌++◌, length, take, Option, None, Some, refl, sym, ap, ◌∙◌, arith, inl, inr, ◌⊎◌, append-nil, length-append}
 use Rattle.hg_io.specs.Bytes.{then, before, AtEnd, before-before}
-use Rattle.hg_io.specs.Count.{raised}
+use Rattle.hg_base.specs.Count.{raised}
 use Rattle.hg_base.specs.declared.File.TheVariants.{Main, Temp}
 use Rattle.hg_model.specs.Script.{Line, whole_lines, lines_of}
 use Rattle.hg_machine.specs.Plain.State.{State}
 use Rattle.hg_machine.specs.Plain.Replies.{ReplyLine, text_of, fault_lines}
-use Rattle.hg_machine.specs.Plain.Outcome.{Outside, Took, Says, AnswersAll, AnswersWholeLines, AnswersUpToLimit, AnswersInPart}
+use Rattle.hg_machine.specs.Plain.Outcome.{Outside, Took, AreRepliesTo, AnswersAll, AnswersWholeLines, AnswersUpToLimit, AnswersInPart}
 use Rattle.hg_reply.specs.Steps.{Moves, DeviceFacts}
 use Rattle.hg_serve.specs.declared.session.Session.{Session}
 use Rattle.hg_serve.specs.declared.statuses.Status.{Status}
@@ -88,7 +88,7 @@ module _ {E : Type 0} (Stands : E → State → Type 0) (tells : Bool) (first no
   the-replies : (old new : Outside) (lines : List Line) (replies : List ReplyLine) → Stands first start
       → Moves Stands first now (Running tells lines) replies
       → raised old.main_faults (fault_lines Main replies) ≤ new.main_faults → raised old.temp_faults (fault_lines Temp replies) ≤ new.temp_faults
-      → Says (Reaches Stands tells now start) old new lines replies
+      → AreRepliesTo (Reaches Stands tells now start) old new lines replies
   the-replies old new lines replies stood moves main temp =
       let there = moves.to start stood in
       record {
@@ -101,7 +101,7 @@ module _ {E : Type 0} (Stands : E → State → Type 0) (tells : Bool) (first no
       (stood : Stands first start) (took : Took (outside left0 given0 w0 f0) (outside left1 given1 w1 f1) taken) where
     -- the lines of which a front was written
     front-replies : (lines : List Line) (t : TellsFront Stands now (moment w0 f0 n0) (moment w1 f1 n1) [] (Halting tells lines start))
-        → Says (StopsAt Stands tells now start) (outside left0 given0 w0 f0) (outside left1 given1 w1 f1) lines t.replies
+        → AreRepliesTo (StopsAt Stands tells now start) (outside left0 given0 w0 f0) (outside left1 given1 w1 f1) lines t.replies
     front-replies lines t = record {
       run = record { last = t.after; stands = t.stands; runs = t.step };
       main_faults = t.told.counted.main;

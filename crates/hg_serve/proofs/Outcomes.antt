@@ -1,7 +1,7 @@
 -- What was answered by a run of one meaning was answered by a run of every wider one.
 use Rattle.std.specs.Prelude.{◌≡◌, ℕ, Bool, List, Option}
 use Rattle.std.proofs.Common.{subst, sym}
-use Rattle.hg_machine.specs.Plain.Outcome.{Meaning, Outside, Says, Answers, AnswersAll, AnswersWholeLines, AnswersUpToLimit, AnswersInPart}
+use Rattle.hg_machine.specs.Plain.Outcome.{Meaning, Outside, AreRepliesTo, AnswersScript, AnswersAll, AnswersWholeLines, AnswersUpToLimit, AnswersInPart}
 use Rattle.hg_machine.specs.Plain.Replies.{ReplyLine}
 use Rattle.hg_machine.specs.Plain.Run.{IsRun, RunsLines, StopsIn}
 use Rattle.hg_machine.specs.Plain.State.{State, Sizes, first_state}
@@ -13,10 +13,10 @@ use Rattle.hg_serve.specs.declared.statuses.Status.{Status}
 use Rattle.hg_serve.specs.declared.statuses.Status.TheVariants as status
 
 module _ (P Q : Meaning) (old new : Outside) (wider : (script : List Line) (lines : List ReplyLine) → P script lines → Q script lines) where
-  says-as : (script : List Line) (lines : List ReplyLine) → Says P old new script lines → Says Q old new script lines
+  says-as : (script : List Line) (lines : List ReplyLine) → AreRepliesTo P old new script lines → AreRepliesTo Q old new script lines
   says-as script lines r = record { run = wider script lines r.run; main_faults = r.main_faults; temp_faults = r.temp_faults }
 
-  answers-as : (script : List Line) (lines : List ReplyLine) → Answers P old new script lines → Answers Q old new script lines
+  answers-as : (script : List Line) (lines : List ReplyLine) → AnswersScript P old new script lines → AnswersScript Q old new script lines
   answers-as script lines a = record { of_run = says-as script lines a.of_run; text = a.text }
 
   all-as : (errors : Bool) → AnswersAll P old new errors → AnswersAll Q old new errors

@@ -37,7 +37,7 @@ pub record Serves {E : Type 0} (Stands : E → State → Type 0) (tells : Bool) 
   pub part : s.line.items ≡ take 4097 (last_part [] taken)
 
 -- the replies to all lines were written or wait
-pub record Answers {E : Type 0} (Stands : E → State → Type 0) (tells : Bool) (first now : E) (old new : Moment) (output : Output) (lines : List Line) : Type 0 where
+pub record AnswersLines {E : Type 0} (Stands : E → State → Type 0) (tells : Bool) (first now : E) (old new : Moment) (output : Output) (lines : List Line) : Type 0 where
   pub replies : List ReplyLine
   pub moves : Moves Stands first now (Running tells lines) replies
   pub passes : Passes old.written new.written [] output.bytes.items (text_of replies)

@@ -2,7 +2,7 @@
 ghost use Rattle.std.specs.Prelude.{◌≡◌, false, ◌≤◌, ◌+◌, ◌^◌, ◌<◌, [], ◌∷◌, ◌++◌, length, OnOk, OnErr, ◌||◌};
 ghost use Rattle.arrayvec.specs.ArrayVec.{array_vec_len};
 ghost use Rattle.hg_io.specs.Bytes.{then};
-ghost use Rattle.hg_io.specs.Count.{HasCause};
+ghost use Rattle.hg_io.specs.Count.{CountsFaults};
 ghost use Rattle.hg_serve.specs.Output.{WritesFront, Passes, Breaks};
 
 use arrayvec::ArrayVec;
@@ -38,7 +38,7 @@ impl Output {
         ensures kept { OnErr result (self.new ≡ self.old) }
         ensures few { array_vec_len self.old.bytes ≤ 49152 }
         ensures errors { self.new.errors ≡ self.old.errors }
-        ensures cause { HasCause (K.faults sink.old) (K.faults sink.new) result }
+        ensures cause { CountsFaults (K.faults sink.old) (K.faults sink.new) result }
     {
         write_all(sink, self.bytes.as_slice())?;
         self.bytes.clear();
@@ -55,7 +55,7 @@ impl Output {
         ensures part { OnErr result (Breaks (K.written sink.old) (K.written sink.new) self.old.bytes.items []) }
         ensures kept { OnErr result (self.new ≡ self.old) }
         ensures errors { self.new.errors ≡ self.old.errors }
-        ensures cause { HasCause (K.faults sink.old) (K.faults sink.new) result }
+        ensures cause { CountsFaults (K.faults sink.old) (K.faults sink.new) result }
     {
         if self.bytes.len() + bytes <= BUFFER_BYTES {
             return Ok(());
@@ -73,7 +73,7 @@ impl Output {
         ensures part { OnErr result (Breaks (K.written sink.old) (K.written sink.new) self.old.bytes.items reply.now.text.items) }
         ensures kept { OnErr result (self.new ≡ self.old) }
         ensures few { array_vec_len self.old.bytes + array_vec_len reply.now.text ≤ 49152 }
-        ensures cause { HasCause (K.faults sink.old) (K.faults sink.new) result }
+        ensures cause { CountsFaults (K.faults sink.old) (K.faults sink.new) result }
     {
         let text = reply.text.as_slice();
         self.make_room(text.len(), sink)?;
@@ -87,7 +87,7 @@ impl Output {
 fn write_all<K: Sink>(sink: &mut K, bytes: &[u8]) -> Result<(), Failed>
     ensures ok { OnOk result (K.written sink.new ≡ then (K.written sink.old) bytes.now) }
     ensures part { OnErr result (WritesFront (K.written sink.old) (K.written sink.new) bytes.now) }
-    ensures cause { HasCause (K.faults sink.old) (K.faults sink.new) result }
+    ensures cause { CountsFaults (K.faults sink.old) (K.faults sink.new) result }
 {
     let mut at = 0;
     while at < bytes.len() {

@@ -1,6 +1,7 @@
 //! Reads a script, answers its lines and closes the session.
 ghost use Rattle.std.specs.Prelude.{◌≡◌, ◌≢◌, ◌≤◌, ◌<◌, ◌+◌, ◌-◌, ◌^◌, ◌⊎◌, List, [], ℕ, true, false, IfOk, OnErr, length, min};
-ghost use Rattle.hg_io.specs.Count.{raised, Rose, HasCause};
+ghost use Rattle.hg_base.specs.Count.{raised, Rose};
+ghost use Rattle.hg_io.specs.Count.{CountsFaults};
 ghost use Rattle.hg_io.specs.Bytes.{Reads};
 ghost use Rattle.hg_machine.specs.Plain.State.{State};
 ghost use Rattle.hg_engine.specs.Shown.{IsEngineOf, faults_of, is_pending, said_by_engine, tells_of};
@@ -29,7 +30,7 @@ fn read_some<S: Source>(source: &mut S, buffer: &mut [u8], room: usize) -> Resul
     ensures bytes { ReadsSome (S.left source.old) (S.left source.new) result buffer.new room }
     ensures given { IfOk result (λ n. S.given source.new ≡ raised (S.given source.old) n) }
     ensures given_stays { OnErr result (S.given source.new ≡ S.given source.old) }
-    ensures cause { HasCause (S.faults source.old) (S.faults source.new) result }
+    ensures cause { CountsFaults (S.faults source.old) (S.faults source.new) result }
 {
     source.read(&mut buffer[..room])
 }

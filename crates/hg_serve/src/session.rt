@@ -1,7 +1,7 @@
 //! A session: the reply lines that wait, the line at hand, and the way of a line through the engine.
 ghost use Rattle.std.specs.Prelude.{◌≡◌, ◌≤◌, ◌+◌, ◌↔◌, ◌∷◌, ◌++◌, ℕ, List, true, false, take, length, OnOk, OnErr, IfSome, IfNone};
 ghost use Rattle.arrayvec.specs.ArrayVec.{array_vec_len};
-ghost use Rattle.hg_io.specs.Count.{HasCause};
+ghost use Rattle.hg_io.specs.Count.{CountsFaults};
 ghost use Rattle.hg_machine.specs.Plain.Replies.{ReplyLine as Said, line_text, is_error};
 ghost use Rattle.hg_parse.specs.Kept.{kept};
 ghost use Rattle.hg_parse.specs.Statements.{tree_in};
@@ -118,7 +118,7 @@ fn give_turns<E: Machine, K: Sink>(
     ensures idle { E.pending engine.new ≡ false }
     ensures later { NoneFell (E.faults engine.old) (E.faults engine.new) }
     ensures tells_stay { E.tells engine.new ≡ E.tells engine.old }
-    ensures cause { HasCause (K.faults sink.old) (K.faults sink.new) result }
+    ensures cause { CountsFaults (K.faults sink.old) (K.faults sink.new) result }
 {
     let mut left = next;
     while let Next::More = left {
@@ -170,7 +170,8 @@ pub struct Session {
 impl Session {
     ghost use Rattle.std.specs.Prelude.{◌≡◌, ◌≤◌, ◌∷◌, [], ◌++◌, ℕ, List, true, false, take, OnOk, OnErr};
     ghost use Rattle.arrayvec.specs.ArrayVec.{array_vec_len};
-    ghost use Rattle.hg_io.specs.Count.{Rose, HasCause};
+    ghost use Rattle.hg_base.specs.Count.{Rose};
+    ghost use Rattle.hg_io.specs.Count.{CountsFaults};
     ghost use Rattle.hg_model.specs.Script.{whole_lines, lines_of};
     ghost use Rattle.hg_serve.specs.Output.{Moment, moment, Passes, Breaks};
     ghost use Rattle.hg_reply.specs.Steps.{NoneFell};
@@ -207,7 +208,7 @@ impl Session {
         ensures idle { E.pending engine.new ≡ false }
         ensures later { NoneFell (E.faults engine.old) (E.faults engine.new) }
         ensures tells_stay { E.tells engine.new ≡ E.tells engine.old }
-        ensures cause { HasCause (K.faults sink.old) (K.faults sink.new) result }
+        ensures cause { CountsFaults (K.faults sink.old) (K.faults sink.new) result }
     {
         let line = self.line.as_slice();
         let next = begin(engine, line, ended, &mut self.room, &mut self.reply);
@@ -246,7 +247,7 @@ impl Session {
         ensures idle { E.pending engine.new ≡ false }
         ensures later { NoneFell (E.faults engine.old) (E.faults engine.new) }
         ensures tells_stay { E.tells engine.new ≡ E.tells engine.old }
-        ensures cause { HasCause (K.faults sink.old) (K.faults sink.new) result }
+        ensures cause { CountsFaults (K.faults sink.old) (K.faults sink.new) result }
     {
         self.keep(front);
         if let Err(Failed) = self.answer_line(true, engine, sink) {
@@ -273,7 +274,7 @@ impl Session {
         ensures idle { E.pending engine.new ≡ false }
         ensures later { NoneFell (E.faults engine.old) (E.faults engine.new) }
         ensures tells_stay { E.tells engine.new ≡ E.tells engine.old }
-        ensures cause { HasCause (K.faults sink.old) (K.faults sink.new) result }
+        ensures cause { CountsFaults (K.faults sink.old) (K.faults sink.new) result }
     {
         let mut rest = bytes;
         while let Some((front, behind)) = cut(rest) {
@@ -294,7 +295,7 @@ impl Session {
         ensures few { array_vec_len self.old.output.bytes ≤ 49152 }
         ensures errors { self.new.output.errors ≡ self.old.output.errors }
         ensures line { self.new.line ≡ self.old.line }
-        ensures cause { HasCause (K.faults sink.old) (K.faults sink.new) result }
+        ensures cause { CountsFaults (K.faults sink.old) (K.faults sink.new) result }
     {
         self.output.flush(sink)?;
         Ok(())

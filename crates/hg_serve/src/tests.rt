@@ -598,7 +598,7 @@ struct Forgetful;
 impl PageDevice for Forgetful {
     ghost use Rattle.std.specs.Prelude.{[], false, ◌^◌, ◌-◌};
     ghost use Rattle.std.proofs.Math.Nat.{le_refl};
-    ghost use Rattle.hg_io.specs.Count.{none_ends};
+    ghost use Rattle.hg_base.specs.Count.{none_ends};
 
     ghost pages = { λ _. 64 };
 

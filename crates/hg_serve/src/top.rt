@@ -1,6 +1,6 @@
 //! The top call.
 ghost use Rattle.std.specs.Prelude.{◌≡◌, ◌↔◌, ◌⊎◌, ◌<◌, ◌≤◌, ◌+◌, ◌-◌, ◌^◌, min, vec_len, true, false};
-ghost use Rattle.hg_io.specs.Count.{Rose};
+ghost use Rattle.hg_base.specs.Count.{Rose};
 ghost use Rattle.hg_machine.specs.Plain.Outcome.{AnswersAll, AnswersWholeLines, AnswersUpToLimit, AnswersInPart};
 ghost use Rattle.hg_reply.specs.Steps.{NoneFell};
 ghost use Rattle.hg_serve.specs.Ending.{outside};

@@ -3,7 +3,7 @@
 use Rattle.std.specs.Prelude.{◌≡◌, ℕ, ◌≤◌, ◌^◌, ◌<◌, ◌⊎◌, Bool, List, ◌++◌, length, Option}
 use Rattle.hg_base.specs.declared.File.TheVariants.{Main, Temp}
 use Rattle.hg_io.specs.Bytes.{then, before, AtEnd}
-use Rattle.hg_io.specs.Count.{raised}
+use Rattle.hg_base.specs.Count.{raised}
 use Rattle.hg_machine.specs.Plain.Replies.{ReplyLine, text_of, has_error, fault_lines}
 use Rattle.hg_model.specs.Script.{Line, lines_of, whole_lines}
 
@@ -27,14 +27,14 @@ Meaning = List Line → List ReplyLine → Type 0
 
 -- these are reply lines of a run over these lines; and no more of them say that a device failed than that
 -- device's count rose
-pub record Says (Run : Meaning) (old new : Outside) (script : List Line) (lines : List ReplyLine) : Type 0 where
+pub record AreRepliesTo (Run : Meaning) (old new : Outside) (script : List Line) (lines : List ReplyLine) : Type 0 where
   pub run : Run script lines
   pub main_faults : raised old.main_faults (fault_lines Main lines) ≤ new.main_faults
   pub temp_faults : raised old.temp_faults (fault_lines Temp lines) ≤ new.temp_faults
 
 -- what was written are the reply lines to these lines
-pub record Answers (Run : Meaning) (old new : Outside) (script : List Line) (lines : List ReplyLine) : Type 0 where
-  pub of_run : Says Run old new script lines
+pub record AnswersScript (Run : Meaning) (old new : Outside) (script : List Line) (lines : List ReplyLine) : Type 0 where
+  pub of_run : AreRepliesTo Run old new script lines
   pub text : new.written ≡ then old.written (text_of lines)
 
 -- the script was read to its end and answered, with an error line or with none
@@ -44,7 +44,7 @@ pub record AnswersAll (Run : Meaning) (old new : Outside) (errors : Bool) : Type
   pub few : length taken < 2 ^ 32
   pub at_end : AtEnd new.left
   pub lines : List ReplyLine
-  pub answers : Answers Run old new (lines_of taken) lines
+  pub answers : AnswersScript Run old new (lines_of taken) lines
   pub errors_shown : has_error lines ≡ errors
 
 -- fewer than 2^32 bytes were taken, and just the lines that a line feed ends were answered
@@ -53,7 +53,7 @@ pub record AnswersWholeLines (Run : Meaning) (old new : Outside) : Type 0 where
   pub took : Took old new taken
   pub few : length taken < 2 ^ 32
   pub lines : List ReplyLine
-  pub answers : Answers Run old new (whole_lines taken) lines
+  pub answers : AnswersScript Run old new (whole_lines taken) lines
 
 -- 2^32 bytes were taken, and just the lines that a line feed ends were answered
 pub record AnswersUpToLimit (Run : Meaning) (old new : Outside) : Type 0 where
@@ -61,7 +61,7 @@ pub record AnswersUpToLimit (Run : Meaning) (old new : Outside) : Type 0 where
   pub took : Took old new taken
   pub all : length taken ≡ 2 ^ 32
   pub lines : List ReplyLine
-  pub answers : Answers Run old new (whole_lines taken) lines
+  pub answers : AnswersScript Run old new (whole_lines taken) lines
 
 -- These are the first lines of what was taken: of the lines that a line feed ends, or, where the script
 -- was read to its end, of all lines.
@@ -79,7 +79,7 @@ pub record AnswersInPart (Stops : Meaning) (old new : Outside) : Type 0 where
   pub later : List Line
   pub first : FirstLines taken new.left script later
   pub lines : List ReplyLine
-  pub of_run : Says Stops old new script lines
+  pub of_run : AreRepliesTo Stops old new script lines
   pub front : List ℕ
   pub rest : List ℕ
   pub parts : text_of lines ≡ front ++ rest
