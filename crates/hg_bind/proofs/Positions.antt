@@ -1,6 +1,6 @@
 -- The place of a column of FROM, and its position in a row of the cross product.
 use Rattle.std.proofs.Common.{◌≡◌, ◌≤◌, ◌<◌, ℕ, zero, suc, ◌+◌, ◌-◌, Bool, true, false, List, [], ◌∷◌, ◌++◌, Option, Some, None, map, refl, sym, ap, ◌∙◌, length, if◌then◌else◌, arith}
-use Rattle.std.specs.Prelude.{slice_get, nat_lt}
+use Rattle.std.specs.Prelude.{slice_get, slice_index, nat_lt}
 use Rattle.std.proofs.lemmas.Bool.Decides.{nat_tests}
 use Rattle.std.proofs.lemmas.List.{length-append, length-map}
 use Rattle.hg_model.specs.Query.{Query}
@@ -24,6 +24,7 @@ pub record Stands (tables : List Table) (k : ℕ) (froms : List FromTable) (p : 
   pub there : slice_get (scope_from tables k froms) p ≡ Some column
   pub table_is : column.table ≡ k + table
   pub inside : table < length froms
+  pub within : column.place < slice_index (widths_of tables froms) table
   pub position : sum_before (widths_of tables froms) table + column.place ≡ p
 
 module _ (tables : List Table) where
@@ -33,7 +34,7 @@ module _ (tables : List Table) where
   own_count : (k : ℕ) (f : FromTable) → length (own k f) ≡ length (columns_of (table_named tables f.table))
   own_count k f = columns_count k f.alias 0 (columns_of (table_named tables f.table))
 
-  stands : (k : ℕ) (froms : List FromTable) (p : ℕ) → p < length (scope_from tables k froms) → Stands tables k froms p
+  pub stands : (k : ℕ) (froms : List FromTable) (p : ℕ) → p < length (scope_from tables k froms) → Stands tables k froms p
   stands k [] p h = absurd (omega arith)
   stands k (f ∷ fs) p h = by (nat_lt p (length (own k f))) refl (stands (suc k) fs (p - length (own k f)))
     where
@@ -48,6 +49,7 @@ module _ (tables : List Table) where
             there = front_at (own k f) (scope_from tables (suc k) fs) p here ∙ at.1;
             table_is = at.2 ∙ omega arith;
             inside = omega arith;
+            within = let q = at.3 in let count = own_count k f in omega (arith, q, count);
             position = let q = at.3 in omega (arith, q);
           }
       by false t next =
@@ -62,6 +64,7 @@ module _ (tables : List Table) where
             there = ap (slice_get (own k f ++ scope_from tables (suc k) fs)) split ∙ behind_at (own k f) (scope_from tables (suc k) fs) (p - length (own k f)) ∙ more.there;
             table_is = let t' = more.table_is in omega (arith, t');
             inside = let i = more.inside in omega (arith, i);
+            within = more.within;
             position = let q = more.position in omega (arith, q, count);
           }
 
@@ -117,7 +120,7 @@ module _ (scope : List FromColumn) (positions : List ℕ) (q : Query) where
   abbrev pair : OrderKey → Bool × Target
   pair k = (k.descending, target_of scope positions q k.by)
 
-  keys_back : (ks : List OrderKey) → map bound_pair (map (bound_key scope positions q) ks) ≡ map pair ks
+  pub keys_back : (ks : List OrderKey) → map bound_pair (map (bound_key scope positions q) ks) ≡ map pair ks
   keys_back [] = refl
   keys_back (k ∷ ks) =
       let first : bound_pair (bound_key scope positions q k) ≡ pair k = ap (λ t. (k.descending, t)) (target_back (target_of scope positions q k.by)) in

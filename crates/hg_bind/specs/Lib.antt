@@ -1,4 +1,5 @@
 pub mod Bound
+pub mod BoundMeaning
 pub mod BoundSelect
 pub mod Kinds
 pub mod Laws

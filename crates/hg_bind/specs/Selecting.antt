@@ -1,5 +1,5 @@
 -- How the binder looks at the nodes of a SELECT: each once, front to back. Our own rule.
-use Rattle.std.specs.Prelude.{ℕ, suc, Bool, true, false, List, [], ◌∷◌, ◌++◌, Option, Some, None, ◌&&◌, ◌||◌, not, nat_eq, length, slice_index, slice_index_or, ◌+◌, if◌then◌else◌}
+use Rattle.std.specs.Prelude.{◌≡◌, ◌<◌, ℕ, suc, Bool, true, false, List, [], ◌∷◌, ◌++◌, Option, Some, None, ◌&&◌, ◌||◌, not, nat_eq, length, slice_index, slice_index_or, ◌+◌, if◌then◌else◌}
 use Rattle.std.specs.List.{list_any, list_all}
 use Rattle.hg_model.specs.Binding.{is_place, is_order_key, is_output_target}
 use Rattle.hg_model.specs.Query.{Query}
@@ -72,6 +72,16 @@ named_from scope positions q k (n ∷ ns) = named_place scope positions q k n �
 abbrev pub named_sum : Bool → List (Option ℕ) → ℕ → List FromColumn → ℕ
 named_sum star named p [] = 0
 named_sum star named p (c ∷ cs) = (if star || list_any (is_place p) named then type_length c.column.ty else 0) + named_sum star named (suc p) cs
+
+-- the columns of FROM by their places: which of them are named
+pub record AreMarks (named : List (Option ℕ)) (count : ℕ) (marks : List Bool) : Type 0 where
+  pub count_is : length marks ≡ count
+  pub each : (p : ℕ) → p < count → slice_index_or marks p false ≡ list_any (is_place p) named
+
+-- one place more is marked, if it is that of a column
+pub record MarksOne (place : Option ℕ) (old new : List Bool) : Type 0 where
+  pub count : length new ≡ length old
+  pub each : (p : ℕ) → p < length old → slice_index_or new p false ≡ (is_place p place || slice_index_or old p false)
 
 -- the length of a key that is no output
 abbrev pub own_key_length : List ℕ → OrderBy → ℕ

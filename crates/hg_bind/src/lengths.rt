@@ -113,24 +113,39 @@ fn list_lengths(
     }
 }
 
-fn is_place(place: u8, other: Option<u8>) -> bool
-    ensures { result ≡ binding.is_place place other }
+/// Marks none of so many columns.
+fn unmark(count: usize, marks: &mut ArrayVec<bool, 64>)
+    requires few { count ≤ 64 }
+    requires empty { marks.old.items ≡ [] }
+    ensures { selecting.AreMarks [] count marks.new.items }
 {
-    match other {
-        None => false,
-        Some(other) => place == other,
+    for _column in 0..count {
+        marks.push(false);
     }
 }
 
-fn is_among(place: u8, named: &[Option<u8>]) -> bool
-    ensures { result ≡ list_any (binding.is_place place) named.now }
+/// Marks the column of a place, where there is one.
+fn mark(place: Option<u8>, marks: &mut ArrayVec<bool, 64>)
+    ensures { selecting.MarksOne place marks.old.items marks.new.items }
 {
-    for other in named {
-        if is_place(place, *other) {
-            return true;
+    if let Some(place) = place {
+        let place = place as usize;
+        if place < marks.len() {
+            marks[place] = true;
         }
     }
-    false
+}
+
+/// Marks the columns of FROM that are named. Each node is looked at once.
+fn list_marks(named: &[Option<u8>], count: usize, marks: &mut ArrayVec<bool, 64>)
+    requires few { count ≤ 64 }
+    requires empty { marks.old.items ≡ [] }
+    ensures { selecting.AreMarks named.now count marks.new.items }
+{
+    unmark(count, marks);
+    for place in named {
+        mark(*place, marks);
+    }
 }
 
 /// The lengths of the columns of FROM that the statement names, each once; a star names all.
@@ -138,10 +153,12 @@ fn named_length(scope: &[ScopeColumn], named: &[Option<u8>], star: bool) -> usiz
     requires { length scope.now ≤ 64 }
     ensures { result ≡ selecting.named_sum star named.now 0 scope.now }
 {
+    let mut marks = ArrayVec::new();
+    list_marks(named, scope.len(), &mut marks);
     let mut sum = 0;
     for place in 0..scope.len() {
         let column = &scope[place];
-        if star || is_among(place as u8, named) {
+        if star || marks[place] {
             sum += type_length(column.column.ty);
         }
     }

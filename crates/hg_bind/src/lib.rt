@@ -18,7 +18,8 @@
 //! ```
 //!
 //! The bound form of a SELECT has numbers in the place of names; a place is the position in a row of the cross
-//! product ([`places_are_positions`]):
+//! product ([`places_are_positions`]). Over rows that are found by these numbers it means what the statement
+//! means ([`bound_means_the_same`]), so no layer above looks at a name again:
 //!
 //! ```text
 //! SELECT * FROM t, w ORDER BY b        t (k, v), w (a, b)
@@ -54,13 +55,17 @@ mod tests;
 mod typing;
 mod update;
 mod width;
+#[cfg(test)]
+mod worked_tests;
 
 pub use create::{refuse_columns, refuse_table};
 pub use create_index::{place_index, place_key};
 pub use delete::{BoundDelete, bind_delete, place_delete, place_filter};
 pub use errors::BindError;
 pub use insert::{BoundInsert, bind_insert, place_insert, place_values};
-pub use laws::places_are_positions;
+pub use laws::{
+    bound_is_sound, bound_means_the_same, places_are_positions, read_keys_stand_apart,
+};
 pub use nodes::Places;
 pub use select::{BoundSelect, bind_select, place_select};
 pub use update::{BoundUpdate, bind_update, place_sets, place_update};

@@ -17,7 +17,7 @@ use std::alloc::Global;
 use std::process::Abort;
 use std::test::Fail;
 
-fn column(name: Name, ty: SqlType) -> Column
+pub fn column(name: Name, ty: SqlType) -> Column
     ensures { result ≡ record { name = name; ty = ty; not_null = false } }
 {
     Column {
@@ -27,7 +27,7 @@ fn column(name: Name, ty: SqlType) -> Column
     }
 }
 
-fn add(rt: &impl Abort, catalog: &mut Catalog, name: Name, columns: ArrayVec<Column, 16>)
+pub fn add(rt: &impl Abort, catalog: &mut Catalog, name: Name, columns: ArrayVec<Column, 16>)
     requires { IsNewTable columns.items }
 {
     if catalog.table_count() < 64 && catalog.table(&name).is_none() {
@@ -370,7 +370,7 @@ fn read(rt: &impl Abort, text: &str) -> Select {
 }
 
 /// What an error line says: its code, and behind it the name or the number of outputs.
-fn said(error: &BindError) -> (u8, &str, &str) {
+pub fn said(error: &BindError) -> (u8, &str, &str) {
     match &error.name {
         Some(column) => match &column.table {
             Some(table) => (error.code, table.as_str(), column.name.as_str()),
@@ -380,7 +380,7 @@ fn said(error: &BindError) -> (u8, &str, &str) {
     }
 }
 
-fn bound(rt: &impl Abort, catalog: &Catalog, text: &str) -> Result<BoundSelect, BindError> {
+pub fn bound(rt: &impl Abort, catalog: &Catalog, text: &str) -> Result<BoundSelect, BindError> {
     let select = read(rt, text);
     if select.nodes.len() > 96 {
         panic!(rt; "too many nodes");
