@@ -7,9 +7,11 @@ use Rattle.hg_base.specs.Count.{raised}
 use Rattle.hg_base.specs.Space.{at, key}
 use Rattle.hg_base.specs.declared.PageId.{PageId}
 use Rattle.hg_pool.specs.Picture.{frame_at, place_at, is_in, is_key_of}
-use Rattle.hg_pool.specs.Keys.{at-other, is_key_of-other}
+use Rattle.hg_pool.specs.Keys.{at-here, at-other, is_key_of-other}
+use Rattle.hg_pool.specs.Loans.{frames-set}
 use Rattle.hg_pool.specs.FrameLaws.{here-at, other-at, inside-of, page-of}
-use Rattle.hg_pool.specs.Shown.{in_frame, frame_of, SameFrames, SameFramesBut, KeepsFramesAll, KeepsFrames}
+use Rattle.hg_pool.specs.Shown.{in_frame, frame_of, page_in, owed, OwesSame, SameFrames, SameFramesBut, KeepsFramesAll, KeepsFrames}
+use Rattle.hg_pool.specs.Work.{owed_of}
 use Rattle.hg_pool.specs.Seen.{Frame}
 use Rattle.hg_pool.specs.declared.places.Places.{Places}
 use Rattle.hg_pool.specs.declared.parts.Parts.{Parts}
@@ -38,6 +40,24 @@ pub raised-more : (n : ℕ) → n < 2 ^ 64 - 1 → raised n 1 ≡ n → ⊥
 raised-more n below same = absurd (omega arith)
 
 module _ {M T : Type 0} where
+  -- what the frames owe, where one frame changed: each other one what it owed
+  pub owing-but : (a b : Parts M T) (f : ℕ) (x : Frame) → f < length a.store.frames.items → b.store.frames.items ≡ slice_set a.store.frames.items f x
+      → (g : ℕ) → g ≢ f → owed b g ≡ owed a g
+  owing-but a b f x there frames g n =
+      ap (λ (l : List Frame). owed_of (frame_at l g)) frames ∙ ap (λ (k : ℕ → Frame). owed_of (k g)) (frames-set a.store.frames.items f x there)
+      ∙ ap owed_of (at-other (frame_at a.store.frames.items) f x g n)
+
+  -- and that one too, where it owes what it owed
+  pub owing-kept : (a b : Parts M T) (f : ℕ) (x : Frame) → f < length a.store.frames.items → owed_of x ≡ owed_of (frame_at a.store.frames.items f)
+      → b.store.frames.items ≡ slice_set a.store.frames.items f x → OwesSame a b
+  owing-kept a b f x there same frames g =
+      elim (eqb_tells g f) [
+        | inl h ↦ ap (λ (l : List Frame). owed_of (frame_at l g)) frames ∙ ap (λ (k : ℕ → Frame). owed_of (k g)) (frames-set a.store.frames.items f x there)
+            ∙ ap owed_of (ap (at (frame_at a.store.frames.items) f x) h.1 ∙ at-here (frame_at a.store.frames.items) f x)
+            ∙ same ∙ sym (ap (λ (k : ℕ). owed_of (frame_at a.store.frames.items k)) h.1)
+        | inr n ↦ owing-but a b f x there frames g n.1
+      ]
+
   -- frames and places that did not change
   pub frames-stay : (a b : Parts M T) → b.store.frames.items ≡ a.store.frames.items → b.store.places ≡ a.store.places → SameFrames a b
   frames-stay a b frames places =
@@ -60,6 +80,7 @@ module _ {M T : Type 0} where
         stay = λ q h n. (inside q ∙ other-at frame place f x (key q) n ∙ h, ap (λ (p : Places). place_at p (key q)) places);
         none_came = λ q h. inside q ∙ none-at frame place f x (key q) page h;
         frames = λ g n. page-of a b f x g there frames ∙ ap (λ (y : Frame). y.page) (at-other frame f x g n);
+        owing = owing-but a b f x there frames;
       }
 
   -- a page that came into a frame of no page
@@ -76,18 +97,13 @@ module _ {M T : Type 0} where
         stay = λ q n h _. (inside q n ∙ h, stays q n);
         none_came = λ q n h. inside q n ∙ h;
         frames = λ g n. page-of a b f x g there frames ∙ ap (λ (y : Frame). y.page) (at-other frame f x g n);
+        owing = owing-but a b f x there frames;
       }
 
   -- One step behind another.
 
-  pub same-but : (a b : Parts M T) (page : PageId) → SameFrames a b → SameFramesBut a b page
-  same-but a b page h = record { stay = λ q n i. h.stay q i; none_came = λ q n o. h.none_came q o; frames = λ g n. h.frames g }
-
-  pub same-keeps : (a b : Parts M T) (f : ℕ) → SameFrames a b → KeepsFramesAll a b f
-  same-keeps a b f h = record { stay = λ q i n. h.stay q i; none_came = λ q o. h.none_came q o; frames = λ g n. h.frames g }
-
-  pub all-but : (a b : Parts M T) (page : PageId) (f : ℕ) → KeepsFramesAll a b f → KeepsFrames a b page f
-  all-but a b page f h = record { stay = λ q n i m. h.stay q i m; none_came = λ q n o. h.none_came q o; frames = h.frames }
+  pub same-but : (a b : Parts M T) (page : PageId) → SameFrames a b → OwesSame a b → SameFramesBut a b page
+  same-but a b page h o = record { stay = λ q n i. h.stay q i; none_came = λ q n o. h.none_came q o; frames = λ g n. h.frames g; owing = λ g n. o g }
 
   pub same-then : (a b c : Parts M T) → SameFrames a b → SameFrames b c → SameFrames a c
   same-then a b c h k = record {
@@ -100,18 +116,20 @@ module _ {M T : Type 0} where
   still-away : (a b : Parts M T) (f : ℕ) (q : PageId) → frame_of b q ≡ frame_of a q → frame_of a q ≢ f → frame_of b q ≢ f
   still-away a b f q e n h = n (sym e ∙ h)
 
-  pub same-then-keeps : (a b c : Parts M T) (f : ℕ) → SameFrames a b → KeepsFramesAll b c f → KeepsFramesAll a c f
-  same-then-keeps a b c f h k = record {
+  pub same-then-keeps : (a b c : Parts M T) (f : ℕ) → SameFrames a b → ((g : ℕ) → g ≢ f → owed b g ≡ owed a g) → KeepsFramesAll b c f → KeepsFramesAll a c f
+  same-then-keeps a b c f h o k = record {
     stay = λ q i n. let one = h.stay q i in let two = k.stay q one.0 (still-away a b f q one.1 n) in (two.0, two.1 ∙ one.1);
     none_came = λ q o. k.none_came q (h.none_came q o);
     frames = λ g n. k.frames g n ∙ h.frames g;
+    owing = λ g n. k.owing g n ∙ o g n;
   }
 
-  pub keeps-then-same : (a b c : Parts M T) (f : ℕ) → KeepsFramesAll a b f → SameFrames b c → KeepsFramesAll a c f
-  keeps-then-same a b c f h k = record {
+  pub keeps-then-same : (a b c : Parts M T) (f : ℕ) → KeepsFramesAll a b f → SameFrames b c → OwesSame b c → KeepsFramesAll a c f
+  keeps-then-same a b c f h k o = record {
     stay = λ q i n. let one = h.stay q i n in let two = k.stay q one.0 in (two.0, two.1 ∙ one.1);
     none_came = λ q o. k.none_came q (h.none_came q o);
     frames = λ g n. k.frames g ∙ h.frames g n;
+    owing = λ g n. o g ∙ h.owing g n;
   }
 
   pub keeps-then-but : (a b c : Parts M T) (page : PageId) (f : ℕ) → KeepsFramesAll a b f → KeepsFrames b c page f → KeepsFrames a c page f
@@ -119,13 +137,15 @@ module _ {M T : Type 0} where
     stay = λ q n i m. let one = h.stay q i m in let two = k.stay q n one.0 (still-away a b f q one.1 m) in (two.0, two.1 ∙ one.1);
     none_came = λ q n o. k.none_came q n (h.none_came q o);
     frames = λ g n. k.frames g n ∙ h.frames g n;
+    owing = λ g n. k.owing g n ∙ h.owing g n;
   }
 
-  pub but-then-same : (a b c : Parts M T) (page : PageId) (f : ℕ) → KeepsFrames a b page f → SameFrames b c → KeepsFrames a c page f
-  but-then-same a b c page f h k = record {
+  pub but-then-same : (a b c : Parts M T) (page : PageId) (f : ℕ) → KeepsFrames a b page f → SameFrames b c → OwesSame b c → KeepsFrames a c page f
+  but-then-same a b c page f h k o = record {
     stay = λ q n i m. let one = h.stay q n i m in let two = k.stay q one.0 in (two.0, two.1 ∙ one.1);
     none_came = λ q n o. k.none_came q (h.none_came q n o);
     frames = λ g n. k.frames g ∙ h.frames g n;
+    owing = λ g n. o g ∙ h.owing g n;
   }
 
   -- the frame held that page
@@ -134,4 +154,5 @@ module _ {M T : Type 0} where
     stay = λ q n i. h.stay q i (λ e. false≢true (sym (ap (λ (k : ℕ). is_key_of (key q) (frame_at a.store.frames.items k).page) e ∙ ap (is_key_of (key q)) holds ∙ is_key_of-other (key q) page n) ∙ i));
     none_came = λ q n o. h.none_came q o;
     frames = λ g n. h.frames g (λ e. n (ap (λ (k : ℕ). (frame_at a.store.frames.items k).page) e ∙ holds));
+    owing = λ g n. h.owing g (λ e. n (ap (λ (k : ℕ). (frame_at a.store.frames.items k).page) e ∙ holds));
   }

@@ -64,6 +64,15 @@ module _ {M T : Type 0} where
   abbrev pub SameStockOf : Parts M T → Parts M T → Type 0
   SameStockOf a b = SameStock a.store b.store
 
+  -- the file to which the page of a frame is written before it leaves the frame: none where its bytes are those on its
+  -- device
+  abbrev pub owed : Parts M T → ℕ → Option File
+  owed s f = owed_of (frame_at s.store.frames.items f)
+
+  -- each frame owes its device what it owed: no page became one that has to be written, and none was written
+  abbrev pub OwesSame : Parts M T → Parts M T → Type 0
+  OwesSame a b = (g : ℕ) → owed b g ≡ owed a g
+
   -- no device was called: both are as they were
   pub record CalledNone (a b : Parts M T) : Type 0 where
     pub main : main_device b ≡ main_device a
@@ -75,42 +84,41 @@ module _ {M T : Type 0} where
     pub none_came : (q : PageId) → in_frame a q ≡ false → in_frame b q ≡ false
     pub frames : (g : ℕ) → page_in b g ≡ page_in a g
 
-  -- the same of each page but this one
+  -- the same of each page but this one; each other one owes its device what it owed
   pub record SameFramesBut (a b : Parts M T) (page : PageId) : Type 0 where
     pub stay : (q : PageId) → key q ≢ key page → in_frame a q ≡ true → (in_frame b q ≡ true) × (frame_of b q ≡ frame_of a q)
     pub none_came : (q : PageId) → key q ≢ key page → in_frame a q ≡ false → in_frame b q ≡ false
     pub frames : (g : ℕ) → page_in a g ≢ Some page → page_in b g ≡ page_in a g
+    pub owing : (g : ℕ) → page_in a g ≢ Some page → owed b g ≡ owed a g
 
   -- each page that was in a frame other than f is in it, and no page came in, so that each other frame has the
-  -- page that it had
+  -- page that it had, and owes its device what it owed
   pub record KeepsFramesAll (a b : Parts M T) (f : ℕ) : Type 0 where
     pub stay : (q : PageId) → in_frame a q ≡ true → frame_of a q ≢ f → (in_frame b q ≡ true) × (frame_of b q ≡ frame_of a q)
     pub none_came : (q : PageId) → in_frame a q ≡ false → in_frame b q ≡ false
     pub frames : (g : ℕ) → g ≢ f → page_in b g ≡ page_in a g
+    pub owing : (g : ℕ) → g ≢ f → owed b g ≡ owed a g
 
   -- the same of each page but this one
   pub record KeepsFrames (a b : Parts M T) (page : PageId) (f : ℕ) : Type 0 where
     pub stay : (q : PageId) → key q ≢ key page → in_frame a q ≡ true → frame_of a q ≢ f → (in_frame b q ≡ true) × (frame_of b q ≡ frame_of a q)
     pub none_came : (q : PageId) → key q ≢ key page → in_frame a q ≡ false → in_frame b q ≡ false
     pub frames : (g : ℕ) → g ≢ f → page_in b g ≡ page_in a g
-
-  -- the file to which the page of a frame is written before it leaves the frame: none where its bytes are those on its
-  -- device
-  abbrev pub owed : Parts M T → ℕ → Option File
-  owed s f = owed_of (frame_at s.store.frames.items f)
+    pub owing : (g : ℕ) → g ≢ f → owed b g ≡ owed a g
 
   -- a page of the first file was written, if there is one, and a page of the second one was read
   abbrev pub Asked : Ghosts M → Ghosts T → Parts M T → Parts M T → Option File → Option File → Type 0
   Asked m t a b written read = Asks (disks_of m t a) a.store.counts (disks_of m t b) b.store.counts written read
 
   -- The write of the page of the victim failed, so that the page did not leave its frame: each page is in the frame that
-  -- it was in.
+  -- it was in, and owes its device what it owed.
   pub record StaysIn (m : Ghosts M) (t : Ghosts T) (a b : Parts M T) (fault : PageFault) : Type 0 where
     pub frame : ℕ
     pub takes : Takes (current_of a) (clock_of a) frame (clock_of b)
     pub fails : IsFaultOf (owed a frame) fault
     pub asked : Asked m t a b (owed a frame) None
     pub frames : SameFrames a b
+    pub owing : OwesSame a b
     pub evictions : b.store.counts.evictions ≡ a.store.counts.evictions
 
   -- The read of a page into the victim's frame failed: the page that was there had left it, after it was written where

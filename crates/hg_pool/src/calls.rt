@@ -11,7 +11,7 @@ impl<M: PageDevice, T: PageDevice> Parts<M, T> {
     ghost use Rattle.hg_pool.specs.Picture.{frame_at, place_at, taken_at, is_pinned};
     ghost use Rattle.hg_clock.specs.Clock.{score_of};
     ghost use Rattle.hg_pool.specs.Clocking.{ComesIn, used, back, forgotten};
-    ghost use Rattle.hg_pool.specs.Shown.{state_of, IsWhole, in_frame, frame_of, page_in, clock_of, current_of, SameStockOf, SameFrames, SameFramesBut, KeepsFrames, owed, Asked, StaysIn, IsRefused};
+    ghost use Rattle.hg_pool.specs.Shown.{state_of, IsWhole, in_frame, frame_of, page_in, clock_of, current_of, SameStockOf, SameFrames, SameFramesBut, KeepsFrames, owed, OwesSame, Asked, StaysIn, IsRefused};
     ghost use Rattle.hg_pool.specs.Work.{IsLowest, IsUnused, CallsNone, evicted};
 
     pub(crate) fn pin(&mut self, page: PageId) -> Result<(), PageFault>
@@ -39,6 +39,8 @@ impl<M: PageDevice, T: PageDevice> Parts<M, T> {
         ensures stays_ok { in_frame self.old page ≡ true → IsOk result }
         ensures keeps_frames { OnOk result (KeepsFrames self.old self.new page (frame_of self.new page)) }
         ensures same_frames { in_frame self.old page ≡ true → SameFrames self.old self.new }
+        ensures owing { in_frame self.old page ≡ true → OwesSame self.old self.new }
+        ensures clean { OnOk result (in_frame self.old page ≡ false → owed self.new (frame_of self.new page) ≡ None) }
         ensures keeps_counts { in_frame self.old page ≡ true → self.new.store.counts ≡ self.old.store.counts }
         ensures evicts { OnOk result (in_frame self.old page ≡ false → self.new.store.counts.evictions
             ≡ evicted (page_in self.old (frame_of self.new page)) self.old.store.counts.evictions) }
@@ -76,6 +78,7 @@ impl<M: PageDevice, T: PageDevice> Parts<M, T> {
         ensures full_calls_none { IsFull (state_of M.PageDevice T.PageDevice self.old) file → self.new.devices ≡ self.old.devices }
         ensures keeps_frames { IfOk result (λ page. KeepsFrames self.old self.new page (frame_of self.new page)) }
         ensures err_frames { OnErr result (SameFrames self.old self.new) }
+        ensures err_owing { OnErr result (OwesSame self.old self.new) }
         ensures evicts { IfOk result (λ page. self.new.store.counts.evictions
             ≡ evicted (page_in self.old (frame_of self.new page)) self.old.store.counts.evictions) }
         ensures none_evicted { OnErr result (self.new.store.counts.evictions ≡ self.old.store.counts.evictions) }
@@ -111,6 +114,7 @@ impl<M: PageDevice, T: PageDevice> Parts<M, T> {
         ensures stock { SameStockOf self.old self.new }
         ensures no_call { self.new.devices ≡ self.old.devices }
         ensures frames { SameFrames self.old self.new }
+        ensures owing { OwesSame self.old self.new }
     {
         match file {
             File::Main => {
@@ -142,6 +146,7 @@ impl<M: PageDevice, T: PageDevice> Parts<M, T> {
         ensures clock { clock_of self.new ≡ back (clock_of self.old) (frame_of self.old page) }
         ensures stock { SameStockOf self.old self.new }
         ensures frames { SameFrames self.old self.new }
+        ensures owing { OwesSame self.old self.new }
         ensures counts { self.new.store.counts ≡ self.old.store.counts }
         ensures no_call { self.new.devices ≡ self.old.devices }
     {
@@ -180,6 +185,7 @@ impl<M: PageDevice, T: PageDevice> Parts<M, T> {
         ensures clock { clock_of self.new ≡ clock_of self.old }
         ensures stock { SameStockOf self.old self.new }
         ensures frames { SameFrames self.old self.new }
+        ensures owing { OwesSame self.old self.new }
         ensures counts { self.new.store.counts ≡ self.old.store.counts }
         ensures no_call { self.new.devices ≡ self.old.devices }
     {

@@ -6,12 +6,12 @@ use hg_io::PageDevice;
 use hg_raw::Chain;
 
 impl<M: PageDevice, T: PageDevice> Parts<M, T> {
-    ghost use Rattle.std.specs.Prelude.{◌≡◌, ◌+◌, ◌<◌, ◌-◌, ◌^◌, ◌||◌, true, false, None, Some, OnOk, OnErr, IfOk, IfErr, IsOk};
+    ghost use Rattle.std.specs.Prelude.{◌≡◌, ◌≢◌, ℕ, ◌+◌, ◌<◌, ◌-◌, ◌^◌, ◌||◌, true, false, None, Some, OnOk, OnErr, IfOk, IfErr, IsOk};
     ghost use Rattle.hg_base.specs.Space.{key, IsSame};
     ghost use Rattle.hg_base.specs.Causes.{HasCause, PinFault, fault_of};
     ghost use Rattle.hg_clock.specs.Clock.{score_of};
     ghost use Rattle.hg_pool.specs.Clocking.{ComesIn, used, back};
-    ghost use Rattle.hg_pool.specs.Shown.{state_of, IsWhole, in_frame, frame_of, page_in, clock_of, current_of, SameFrames, KeepsFrames, owed, Asked, IsRefused};
+    ghost use Rattle.hg_pool.specs.Shown.{state_of, IsWhole, in_frame, frame_of, page_in, clock_of, current_of, SameFrames, KeepsFrames, owed, OwesSame, Asked, IsRefused};
     ghost use Rattle.hg_pool.specs.Work.{evicted, owed_by};
     ghost use Rattle.hg_pool.specs.Keeping.{SameStock};
     ghost use Rattle.hg_pool.specs.Lending.{put_back, IsHandedOut, lent_of, IsChainOf, bytes_in, IsAsOnDevice, OneMoreOut, OneLessOut, KeepsOut};
@@ -45,6 +45,8 @@ impl<M: PageDevice, T: PageDevice> Parts<M, T> {
         ensures stays_ok { in_frame self.old page ≡ true → IsOk result }
         ensures keeps_frames { OnOk result (KeepsFrames self.old self.new page (frame_of self.new page)) }
         ensures same_frames { in_frame self.old page ≡ true → SameFrames self.old self.new }
+        ensures owing { in_frame self.old page ≡ true → OwesSame self.old self.new }
+        ensures clean { OnOk result (in_frame self.old page ≡ false → owed self.new (frame_of self.new page) ≡ None) }
         ensures keeps_out { KeepsOut M.PageDevice T.PageDevice self.old self.new }
         ensures keeps_counts { in_frame self.old page ≡ true → self.new.store.counts ≡ self.old.store.counts }
         ensures evicts { OnOk result (in_frame self.old page ≡ false → self.new.store.counts.evictions
@@ -66,6 +68,7 @@ impl<M: PageDevice, T: PageDevice> Parts<M, T> {
             ≡ put_back (state_of M.PageDevice T.PageDevice self.old) (key page) (bytes_in self.old page chain) }
         ensures owing { dirty ≡ false → owed self.new (frame_of self.old page) ≡ owed self.old (frame_of self.old page) }
         ensures owing_dirty { dirty ≡ true → owed self.new (frame_of self.old page) ≡ Some page.file }
+        ensures owing_others { (g : ℕ) → g ≢ frame_of self.old page → owed self.new g ≡ owed self.old g }
         ensures clock { clock_of self.new ≡ back (clock_of self.old) (frame_of self.old page) }
         ensures stock { OneLessOut self.old self.new }
         ensures frames { SameFrames self.old self.new }

@@ -20,6 +20,7 @@ ghost use Rattle.hg_pool.specs.Shown.{
   SameFramesBut,
   KeepsFrames,
   owed,
+  OwesSame,
   Asked,
   StaysIn,
   IsRefused,
@@ -77,6 +78,8 @@ impl<M: PageDevice, T: PageDevice> Pages for Pool<M, T> {
         ensures stays_ok { in_frame self.old page ≡ true → IsOk result }
         ensures keeps_frames { OnOk result (KeepsFrames self.old self.new page (frame_of self.new page)) }
         ensures same_frames { in_frame self.old page ≡ true → SameFrames self.old self.new }
+        ensures owing { in_frame self.old page ≡ true → OwesSame self.old self.new }
+        ensures clean { OnOk result (in_frame self.old page ≡ false → owed self.new (frame_of self.new page) ≡ None) }
         ensures keeps_counts { in_frame self.old page ≡ true → counts_of_pool self.new ≡ counts_of_pool self.old }
         ensures evicts { OnOk result (in_frame self.old page ≡ false → (counts_of_pool self.new).evictions
             ≡ evicted (page_in self.old (frame_of self.new page)) (counts_of_pool self.old).evictions) }
@@ -114,6 +117,7 @@ impl<M: PageDevice, T: PageDevice> Pages for Pool<M, T> {
         ensures full_calls_none { IsFull (state_of M.PageDevice T.PageDevice self.old) file → CalledNone self.old self.new }
         ensures keeps_frames { IfOk result (λ pin. KeepsFrames self.old self.new pin.page (frame_of self.new pin.page)) }
         ensures err_frames { OnErr result (SameFrames self.old self.new) }
+        ensures err_owing { OnErr result (OwesSame self.old self.new) }
         ensures evicts { IfOk result (λ pin. (counts_of_pool self.new).evictions
             ≡ evicted (page_in self.old (frame_of self.new pin.page)) (counts_of_pool self.old).evictions) }
         ensures none_evicted { OnErr result ((counts_of_pool self.new).evictions ≡ (counts_of_pool self.old).evictions) }
@@ -143,6 +147,7 @@ impl<M: PageDevice, T: PageDevice> Pages for Pool<M, T> {
         ensures clock { clock_of self.new ≡ back (clock_of self.old) (frame_of self.old pin.page) }
         ensures stock { SameStockOf self.old self.new }
         ensures frames { SameFrames self.old self.new }
+        ensures owing { OwesSame self.old self.new }
         ensures counts { counts_of_pool self.new ≡ counts_of_pool self.old }
         ensures calls_none { CalledNone self.old self.new }
     {
@@ -176,6 +181,7 @@ impl<M: PageDevice, T: PageDevice> Pages for Pool<M, T> {
         ensures clock { clock_of self.new ≡ clock_of self.old }
         ensures stock { SameStockOf self.old self.new }
         ensures frames { SameFrames self.old self.new }
+        ensures owing { OwesSame self.old self.new }
         ensures counts { counts_of_pool self.new ≡ counts_of_pool self.old }
         ensures calls_none { CalledNone self.old self.new }
     {

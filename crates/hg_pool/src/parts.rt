@@ -18,7 +18,7 @@ impl<M: PageDevice, T: PageDevice> Parts<M, T> {
     ghost use Rattle.hg_pool.specs.Clocking.{is_busy};
     ghost use Rattle.hg_pool.specs.Picture.{frame_at, place_at, taken_at};
     ghost use Rattle.hg_pool.specs.Keeping.{is_inside, IsFoundAt};
-    ghost use Rattle.hg_pool.specs.Shown.{IsWhole, page_in, clock_of, current_of, owed, Asked, SameFrames, KeepsFramesAll, KeepsFrames, StaysIn, IsRefused};
+    ghost use Rattle.hg_pool.specs.Shown.{IsWhole, page_in, clock_of, current_of, owed, OwesSame, Asked, SameFrames, KeepsFramesAll, KeepsFrames, StaysIn, IsRefused};
     ghost use Rattle.hg_pool.specs.Passing.{PassesParts, Clears, IsClean, IsRoom, AreEmpty, HasRoom};
     ghost use Rattle.hg_pool.specs.Work.{IsFaultOf, evicted};
 
@@ -41,6 +41,7 @@ impl<M: PageDevice, T: PageDevice> Parts<M, T> {
         ensures frames { SameFrames self.old self.new }
         ensures others { (g : ℕ) → g ≢ at → frame_at self.new.store.frames.items g ≡ frame_at self.old.store.frames.items g }
         ensures failed { OnErr result (frame_at self.new.store.frames.items at ≡ frame_at self.old.store.frames.items at) }
+        ensures err_owing { OnErr result (OwesSame self.old self.new) }
     {
         self.store.count_write();
         match self.devices.save(page, &mut self.store.frames, at) {
@@ -74,6 +75,7 @@ impl<M: PageDevice, T: PageDevice> Parts<M, T> {
         ensures frames { SameFrames self.old self.new }
         ensures others { (g : ℕ) → g ≢ at → frame_at self.new.store.frames.items g ≡ frame_at self.old.store.frames.items g }
         ensures failed { OnErr result (frame_at self.new.store.frames.items at ≡ frame_at self.old.store.frames.items at) }
+        ensures err_owing { OnErr result (OwesSame self.old self.new) }
         ensures uncounted { self.new.store.counts.writes ≡ self.old.store.counts.writes → self.old.store.counts.writes < 2 ^ 64 - 1
             → self.new.devices ≡ self.old.devices }
     {
@@ -144,7 +146,9 @@ impl<M: PageDevice, T: PageDevice> Parts<M, T> {
         ensures evictions { self.new.store.counts.evictions ≡ self.old.store.counts.evictions }
         ensures page { OnErr result (page_in self.new at ≡ None) }
         ensures fills { OnOk result (KeepsFrames self.old self.new page at) }
+        ensures clean { OnOk result (owed self.new at ≡ None) }
         ensures err_frames { OnErr result (SameFrames self.old self.new) }
+        ensures err_owing { OnErr result (OwesSame self.old self.new) }
     {
         self.store.count_read();
         match self.devices.fill(page, &mut self.store.frames, at) {
@@ -181,6 +185,8 @@ impl<M: PageDevice, T: PageDevice> Parts<M, T> {
         ensures keeps_frames { IfOk result (λ f. KeepsFrames self.old self.new page f) }
         ensures keeps_counts { is_inside self.old.store (key page) ≡ true → self.new.store.counts ≡ self.old.store.counts }
         ensures same_frames { is_inside self.old.store (key page) ≡ true → SameFrames self.old self.new }
+        ensures owing { is_inside self.old.store (key page) ≡ true → OwesSame self.old self.new }
+        ensures clean { IfOk result (λ f. is_inside self.old.store (key page) ≡ false → owed self.new f ≡ None) }
         ensures evicts { IfOk result (λ f. is_inside self.old.store (key page) ≡ false
             → self.new.store.counts.evictions ≡ evicted (page_in self.old f) self.old.store.counts.evictions) }
         ensures uncounted { self.new.store.counts ≡ self.old.store.counts → self.old.store.counts.reads < 2 ^ 64 - 1

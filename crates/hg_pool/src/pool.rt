@@ -32,7 +32,7 @@ impl<M: PageDevice, T: PageDevice> Model for Pool<M, T> {
 }
 
 impl<M: PageDevice, T: PageDevice> Pool<M, T> {
-    ghost use Rattle.std.specs.Prelude.{◌≡◌, ◌≤◌, ◌<◌, ◌+◌, ◌-◌, ◌^◌, true, false, None, Some, IfOk, IfErr, IfSome, IfNone, IsOk, OnOk, OnErr, MatchResult};
+    ghost use Rattle.std.specs.Prelude.{◌≡◌, ◌≢◌, ℕ, ◌≤◌, ◌<◌, ◌+◌, ◌-◌, ◌^◌, true, false, None, Some, IfOk, IfErr, IfSome, IfNone, IsOk, OnOk, OnErr, MatchResult};
     ghost use Rattle.hg_base.specs.Space.{NoPins, IsSame, key};
     ghost use Rattle.hg_clock.specs.Clock.{score_of};
     ghost use Rattle.hg_pool.specs.Clocking.{ComesIn, used, back};
@@ -42,7 +42,7 @@ impl<M: PageDevice, T: PageDevice> Pool<M, T> {
     ghost use Rattle.hg_pool.specs.Resizing.{NoneOut, with_current, Writes, KeepsBelow, StaysWhole};
     ghost use Rattle.hg_pool.specs.Disks.{disk_of};
     ghost use Rattle.hg_pool.specs.Opening.{IsPossible, new_space, no_counts, first_clock};
-    ghost use Rattle.hg_pool.specs.Shown.{state_of, main_device, temp_device, current_of, counts_of_pool, clock_of, max_of, in_frame, frame_of, page_in, owed, Asked, IsRefused, SameFrames, KeepsFrames, NoneIn, SameStockOf, CalledNone};
+    ghost use Rattle.hg_pool.specs.Shown.{state_of, main_device, temp_device, current_of, counts_of_pool, clock_of, max_of, in_frame, frame_of, page_in, owed, OwesSame, Asked, IsRefused, SameFrames, KeepsFrames, NoneIn, SameStockOf, CalledNone};
 
     /// Reserves the frames and the page maps, and opens a pool in which no page is taken. The only error
     /// is want of memory; the devices are then handed back. No device is called.
@@ -161,6 +161,8 @@ impl<M: PageDevice, T: PageDevice> Pool<M, T> {
         ensures stays_ok { in_frame self.old page ≡ true → IsOk result }
         ensures keeps_frames { OnOk result (KeepsFrames self.old self.new page (frame_of self.new page)) }
         ensures same_frames { in_frame self.old page ≡ true → SameFrames self.old self.new }
+        ensures owing { in_frame self.old page ≡ true → OwesSame self.old self.new }
+        ensures clean { OnOk result (in_frame self.old page ≡ false → owed self.new (frame_of self.new page) ≡ None) }
         ensures keeps_out { KeepsOut M.PageDevice T.PageDevice self.old self.new }
         ensures keeps_counts { in_frame self.old page ≡ true → counts_of_pool self.new ≡ counts_of_pool self.old }
         ensures evicts { OnOk result (in_frame self.old page ≡ false → (counts_of_pool self.new).evictions
@@ -181,6 +183,7 @@ impl<M: PageDevice, T: PageDevice> Pool<M, T> {
             ≡ put_back (state_of M.PageDevice T.PageDevice self.old) (key page) (bytes_in self.old page chain) }
         ensures owing { dirty ≡ false → owed self.new (frame_of self.old page) ≡ owed self.old (frame_of self.old page) }
         ensures owing_dirty { dirty ≡ true → owed self.new (frame_of self.old page) ≡ Some page.file }
+        ensures owing_others { (g : ℕ) → g ≢ frame_of self.old page → owed self.new g ≡ owed self.old g }
         ensures clock { clock_of self.new ≡ back (clock_of self.old) (frame_of self.old page) }
         ensures stock { OneLessOut self.old self.new }
         ensures frames { SameFrames self.old self.new }

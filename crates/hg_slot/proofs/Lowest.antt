@@ -84,4 +84,7 @@ emptied a c d i x r l m w =
         | inr b ↦ let p = off b.slot in let is_slot = b.is_slot in let full = b.full in
             inr (record { slot = b.slot; is_slot = omega arith; full = omega arith; here = p ∙ b.here ∙ sym low })
       ];
+      beside = λ m n e f g.
+          let head_kept : take n (drop m d) ≡ take n (drop m c) = elim e [ inl h ↦ w.only.before m n h | inr h ↦ w.only.behind m n h ] in
+          head_kept ∙ r.beside m n f g;
     }

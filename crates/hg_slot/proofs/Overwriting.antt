@@ -199,6 +199,11 @@ removed a b c i from n s r z v =
       here = shown-empty c i v.offset;
       others = others-kept a c i t;
       count = count;
+      beside = λ m k d e.
+          let slot_kept : take k (drop m c) ≡ take k (drop m b) = elim d [ inl h ↦ v.only.before m k h | inr h ↦ v.only.behind m k (omega arith) ] in
+          let record_kept : take k (drop m b) ≡ take k (drop m a) =
+          elim e [ inl h ↦ w.only.before m k (omega arith) | inr h ↦ w.only.behind m k (omega arith) ] in
+          slot_kept ∙ record_kept;
     }
 
 pub within_record : (page : List ℕ) (k from n m : ℕ) → IsRecord page k from n → MatchOption (record_at page k) ⊥ (λ r. m ≤ length r) → m ≤ n

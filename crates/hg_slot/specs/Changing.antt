@@ -109,7 +109,9 @@ fault_at page k =
     if slice_index page 0 == 83 then (if nat_lt 128 (slots page) || reaches_past page k then Some Size else None)
     else Some Kind
 
--- A slot shows no record any more; the head names the lowest byte of those that are left.
+-- A slot shows no record any more; the head names the lowest byte of those that are left. Every part of the
+-- page without a byte of that number, of the slot or of the record that it showed is as it was: no other
+-- record was moved.
 pub record Empties (old new : List ℕ) (slot : ℕ) : Type 0 where
   pub clean : IsClean old → IsClean new
   pub slotted : IsSlotted new
@@ -117,14 +119,19 @@ pub record Empties (old new : List ℕ) (slot : ℕ) : Type 0 where
   pub others : KeepsOthers old new slot
   pub count : slots new ≡ slots old
   pub lowest : HasExactLowest new
+  pub beside : (m n : ℕ) → (m + n ≤ 4) ⊎ (6 ≤ m) → (m + n ≤ 16 + 4 * slot) ⊎ (20 + 4 * slot ≤ m)
+      → (m + n ≤ offset old slot) ⊎ (offset old slot + size old slot ≤ m) → take n (drop m new) ≡ take n (drop m old)
 
--- A slot's entry was emptied and its bytes made zero; the head is as it was.
+-- A slot's entry was emptied and its bytes made zero; the head is as it was, and so is every other part of
+-- the page.
 pub record Erases (old new : List ℕ) (slot : ℕ) : Type 0 where
   pub clean : IsClean old → IsClean new
   pub slotted : IsSlotted new
   pub here : record_at new slot ≡ None
   pub others : KeepsOthers old new slot
   pub count : slots new ≡ slots old
+  pub beside : (m n : ℕ) → (m + n ≤ 16 + 4 * slot) ⊎ (20 + 4 * slot ≤ m)
+      → (m + n ≤ offset old slot) ⊎ (offset old slot + size old slot ≤ m) → take n (drop m new) ≡ take n (drop m old)
 
 -- A new slot stands behind the others, and is empty.
 pub record AddsSlot (old new : List ℕ) : Type 0 where

@@ -197,7 +197,8 @@ pub fn verify(page: &[u8]) -> Result<(), Check>
 pub fn put(page: &mut [u8], slot: u16, at: u16, bytes: &[u8])
     requires slotted { IsSlotted page.old }
     requires inside { MatchOption (record_at page.old slot) ⊥ (λ r. at + length bytes.now ≤ length r) }
-    ensures { Overwrites page.old page.new slot at bytes.now }
+    ensures written { Overwrites page.old page.new slot at bytes.now }
+    ensures only { WritesPart page.old page.new slot at bytes.now }
 {
     if let Some(entry) = find(page, slot as usize) {
         set_bytes(page, entry.offset + at as usize, bytes);
@@ -247,7 +248,7 @@ pub fn get_mut(page: &mut [u8], slot: u16) -> Option<&mut [u8]>
     Some(&mut page[from..to])
 }
 
-/// Takes a record away. The slot has to show one; it is empty then, and stays.
+/// Takes a record away. The slot has to show one; it is empty then, and stays. No other record is moved.
 pub fn remove(page: &mut [u8], slot: u16)
     requires slotted { IsSlotted page.old }
     requires full { record_at page.old slot ≢ None }

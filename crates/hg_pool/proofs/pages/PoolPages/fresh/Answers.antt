@@ -11,7 +11,7 @@ use Rattle.hg_pool.specs.declared.parts.Parts.{Parts}
 use Rattle.hg_pool.specs.declared.pages.PoolPin.{PoolPin}
 use Rattle.hg_pool.proofs.Hands.{calls-none-ok, calls-none-err}
 use Rattle.std.proofs.Common.{◌<◌, ◌-◌, ◌^◌}
-use Rattle.hg_pool.specs.Shown.{page_in, SameFrames, KeepsFrames, StaysIn}
+use Rattle.hg_pool.specs.Shown.{page_in, SameFrames, KeepsFrames, StaysIn, OwesSame}
 use Rattle.hg_pool.specs.Work.{evicted}
 use Rattle.hg_pool.proofs.pages.PoolPages.fresh.Goals as goal
 
@@ -75,6 +75,13 @@ returns-in_err-page-clause-err_frames g c =
     let P : Parts g.row.M.Denot g.row.T.Denot → Type 0 = λ s. SameFrames s c.fresh.new.self in
     let Q : Result PoolPin PageFault → Type 0 = λ r. OnErr r (P c.args.self.now) in
     subst Q (sym p.1) (subst P c.self.view_is c.in_err-page.ensures.err_frames)
+
+pub returns-in_err-page-clause-err_owing : goal.returns-in_err-page-clause-err_owing
+returns-in_err-page-clause-err_owing g c =
+    let p = err_from_is_err_and c.from_residual.result c.from_residual.ensures.1 in
+    let P : Parts g.row.M.Denot g.row.T.Denot → Type 0 = λ s. OwesSame s c.fresh.new.self in
+    let Q : Result PoolPin PageFault → Type 0 = λ r. OnErr r (P c.args.self.now) in
+    subst Q (sym p.1) (subst P c.self.view_is c.in_err-page.ensures.err_owing)
 
 pub returns-clause-evicts : goal.returns-clause-evicts
 returns-clause-evicts g c =

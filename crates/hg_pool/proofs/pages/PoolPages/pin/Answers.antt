@@ -7,7 +7,8 @@ use Rattle.hg_pool.specs.Shown.{state_of, in_frame, frame_of, clock_of, current_
 use Rattle.hg_pool.specs.declared.parts.Parts.{Parts}
 use Rattle.hg_pool.specs.declared.pages.PoolPin.{PoolPin}
 use Rattle.std.proofs.Common.{◌<◌, ◌-◌, ◌^◌, ap}
-use Rattle.hg_pool.specs.Shown.{page_in, counts_of_pool, SameFrames, KeepsFrames}
+use Rattle.hg_pool.specs.Shown.{page_in, counts_of_pool, SameFrames, KeepsFrames, owed, OwesSame}
+use Rattle.std.proofs.Common.{None}
 use Rattle.hg_pool.specs.Work.{evicted}
 use Rattle.hg_pool.proofs.pages.PoolPages.pin.Goals as goal
 
@@ -37,6 +38,21 @@ pub returns-in_err-pin-clause-same_frames : goal.returns-in_err-pin-clause-same_
 returns-in_err-pin-clause-same_frames g c =
     let P : Parts g.row.M.Denot g.row.T.Denot → Type 0 = λ s. in_frame s c.args.page ≡ true → SameFrames s c.pin.new.self in
     subst P c.self.view_is c.in_err-pin.ensures.same_frames
+
+pub returns-clause-owing : goal.returns-clause-owing
+returns-clause-owing g c =
+    let P : Parts g.row.M.Denot g.row.T.Denot → Type 0 = λ s. in_frame s c.args.page ≡ true → OwesSame s c.pin.new.self in
+    subst P c.self.view_is c.in_ok-pin.ensures.owing
+
+pub returns-in_err-pin-clause-owing : goal.returns-in_err-pin-clause-owing
+returns-in_err-pin-clause-owing g c =
+    let P : Parts g.row.M.Denot g.row.T.Denot → Type 0 = λ s. in_frame s c.args.page ≡ true → OwesSame s c.pin.new.self in
+    subst P c.self.view_is c.in_err-pin.ensures.owing
+
+pub returns-clause-clean : goal.returns-clause-clean
+returns-clause-clean g c =
+    let P : Parts g.row.M.Denot g.row.T.Denot → Type 0 = λ s. in_frame s c.args.page ≡ false → owed c.pin.new.self (frame_of c.pin.new.self c.args.page) ≡ None in
+    subst P c.self.view_is c.in_ok-pin.ensures.clean
 
 pub returns-clause-keeps_counts : goal.returns-clause-keeps_counts
 returns-clause-keeps_counts g c =

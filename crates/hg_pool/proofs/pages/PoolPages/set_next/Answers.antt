@@ -4,7 +4,7 @@ use Rattle.hg_pool.specs.Shown.{state_of}
 use Rattle.std.proofs.Common.{subst}
 use Rattle.hg_pool.specs.Shown.{clock_of, SameStockOf}
 use Rattle.hg_pool.specs.declared.parts.Parts.{Parts}
-use Rattle.hg_pool.specs.Shown.{SameFrames, counts_of_pool}
+use Rattle.hg_pool.specs.Shown.{SameFrames, OwesSame, counts_of_pool}
 use Rattle.hg_pool.proofs.pages.PoolPages.set_next.Goals as goal
 
 pub returns-clause-after : goal.returns-clause-after
@@ -14,6 +14,11 @@ pub returns-clause-frames : goal.returns-clause-frames
 returns-clause-frames g c =
     let P : Parts g.row.M.Denot g.row.T.Denot → Type 0 = λ s. SameFrames s c.set_next.new.self in
     subst P c.self.view_is c.set_next.ensures.frames
+
+pub returns-clause-owing : goal.returns-clause-owing
+returns-clause-owing g c =
+    let P : Parts g.row.M.Denot g.row.T.Denot → Type 0 = λ s. OwesSame s c.set_next.new.self in
+    subst P c.self.view_is c.set_next.ensures.owing
 
 pub returns-clause-counts : goal.returns-clause-counts
 returns-clause-counts g c = c.set_next.ensures.counts ∙ ap (λ s. counts_of_pool s) c.self.view_is

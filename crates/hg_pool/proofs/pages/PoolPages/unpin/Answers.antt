@@ -4,7 +4,7 @@ use Rattle.hg_pool.specs.Clocking.{back}
 use Rattle.hg_pool.specs.Shown.{state_of, clock_of, frame_of, SameStockOf}
 use Rattle.std.proofs.Common.{subst}
 use Rattle.hg_pool.specs.declared.parts.Parts.{Parts}
-use Rattle.hg_pool.specs.Shown.{SameFrames, counts_of_pool}
+use Rattle.hg_pool.specs.Shown.{SameFrames, OwesSame, counts_of_pool}
 use Rattle.hg_pool.proofs.pages.PoolPages.unpin.Goals as goal
 
 pub returns-clause-after : goal.returns-clause-after
@@ -14,6 +14,11 @@ pub returns-clause-frames : goal.returns-clause-frames
 returns-clause-frames g c =
     let P : Parts g.row.M.Denot g.row.T.Denot → Type 0 = λ s. SameFrames s c.unpin.new.self in
     subst P c.self.view_is c.unpin.ensures.frames
+
+pub returns-clause-owing : goal.returns-clause-owing
+returns-clause-owing g c =
+    let P : Parts g.row.M.Denot g.row.T.Denot → Type 0 = λ s. OwesSame s c.unpin.new.self in
+    subst P c.self.view_is c.unpin.ensures.owing
 
 pub returns-clause-counts : goal.returns-clause-counts
 returns-clause-counts g c = c.unpin.ensures.counts ∙ ap (λ s. counts_of_pool s) c.self.view_is

@@ -57,7 +57,7 @@ returns-in_err-load-clause-refused g c =
       fails = c.in_err-load.ensures.fails;
       asked = asks-then d e k a.store.counts m.store.counts b.store.counts (owed a f) (Some page.file) c.in_ok-at.ensures.asked c.in_err-load.ensures.asked;
       empty = c.in_err-load.ensures.page;
-      frames = keeps-then-same a m b f c.in_ok-at.ensures.keeps c.in_err-load.ensures.err_frames;
+      frames = keeps-then-same a m b f c.in_ok-at.ensures.keeps c.in_err-load.ensures.err_frames c.in_err-load.ensures.err_owing;
       evictions = c.in_err-load.ensures.evictions ∙ c.in_ok-at.ensures.evicts;
     } in
     let P : Result ℕ PageFault → Type 0 = λ r. IfErr r (IsRefused g.M.PageDevice g.T.PageDevice a b page) in

@@ -16,7 +16,8 @@ use Rattle.hg_pool.proofs.Ranges.{has-place}
 use Rattle.hg_pool.proofs.Hands.{noted-place}
 use Rattle.hg_pool.specs.declared.parts.Parts.{Parts}
 use Rattle.hg_pool.specs.FrameLaws.{frame-kept}
-use Rattle.hg_pool.proofs.Staying.{frame-filled}
+use Rattle.hg_pool.proofs.Staying.{frame-filled, owing-kept}
+use Rattle.hg_pool.specs.Work.{owed_of}
 use Rattle.hg_pool.proofs.parts.Parts.load.Goals as goal
 
 pub fill-requires-clause-there : goal.fill-requires-clause-there
@@ -88,6 +89,30 @@ returns-in-Err-clause-err_frames g c =
     let z : Parts g.row.M.Denot g.row.T.Denot = record { devices = c.fill.new.self; store = record w { frames = c.fill.new.frames; answers = c.count.new.self } } in
     frame-kept a z i (record (frame_at s.frames.items i) { bytes = b }) c.requires.room.there refl
     (ap (λ (fr : FramesSeen). fr.items) (read-frames s w c.fill.new.frames i b (recounted w s _ c.count_read.ensures) c.fill.ensures.rest)) (ap (λ (y : Store). y.places) c.count_read.ensures)
+
+pub returns-in-Err-clause-err_owing : goal.returns-in-Err-clause-err_owing
+returns-in-Err-clause-err_owing g c =
+    let a : Parts g.row.M.Denot g.row.T.Denot = c.args.self.now in
+    let s : Store = a.store in
+    let i : ℕ = c.args.at in
+    let w : Store = c.count_read.new.self in
+    let b : List ℕ = (frame_at c.fill.new.frames.items i).bytes in
+    let z : Parts g.row.M.Denot g.row.T.Denot = record { devices = c.fill.new.self; store = record w { frames = c.fill.new.frames; answers = c.count.new.self } } in
+    owing-kept a z i (record (frame_at s.frames.items i) { bytes = b }) c.requires.room.there refl
+    (ap (λ (fr : FramesSeen). fr.items) (read-frames s w c.fill.new.frames i b (recounted w s _ c.count_read.ensures) c.fill.ensures.rest))
+
+-- the page that came in owes nothing
+pub returns-in-Ok-clause-clean : goal.returns-in-Ok-clause-clean
+returns-in-Ok-clause-clean g c =
+    let s : Store = c.args.self.now.store in
+    let i : ℕ = c.args.at in
+    let p : PageId = c.args.page in
+    let w : Store = c.count_read.new.self in
+    let b : List ℕ = (frame_at c.fill.new.frames.items i).bytes in
+    let y : Frame = record (frame_at s.frames.items i) { bytes = b; page = Some p; dirty = false } in
+    let moved = recounted w s _ c.count_read.ensures in
+    let two = filled-frames s.frames c.fill.new.frames c.set_page.new.self c.set_dirty.new.self i b p c.requires.room.there (read-frames s w c.fill.new.frames i b moved c.fill.ensures.rest) c.set_page.ensures c.set_dirty.ensures in
+    ap (λ (fr : FramesSeen). owed_of (frame_at fr.items i)) two ∙ ap owed_of (item-here s.frames i y c.requires.room.there)
 
 pub returns-in-Ok-clause-passes : goal.returns-in-Ok-clause-passes
 returns-in-Ok-clause-passes g c =

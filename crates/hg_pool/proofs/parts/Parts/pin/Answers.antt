@@ -16,7 +16,8 @@ use Rattle.hg_pool.specs.Shown.{frame_of, page_in, SameFrames, KeepsFrames}
 use Rattle.hg_pool.specs.Work.{evicted}
 use Rattle.hg_pool.specs.declared.parts.Parts.{Parts}
 use Rattle.hg_pool.specs.FrameLaws.{frame-kept}
-use Rattle.hg_pool.proofs.Staying.{same-then, but-then-same}
+use Rattle.hg_pool.proofs.Staying.{same-then, but-then-same, owing-kept}
+use Rattle.hg_pool.specs.Shown.{owed, OwesSame}
 use Rattle.hg_pool.proofs.parts.Parts.pin.Goals as goal
 
 pub returns-clause-whole : goal.returns-clause-whole
@@ -115,6 +116,24 @@ held-stays : {M T : Type 0} (a : Parts M T) (z : Store) (i : ℕ) → i < length
 held-stays a z i there e = frame-kept a (record a { store = z }) i (record (frame_at a.store.frames.items i) { pinned = true }) there refl
     (ap (λ (y : Store). y.frames.items) e) (ap (λ (y : Store). y.places) e)
 
+-- and each frame owes what it owed
+hold-owes : {M T : Type 0} (a : Parts M T) (z : Store) (i : ℕ) → i < length a.store.frames.items
+    → z ≡ record (with_frame a.store i (record (frame_at a.store.frames.items i) { pinned = true })) { pins = a.store.pins + 1; clock = used a.store.clock i } → OwesSame a (record a { store = z })
+hold-owes a z i there e = owing-kept a (record a { store = z }) i (record (frame_at a.store.frames.items i) { pinned = true }) there refl (ap (λ (y : Store). y.frames.items) e)
+
+pub returns-clause-owing : goal.returns-clause-owing
+returns-clause-owing g c =
+    let m : Parts g.row.M.Denot g.row.T.Denot = c.bring.new.self in
+    λ inside k. hold-owes m c.hold.new.self c.in_ok-at.at c.in_ok-at.ensures.found.there c.hold.ensures k ∙ c.in_ok-at.ensures.owing inside k
+
+pub returns-clause-clean : goal.returns-clause-clean
+returns-clause-clean g c =
+    let m : Parts g.row.M.Denot g.row.T.Denot = c.bring.new.self in
+    let b : Parts g.row.M.Denot g.row.T.Denot = record m { store = c.hold.new.self } in
+    let i : ℕ = c.in_ok-at.at in
+    let place : place_at c.hold.new.self.places (key c.args.page) ≡ i = ap (λ (y : Store). place_at y.places (key c.args.page)) c.hold.ensures ∙ sym c.in_ok-at.ensures.found.place in
+    λ outside. ap (owed b) place ∙ hold-owes m c.hold.new.self i c.in_ok-at.ensures.found.there c.hold.ensures i ∙ c.in_ok-at.ensures.clean outside
+
 pub returns-clause-keeps_frames : goal.returns-clause-keeps_frames
 returns-clause-keeps_frames g c =
     let a : Parts g.row.M.Denot g.row.T.Denot = c.args.self.now in
@@ -124,7 +143,8 @@ returns-clause-keeps_frames g c =
     let page = c.args.page in
     let place : frame_of b page ≡ i = ap (λ (y : Store). place_at y.places (key page)) c.hold.ensures ∙ sym c.in_ok-at.ensures.found.place in
     let P : ℕ → Type 0 = λ k. KeepsFrames a b page k in
-    subst P (sym place) (but-then-same a m b page i c.in_ok-at.ensures.keeps_frames (held-stays m c.hold.new.self i c.in_ok-at.ensures.found.there c.hold.ensures))
+    subst P (sym place) (but-then-same a m b page i c.in_ok-at.ensures.keeps_frames (held-stays m c.hold.new.self i c.in_ok-at.ensures.found.there c.hold.ensures)
+    (hold-owes m c.hold.new.self i c.in_ok-at.ensures.found.there c.hold.ensures))
 
 pub returns-clause-same_frames : goal.returns-clause-same_frames
 returns-clause-same_frames g c =

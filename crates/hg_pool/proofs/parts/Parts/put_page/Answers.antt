@@ -13,6 +13,7 @@ use Rattle.hg_pool.specs.Work.{owed_by, owed_of}
 use Rattle.hg_pool.specs.declared.parts.Parts.{Parts}
 use Rattle.hg_pool.specs.declared.store.Store.{Store}
 use Rattle.hg_pool.proofs.Asking.{owed-some, owed-none}
+use Rattle.hg_pool.proofs.Staying.{owing-but}
 use Rattle.hg_pool.proofs.Calling.{found-of}
 use Rattle.hg_pool.proofs.HandedOut.{puts-back, lent-at-place}
 use Rattle.hg_pool.proofs.InFrames.{not-or}
@@ -73,6 +74,17 @@ returns-clause-owing_dirty g c =
     let found : IsFoundAt s c.args.page f = found-of d s c.args.page (and-left (is_inside s (key c.args.page)) x.lent c.requires.out) in
     λ e. ap (λ (z : Store). owed_of (frame_at z.frames.items f)) after ∙ ap owed_of (frame-set s f y found.there)
     ∙ owed-some y c.args.page found.holds (ap (λ (t : Bool). t || x.dirty) e)
+
+pub returns-clause-owing_others : goal.returns-clause-owing_others
+returns-clause-owing_others g c =
+    let a : Parts g.row.M.Denot g.row.T.Denot = c.args.self.now in
+    let s : Store = a.store in
+    let d : Disks = disks_in g.M.PageDevice g.T.PageDevice c.args.self.now.devices in
+    let f : ℕ = place_at s.places (key c.args.page) in
+    let y : Frame = put_frame (frame_at s.frames.items f) (bytes_of c.args.chain.frames f) c.args.dirty in
+    let after = put-after s c.take_home.new.self c.at-at.result f c.args.chain.frames c.args.dirty c.at-at.ensures c.take_home.ensures.after in
+    owing-but a (record a { store = c.take_home.new.self }) f y (lent-at-place d s c.args.page c.requires.whole c.requires.out).0
+    (ap (λ (z : Store). z.frames.items) after)
 
 pub returns-clause-clock : goal.returns-clause-clock
 returns-clause-clock g c = ap (λ (z : Store). z.clock) c.take_home.ensures.after ∙ ap (λ (k : ℕ). back c.args.self.now.store.clock k) c.at-at.ensures

@@ -86,7 +86,7 @@ pub returns-in-None-clause-frames : goal.returns-in-None-clause-frames
 returns-in-None-clause-frames g c =
     let a : Parts g.row.M.Denot g.row.T.Denot = c.args.self.now in
     let b : Parts g.row.M.Denot g.row.T.Denot = record a { store = record a.store { maps = c.release-in-None.new.self } } in
-    same-but a b c.args.page (frames-stay a b refl refl)
+    same-but a b c.args.page (frames-stay a b refl refl) (λ k. refl)
 
 pub returns-in-Some-clause-counts : goal.returns-in-Some-clause-counts
 returns-in-Some-clause-counts g c = ap (λ (z : Store). z.counts) c.forget.ensures

@@ -11,7 +11,7 @@ use Rattle.hg_pool.specs.Clocking.{is_busy}
 use Rattle.std.proofs.Common.{length}
 use Rattle.std.specs.Prelude.{◌<◌, ◌-◌, ◌^◌}
 use Rattle.hg_pool.specs.Shown.{page_in, SameFrames}
-use Rattle.hg_pool.specs.Work.{evicted}
+use Rattle.hg_pool.specs.Work.{evicted, owed_of}
 use Rattle.hg_pool.specs.declared.parts.Parts.{Parts}
 use Rattle.hg_pool.proofs.Staying.{frames-stay, same-then, same-then-keeps}
 use Rattle.hg_pool.proofs.parts.Parts.room.Goals as goal
@@ -79,7 +79,9 @@ returns-clause-keeps g c =
     let k : Parts g.row.M.Denot g.row.T.Denot = c.clean.new.self in
     let b : Parts g.row.M.Denot g.row.T.Denot = c.empty.new.self in
     same-then-keeps a k b c.victim-at.result
-    (same-then a m k (hand-stays a c.victim-at.new.self c.victim-at.ensures.rest) c.in_ok-clean.ensures.frames) c.empty.ensures.keeps
+    (same-then a m k (hand-stays a c.victim-at.new.self c.victim-at.ensures.rest) c.in_ok-clean.ensures.frames)
+    (λ n apart. ap owed_of (c.in_ok-clean.ensures.others n apart) ∙ ap (λ (z : Store). owed_of (frame_at z.frames.items n)) c.victim-at.ensures.rest)
+    c.empty.ensures.keeps
 
 pub returns-clause-evicts : goal.returns-clause-evicts
 returns-clause-evicts g c =

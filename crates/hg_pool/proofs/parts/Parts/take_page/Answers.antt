@@ -23,7 +23,8 @@ use Rattle.hg_pool.proofs.Handing.{taken-keeps, refused-keeps}
 use Rattle.hg_pool.proofs.Hands.{comes-in, used-seven}
 use Rattle.hg_pool.proofs.Moves.{one-bytes}
 use Rattle.hg_pool.proofs.Passing.{ticks, frame-set}
-use Rattle.hg_pool.proofs.Staying.{same-then, but-then-same}
+use Rattle.hg_pool.proofs.Staying.{same-then, but-then-same, owing-kept}
+use Rattle.hg_pool.specs.Shown.{owed, OwesSame}
 use Rattle.hg_pool.proofs.Steps.{bool-not}
 use Rattle.hg_pool.proofs.parts.Parts.take_page.Goals as goal
 
@@ -141,6 +142,24 @@ returns-clause-score g c =
     ∙ ap (λ (f : ℕ). score_of (used z.clock i) f) (sym c.in_ok-at.ensures.found.place)
     ∙ used-seven z.clock i (ticks z i c.in_ok-at.ensures.passes.whole.shape c.in_ok-at.ensures.found.there)
 
+-- and each frame owes what it owed
+lend-owes : {M T : Type 0} (a : Parts M T) (z : Store) (i : ℕ) → i < length a.store.frames.items
+    → z ≡ record (with_frame a.store i (lent_frame (frame_at a.store.frames.items i))) { lent = a.store.lent + 1; clock = used a.store.clock i } → OwesSame a (record a { store = z })
+lend-owes a z i there e = owing-kept a (record a { store = z }) i (lent_frame (frame_at a.store.frames.items i)) there refl (ap (λ (y : Store). y.frames.items) e)
+
+pub returns-clause-owing : goal.returns-clause-owing
+returns-clause-owing g c =
+    let m : Parts g.row.M.Denot g.row.T.Denot = c.bring.new.self in
+    λ inside k. lend-owes m c.lend.new.self c.in_ok-at.at c.in_ok-at.ensures.found.there c.lend.ensures.after k ∙ c.in_ok-at.ensures.owing inside k
+
+pub returns-clause-clean : goal.returns-clause-clean
+returns-clause-clean g c =
+    let m : Parts g.row.M.Denot g.row.T.Denot = c.bring.new.self in
+    let b : Parts g.row.M.Denot g.row.T.Denot = record m { store = c.lend.new.self } in
+    let i : ℕ = c.in_ok-at.at in
+    let place : place_at c.lend.new.self.places (key c.args.page) ≡ i = ap (λ (y : Store). place_at y.places (key c.args.page)) c.lend.ensures.after ∙ sym c.in_ok-at.ensures.found.place in
+    λ outside. ap (owed b) place ∙ lend-owes m c.lend.new.self i c.in_ok-at.ensures.found.there c.lend.ensures.after i ∙ c.in_ok-at.ensures.clean outside
+
 pub returns-clause-keeps_frames : goal.returns-clause-keeps_frames
 returns-clause-keeps_frames g c =
     let a : Parts g.row.M.Denot g.row.T.Denot = c.args.self.now in
@@ -150,7 +169,8 @@ returns-clause-keeps_frames g c =
     let page = c.args.page in
     let place : frame_of b page ≡ i = ap (λ (y : Store). place_at y.places (key page)) c.lend.ensures.after ∙ sym c.in_ok-at.ensures.found.place in
     let P : ℕ → Type 0 = λ k. KeepsFrames a b page k in
-    subst P (sym place) (but-then-same a m b page i c.in_ok-at.ensures.keeps_frames (lent-stays m c.lend.new.self i c.in_ok-at.ensures.found.there c.lend.ensures.after))
+    subst P (sym place) (but-then-same a m b page i c.in_ok-at.ensures.keeps_frames (lent-stays m c.lend.new.self i c.in_ok-at.ensures.found.there c.lend.ensures.after)
+    (lend-owes m c.lend.new.self i c.in_ok-at.ensures.found.there c.lend.ensures.after))
 
 pub returns-clause-same_frames : goal.returns-clause-same_frames
 returns-clause-same_frames g c =

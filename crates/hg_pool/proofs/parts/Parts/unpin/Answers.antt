@@ -12,6 +12,7 @@ use Rattle.hg_pool.proofs.Passing.{ticks}
 use Rattle.hg_pool.specs.Clocking.{back}
 use Rattle.hg_pool.specs.declared.parts.Parts.{Parts}
 use Rattle.hg_pool.specs.FrameLaws.{frame-kept}
+use Rattle.hg_pool.proofs.Staying.{owing-kept}
 use Rattle.hg_pool.proofs.parts.Parts.unpin.Goals as goal
 
 pub returns-clause-whole : goal.returns-clause-whole
@@ -68,6 +69,17 @@ returns-clause-frames g c =
     let after : c.let_go.new.self ≡ record (with_frame s i x) { pins = s.pins - 1; clock = back s.clock i } =
     c.let_go.ensures ∙ ap (λ (k : ℕ). record (with_frame s k (record (frame_at s.frames.items k) { pinned = false })) { pins = s.pins - 1; clock = back s.clock k }) c.at-at.ensures in
     frame-kept a (record a { store = c.let_go.new.self }) i x there refl (ap (λ (z : Store). z.frames.items) after) (ap (λ (z : Store). z.places) after)
+
+pub returns-clause-owing : goal.returns-clause-owing
+returns-clause-owing g c =
+    let a : Parts g.row.M.Denot g.row.T.Denot = c.args.self.now in
+    let s : Store = a.store in
+    let i : ℕ = place_at s.places (key c.args.page) in
+    let x : Frame = record (frame_at s.frames.items i) { pinned = false } in
+    let there : i < length s.frames.items = frame-in s.frames.items i (key c.args.page) (and-left (is_inside s (key c.args.page)) (frame_at s.frames.items i).pinned c.requires.pinned) in
+    let after : c.let_go.new.self ≡ record (with_frame s i x) { pins = s.pins - 1; clock = back s.clock i } =
+    c.let_go.ensures ∙ ap (λ (k : ℕ). record (with_frame s k (record (frame_at s.frames.items k) { pinned = false })) { pins = s.pins - 1; clock = back s.clock k }) c.at-at.ensures in
+    owing-kept a (record a { store = c.let_go.new.self }) i x there refl (ap (λ (z : Store). z.frames.items) after)
 
 pub returns-clause-counts : goal.returns-clause-counts
 returns-clause-counts g c = ap (λ (z : Store). z.counts) c.let_go.ensures

@@ -14,6 +14,7 @@ use Rattle.hg_pool.specs.FrameLaws.{frame-kept}
 use Rattle.hg_pool.specs.Loans.{frames-set}
 use Rattle.hg_pool.specs.Keys.{at-other}
 use Rattle.hg_pool.proofs.Staying.{frames-stay}
+use Rattle.hg_pool.specs.Work.{owed_of}
 use Rattle.hg_pool.proofs.parts.Parts.write_back.Goals as goal
 
 pub save-requires-clause-in_range : goal.save-requires-clause-in_range
@@ -102,6 +103,10 @@ pub returns-in-Err-clause-failed : goal.returns-in-Err-clause-failed
 returns-in-Err-clause-failed g c =
     let i : ℕ = c.args.at in
     ap (λ (z : FramesSeen). frame_at z.items i) c.save.ensures.same ∙ ap (λ (z : Store). frame_at z.frames.items i) c.count_write.ensures
+
+pub returns-in-Err-clause-err_owing : goal.returns-in-Err-clause-err_owing
+returns-in-Err-clause-err_owing g c =
+    λ k. ap (λ (z : FramesSeen). owed_of (frame_at z.items k)) c.save.ensures.same ∙ ap (λ (z : Store). owed_of (frame_at z.frames.items k)) c.count_write.ensures
 
 pub returns-in-Ok-clause-others : goal.returns-in-Ok-clause-others
 returns-in-Ok-clause-others g c =
