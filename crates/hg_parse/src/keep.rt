@@ -525,8 +525,12 @@ impl Room {
         self.ends.clear();
     }
 
-    /// A room with nothing in it.
-    pub fn new() -> Room {
+    /// A room with nothing in it. It has 51 KB, and this call takes 127 KB of stack for a moment, which is why
+    /// it is never a part of its caller: keep the room where it is not moved.
+    #[inline(never)]
+    pub fn new() -> Room
+        ensures { kept result ≡ kept_of empty_draft }
+    {
         Room {
             nodes: ArrayVec::new(),
             texts: ArrayString::new(),

@@ -34,6 +34,9 @@ fn whole_line<'a>(input: &mut Input<'a>, room: &mut Room) -> Result<FormAt<'a>, 
 /// Reads a line into room that the caller keeps. A line is read on to its end where something does not
 /// fit, for it is no statement of the grammar if anything behind is wrong, and a number out of range comes
 /// before a count that is too great.
+///
+/// With all parentheses open that may be, it takes 25 KB of stack.
+#[inline(never)]
 pub fn parse_into(line: &[u8], max: u32, out: &mut Room) -> Result<Option<Statement>, ParseError>
     requires short { length line.now ≤ 4096 }
     ensures reads { (a : Reading) → Reads max line.now a ↔ (reading_in result (kept out.new) ≡ a) }

@@ -90,6 +90,7 @@ fn to_parsed(statement: Statement, room: Room) -> Parsed
 }
 
 /// What a line is read as.
+#[inline(never)]
 pub fn parse(line: &[u8], max: u32) -> Result<Option<Parsed>, ParseError>
     requires short { length line.now ≤ 4096 }
     ensures reads { (a : Reading) → Reads max line.now a ↔ (reading_given result ≡ a) }
