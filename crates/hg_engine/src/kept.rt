@@ -4,7 +4,9 @@ use crate::tables::Tables;
 use hg_io::PageDevice;
 use hg_model::Name;
 use hg_pool::Pool;
-use hg_reply::{Asked, CommandAt, InsertAt, Next, Reply, ReplyLine, SelectAt, TableAt};
+use hg_reply::{
+    Asked, CommandAt, InsertAt, Next, Reply, ReplyLine, SelectAt, TableAt, Words, built,
+};
 
 /// The tables of an engine, the pool of their pages, and how many bytes the replies had so far.
 pub struct Kept<M: PageDevice, T: PageDevice> {
@@ -24,7 +26,7 @@ impl<M: PageDevice, T: PageDevice> Kept<M, T> {
     ghost use Rattle.hg_model.specs.Value.{is_printable};
     ghost use Rattle.hg_reply.specs.Asked.{command_in, texts_in, table_at, insert_at, query_at, IsReadAs};
     ghost use Rattle.hg_reply.specs.Built.{is_built};
-    ghost use Rattle.hg_reply.specs.Steps.{DropsCommand, BeginsSo, ContinuesSo};
+    ghost use Rattle.hg_reply.specs.Steps.{DropsCommand, BeginsSo, BeginsRead, ContinuesSo};
     ghost use Rattle.hg_engine.specs.Shown.{space_of, IsEngineOf, IsSomeEngine, is_pending, turns_left, tells_of, frames_of, EngineSteps, IsLater};
     ghost use Rattle.hg_engine.specs.Stars.{star_of, from_one};
     ghost use Rattle.hg_engine.specs.Stepping.{CommandFinds, InsertFinds, TurnFinds, no_damage};
@@ -176,21 +178,40 @@ impl<M: PageDevice, T: PageDevice> Kept<M, T> {
         self.said = self.said.saturating_add(reply.text.len() as u64);
     }
 
+    /// A command up to its first turn, where there is such a one by now; else a syntax error.
+    fn begin_read(&mut self, asked: &Asked, reply: &mut Reply)
+        requires idle { is_pending self.old ≡ false }
+        requires stands { IsSomeEngine M.PageDevice T.PageDevice self.old }
+        requires read { IsReadAs (frames_of self.old) (command_in asked.now.command) (texts_in asked.now) }
+        ensures step { EngineSteps M.PageDevice T.PageDevice self.old self.new reply.new
+            (BeginsRead (tells_of M.PageDevice T.PageDevice self.old) (command_in asked.now.command) (texts_in asked.now))
+            (λ now. CommandFinds (space_of M.PageDevice T.PageDevice self.old) now (command_in asked.now.command)) }
+        ensures later { IsLater (space_of M.PageDevice T.PageDevice self.old) (space_of M.PageDevice T.PageDevice self.new) }
+        ensures said { self.new.said ≡ self.old.said }
+        ensures frames { frames_of self.new ≡ frames_of self.old }
+    {
+        if !built(&asked.command) {
+            reply.clear();
+            reply.say(&ReplyLine::Error(1, Words::Nothing));
+            return;
+        }
+        self.begin(asked, reply);
+    }
+
     /// Answers a command up to its first turn.
     pub(crate) fn answer(&mut self, asked: &Asked, reply: &mut Reply) -> Next
         requires idle { is_pending self.old ≡ false }
         requires stands { IsSomeEngine M.PageDevice T.PageDevice self.old }
         requires read { IsReadAs (frames_of self.old) (command_in asked.now.command) (texts_in asked.now) }
-        requires built { is_built (command_in asked.now.command) ≡ true }
         ensures step { EngineSteps M.PageDevice T.PageDevice self.old self.new reply.new
-            (BeginsSo (tells_of M.PageDevice T.PageDevice self.old) (command_in asked.now.command) (texts_in asked.now))
+            (BeginsRead (tells_of M.PageDevice T.PageDevice self.old) (command_in asked.now.command) (texts_in asked.now))
             (λ now. CommandFinds (space_of M.PageDevice T.PageDevice self.old) now (command_in asked.now.command)) }
         ensures more { (result ≡ Next.More) ↔ (is_pending self.new ≡ true) }
         ensures later { IsLater (space_of M.PageDevice T.PageDevice self.old) (space_of M.PageDevice T.PageDevice self.new) }
         ensures said { self.new.said ≡ raised self.old.said (array_vec_len reply.new.text) }
         ensures frames { frames_of self.new ≡ frames_of self.old }
     {
-        self.begin(asked, reply);
+        self.begin_read(asked, reply);
         self.count(reply);
         self.next()
     }

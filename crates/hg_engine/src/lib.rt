@@ -10,13 +10,12 @@
 //!                         -- POOL         --> other frames in use
 //! ```
 //!
-//! The contract used above is that of [`Database`]: one call is one small step of the plain machine over
+//! The contract used above is that of [`Engine`]: one call is one small step of the plain machine over
 //! the engine's own state, exactly so where its devices tell what stands on their pages, and loosely where
 //! they do not.
 #![tactic(auto)]
 
 mod create;
-mod database;
 mod engine;
 mod first;
 mod insert;
@@ -27,6 +26,6 @@ mod scan;
 mod select;
 mod tables;
 
-pub use database::{Database, Devices};
-pub use engine::Engine;
+pub use engine::{Devices, Engine};
 pub use hg_pool::Config;
+pub use hg_reply::{Machine, Next, Reply};

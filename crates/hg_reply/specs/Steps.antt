@@ -1,5 +1,5 @@
 -- What one small step of an engine promises, in the words of the plain machine. Our own rule.
-use Rattle.std.specs.Prelude.{◌≡◌, ℕ, ◌≤◌, Bool, true, false, List}
+use Rattle.std.specs.Prelude.{◌≡◌, ℕ, ◌≤◌, Bool, true, false, List, [], ◌∷◌}
 use Rattle.std.specs.List.{AllByRecursion}
 use Rattle.hg_base.specs.declared.Check.{Check}
 use Rattle.hg_base.specs.declared.File.TheVariants.{Main, Temp}
@@ -7,7 +7,7 @@ use Rattle.hg_base.specs.declared.PageId.{PageId}
 use Rattle.hg_base.specs.Count.{raised}
 use Rattle.hg_machine.specs.Plain.Begin.{BeginsCommand}
 use Rattle.hg_machine.specs.Plain.Loose.{Loosely, loosely, looks_at_pages}
-use Rattle.hg_machine.specs.Plain.Refused.{damaged}
+use Rattle.hg_machine.specs.Plain.Refused.{damaged, syntax_error}
 use Rattle.hg_machine.specs.Plain.Replies.{ReplyLine, text_of, has_error, fault_lines, full_lines, is_code}
 use Rattle.hg_machine.specs.Plain.Run.{Manner, Continues, exactly, dropped}
 use Rattle.hg_machine.specs.Plain.State.{State}
@@ -82,6 +82,12 @@ manner false = loosely (exactly is_built)
 abbrev pub BeginsSo : Bool → CommandTree → List ℕ → State → List ReplyLine → State → Type 0
 BeginsSo true c texts old lines new = BeginsCommand old c texts lines new
 BeginsSo false c texts old lines new = Loosely (λ s. looks_at_pages c ≡ true) (λ s. BeginsCommand s c texts) old lines new
+
+-- A command that a line is read as: it begins, where it is one that there is by now; any other is a syntax
+-- error, and the state stays.
+pub data BeginsRead (tells : Bool) (c : CommandTree) (texts : List ℕ) (old : State) (lines : List ReplyLine) (new : State) : Type 0 where
+  is_there : is_built c ≡ true → BeginsSo tells c texts old lines new → BeginsRead tells c texts old lines new
+  is_not_there : is_built c ≡ false → lines ≡ syntax_error ∷ [] → new ≡ old → BeginsRead tells c texts old lines new
 
 -- a turn of the command at work, with its end behind it where that says nothing; or the line at its end
 abbrev pub ContinuesSo : Bool → State → List ReplyLine → State → Type 0

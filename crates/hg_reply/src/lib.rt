@@ -7,6 +7,7 @@
 #![tactic(auto)]
 
 mod asked;
+mod commands;
 mod lent;
 mod lines;
 mod machine;
@@ -14,6 +15,7 @@ mod reply;
 mod row;
 
 pub use asked::{Asked, CommandAt, DeleteAt, IndexAt, InsertAt, SelectAt, TableAt, UpdateAt};
+pub use commands::built;
 pub use lent::asked_by;
 pub use lines::{Cursor, Figures, ReplyLine, Text, Words, print};
 pub use machine::{Machine, Next};

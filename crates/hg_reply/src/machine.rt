@@ -26,8 +26,7 @@ pub trait Machine {
     ghost use Rattle.hg_machine.specs.Plain.State.{State};
     ghost use Rattle.hg_model.specs.Statements.{CommandTree};
     ghost use Rattle.hg_reply.specs.Asked.{command_in, texts_in, IsReadAs};
-    ghost use Rattle.hg_reply.specs.Built.{is_built};
-    ghost use Rattle.hg_reply.specs.Steps.{DeviceFacts, NoneFell, FullCounts, FullsLater, Says, FullOnlyWhereFull, Findings, TellOnlyFound, Moves, BeginsSo, ContinuesSo, DropsCommand};
+    ghost use Rattle.hg_reply.specs.Steps.{DeviceFacts, NoneFell, FullCounts, FullsLater, Says, FullOnlyWhereFull, Findings, TellOnlyFound, Moves, BeginsRead, ContinuesSo, DropsCommand};
 
     /// Which states of the plain machine the engine stands for.
     ghost stands: { Self → State → Type 0 };
@@ -64,14 +63,13 @@ pub trait Machine {
     fn max(&self) -> u32
         ensures { result ≡ frames self.now };
 
-    /// Answers a command up to its first turn. It is one that a line is read as, and one that there is by
-    /// now.
+    /// Answers a command that a line is read as, up to its first turn. One that there is not by now is a
+    /// syntax error, and changes nothing.
     fn answer(&mut self, asked: &Asked, reply: &mut Reply) -> Next
         requires idle { pending self.old ≡ false }
         requires read { IsReadAs (frames self.old) (command_in asked.now.command) (texts_in asked.now) }
-        requires built { is_built (command_in asked.now.command) ≡ true }
         ensures step { (lines : List ReplyLine) × Says reply.new (faults self.old) (faults self.new) lines
-            × Moves stands self.old self.new (BeginsSo (tells self.old) (command_in asked.now.command) (texts_in asked.now)) lines
+            × Moves stands self.old self.new (BeginsRead (tells self.old) (command_in asked.now.command) (texts_in asked.now)) lines
             × FullOnlyWhereFull (fulls self.old) (fulls self.new) lines
             × TellOnlyFound (found_by self.old self.new (command_in asked.now.command)) lines }
         ensures more { (result ≡ Next.More) ↔ (pending self.new ≡ true) }

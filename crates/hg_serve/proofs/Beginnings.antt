@@ -18,8 +18,8 @@ use Rattle.hg_parse.specs.declared.statement.ParseError.TheVariants as error
 use Rattle.std.specs.Prelude.{Err}
 use Rattle.hg_reply.specs.Built.{is_built}
 use Rattle.hg_reply.specs.Asked.{IsReadAs}
-use Rattle.hg_reply.specs.Steps.{BeginsSo}
-use Rattle.hg_serve.specs.Asking.{Beginning, BeginsRead, is_there, is_not_there, refusal_of}
+use Rattle.hg_reply.specs.Steps.{BeginsSo, BeginsRead, is_there, is_not_there}
+use Rattle.hg_serve.specs.Asking.{Beginning, refusal_of}
 use Rattle.hg_serve.proofs.LineLemmas.{short-whole}
 
 -- the machine's own beginning is one in either manner
@@ -107,6 +107,6 @@ pub read-same : (n : ℕ) (t u : CommandTree) (x y : List ℕ) → t ≡ u → x
 read-same n t u x y same texts is = subst (λ z. IsReadAs n u z) texts (subst (λ z. IsReadAs n z x) same is)
 
 pub begins-same : (tells : Bool) (t u : CommandTree) (x y : List ℕ) (a b : State) (rs : List ReplyLine) → t ≡ u → x ≡ y
-    → BeginsSo tells t x a rs b → BeginsSo tells u y a rs b
+    → BeginsRead tells t x a rs b → BeginsRead tells u y a rs b
 begins-same tells t u x y a b rs same texts begins =
-    subst (λ z. BeginsSo tells u z a rs b) texts (subst (λ z. BeginsSo tells z x a rs b) same begins)
+    subst (λ z. BeginsRead tells u z a rs b) texts (subst (λ z. BeginsRead tells z x a rs b) same begins)

@@ -16,7 +16,6 @@
 #![tactic(auto)]
 
 mod asking;
-mod commands;
 mod lines;
 mod output;
 mod serving;
@@ -24,11 +23,12 @@ mod session;
 mod statuses;
 mod top;
 
-pub use commands::built;
 pub use hg_engine::{Config, Devices, Engine};
 pub use serving::serve;
 pub use statuses::Status;
 pub use top::{Outcome, run};
 
+#[cfg(test)]
+mod embedding;
 #[cfg(test)]
 mod tests;

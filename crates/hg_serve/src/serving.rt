@@ -15,7 +15,8 @@ use crate::session::Session;
 use crate::statuses::Status;
 use hg_engine::Engine;
 use hg_io::{Failed, PageDevice, Sink, Source};
-use hg_reply::Machine;
+use hg_parse::Room;
+use hg_reply::{Machine, Reply};
 
 /// How many bytes of a script are taken at most.
 const SCRIPT_LIMIT: u64 = 1 << 32;
@@ -36,11 +37,13 @@ fn read_some<S: Source>(source: &mut S, buffer: &mut [u8], room: usize) -> Resul
 }
 
 /// Serves the script of the source to its end, to its limit, or until source or sink fails. The reply
-/// lines that wait are written before the source is asked for more.
-fn read_and_answer<E: Machine, S: Source, K: Sink>(
+/// lines that wait are written before the source is asked for more. Lines are read into `statement_room`.
+#[inline(never)]
+pub fn read_and_answer<E: Machine, S: Source, K: Sink>(
     engine: &mut E,
     source: &mut S,
     sink: &mut K,
+    statement_room: &mut Room,
 ) -> Status
     requires idle { E.pending engine.old ≡ false }
     ensures ends { (first : State) → E.stands engine.old first → Ends (Reaches E.stands (E.tells engine.old) engine.new first) (StopsAt E.stands (E.tells engine.old) engine.new first)
@@ -59,6 +62,7 @@ fn read_and_answer<E: Machine, S: Source, K: Sink>(
     ensures source_later { S.faults source.old ≤ S.faults source.new }
     ensures sink_later { K.faults sink.old ≤ K.faults sink.new }
 {
+    let mut reply = Reply::new();
     let mut session = Session::new();
     let mut buffer = [0; READ_BYTES];
     let mut taken = 0;
@@ -72,10 +76,10 @@ fn read_and_answer<E: Machine, S: Source, K: Sink>(
             Err(Failed) => return Status::SourceFault,
         };
         if count == 0 {
-            return session.end(engine, sink);
+            return session.end(statement_room, &mut reply, engine, sink);
         }
         let (bytes, _) = buffer.split_at(count);
-        if let Err(Failed) = session.feed(bytes, engine, sink) {
+        if let Err(Failed) = session.feed(bytes, statement_room, &mut reply, engine, sink) {
             return Status::SinkFault;
         }
         taken += count as u64;
@@ -87,7 +91,8 @@ fn read_and_answer<E: Machine, S: Source, K: Sink>(
 }
 
 /// Serves the script of `source` by the engine, and writes the replies to `sink`. Nothing is pending in
-/// the engine, before and after: where the sink fails, the command at work is dropped.
+/// the engine, before and after: where the sink fails, the command at work is dropped. It takes no memory:
+/// what a line is read into stands on the stack, of which it needs some 250 KB.
 ///
 /// In the clauses, the outside is what source, sink and engine tell at one moment: the bytes left, the
 /// count of bytes given, the bytes written, and the devices' counts of faults. The replies are those of
@@ -97,58 +102,59 @@ pub fn serve<S: Source, K: Sink, M: PageDevice, T: PageDevice>(
     source: &mut S,
     sink: &mut K,
 ) -> Status
-    requires idle { is_pending engine.old.database ≡ false }
+    requires idle { is_pending engine.old ≡ false }
 
     // There is a state that the engine stood for.
-    ensures stood { (s : State) × IsEngineOf M.PageDevice T.PageDevice engine.old.database s }
+    ensures stood { (s : State) × IsEngineOf M.PageDevice T.PageDevice engine.old s }
 
     // The script was read to its end, and what is written is the text of a run of the machine over all
     // its lines, with an error line exactly where the status is Errors.
-    ensures clean { result ≡ Status.Clean → (first : State) → IsEngineOf M.PageDevice T.PageDevice engine.old.database first
-        → AnswersAll (Reaches (IsEngineOf M.PageDevice T.PageDevice) (tells_of M.PageDevice T.PageDevice engine.old.database) engine.new.database first)
-        (outside (S.left source.old) (S.given source.old) (K.written sink.old) (faults_of M.PageDevice T.PageDevice engine.old.database))
-        (outside (S.left source.new) (S.given source.new) (K.written sink.new) (faults_of M.PageDevice T.PageDevice engine.new.database)) false }
-    ensures errors { result ≡ Status.Errors → (first : State) → IsEngineOf M.PageDevice T.PageDevice engine.old.database first
-        → AnswersAll (Reaches (IsEngineOf M.PageDevice T.PageDevice) (tells_of M.PageDevice T.PageDevice engine.old.database) engine.new.database first)
-        (outside (S.left source.old) (S.given source.old) (K.written sink.old) (faults_of M.PageDevice T.PageDevice engine.old.database))
-        (outside (S.left source.new) (S.given source.new) (K.written sink.new) (faults_of M.PageDevice T.PageDevice engine.new.database)) true }
+    ensures clean { result ≡ Status.Clean → (first : State) → IsEngineOf M.PageDevice T.PageDevice engine.old first
+        → AnswersAll (Reaches (IsEngineOf M.PageDevice T.PageDevice) (tells_of M.PageDevice T.PageDevice engine.old) engine.new first)
+        (outside (S.left source.old) (S.given source.old) (K.written sink.old) (faults_of M.PageDevice T.PageDevice engine.old))
+        (outside (S.left source.new) (S.given source.new) (K.written sink.new) (faults_of M.PageDevice T.PageDevice engine.new)) false }
+    ensures errors { result ≡ Status.Errors → (first : State) → IsEngineOf M.PageDevice T.PageDevice engine.old first
+        → AnswersAll (Reaches (IsEngineOf M.PageDevice T.PageDevice) (tells_of M.PageDevice T.PageDevice engine.old) engine.new first)
+        (outside (S.left source.old) (S.given source.old) (K.written sink.old) (faults_of M.PageDevice T.PageDevice engine.old))
+        (outside (S.left source.new) (S.given source.new) (K.written sink.new) (faults_of M.PageDevice T.PageDevice engine.new)) true }
 
     // A fault only where that count rose; after a source fault the lines read whole were answered, and
     // no part of a line was run; after a sink fault the run stopped, and a front of its replies was written.
     ensures source_fault { result ≡ Status.SourceFault → Rose (S.faults source.old) (S.faults source.new) }
-    ensures source_fault_answers { result ≡ Status.SourceFault → (first : State) → IsEngineOf M.PageDevice T.PageDevice engine.old.database first
-        → AnswersWholeLines (Reaches (IsEngineOf M.PageDevice T.PageDevice) (tells_of M.PageDevice T.PageDevice engine.old.database) engine.new.database first)
-        (outside (S.left source.old) (S.given source.old) (K.written sink.old) (faults_of M.PageDevice T.PageDevice engine.old.database))
-        (outside (S.left source.new) (S.given source.new) (K.written sink.new) (faults_of M.PageDevice T.PageDevice engine.new.database)) }
+    ensures source_fault_answers { result ≡ Status.SourceFault → (first : State) → IsEngineOf M.PageDevice T.PageDevice engine.old first
+        → AnswersWholeLines (Reaches (IsEngineOf M.PageDevice T.PageDevice) (tells_of M.PageDevice T.PageDevice engine.old) engine.new first)
+        (outside (S.left source.old) (S.given source.old) (K.written sink.old) (faults_of M.PageDevice T.PageDevice engine.old))
+        (outside (S.left source.new) (S.given source.new) (K.written sink.new) (faults_of M.PageDevice T.PageDevice engine.new)) }
     ensures sink_fault { result ≡ Status.SinkFault → Rose (K.faults sink.old) (K.faults sink.new) }
-    ensures sink_fault_answers { result ≡ Status.SinkFault → (first : State) → IsEngineOf M.PageDevice T.PageDevice engine.old.database first
-        → AnswersInPart (StopsAt (IsEngineOf M.PageDevice T.PageDevice) (tells_of M.PageDevice T.PageDevice engine.old.database) engine.new.database first)
-        (outside (S.left source.old) (S.given source.old) (K.written sink.old) (faults_of M.PageDevice T.PageDevice engine.old.database))
-        (outside (S.left source.new) (S.given source.new) (K.written sink.new) (faults_of M.PageDevice T.PageDevice engine.new.database)) }
+    ensures sink_fault_answers { result ≡ Status.SinkFault → (first : State) → IsEngineOf M.PageDevice T.PageDevice engine.old first
+        → AnswersInPart (StopsAt (IsEngineOf M.PageDevice T.PageDevice) (tells_of M.PageDevice T.PageDevice engine.old) engine.new first)
+        (outside (S.left source.old) (S.given source.old) (K.written sink.old) (faults_of M.PageDevice T.PageDevice engine.old))
+        (outside (S.left source.new) (S.given source.new) (K.written sink.new) (faults_of M.PageDevice T.PageDevice engine.new)) }
 
     // The limit of 2^32 bytes, both ways: a sink fault alone comes before it.
-    ensures too_long { result ≡ Status.TooLong → (first : State) → IsEngineOf M.PageDevice T.PageDevice engine.old.database first
-        → AnswersUpToLimit (Reaches (IsEngineOf M.PageDevice T.PageDevice) (tells_of M.PageDevice T.PageDevice engine.old.database) engine.new.database first)
-        (outside (S.left source.old) (S.given source.old) (K.written sink.old) (faults_of M.PageDevice T.PageDevice engine.old.database))
-        (outside (S.left source.new) (S.given source.new) (K.written sink.new) (faults_of M.PageDevice T.PageDevice engine.new.database)) }
+    ensures too_long { result ≡ Status.TooLong → (first : State) → IsEngineOf M.PageDevice T.PageDevice engine.old first
+        → AnswersUpToLimit (Reaches (IsEngineOf M.PageDevice T.PageDevice) (tells_of M.PageDevice T.PageDevice engine.old) engine.new first)
+        (outside (S.left source.old) (S.given source.old) (K.written sink.old) (faults_of M.PageDevice T.PageDevice engine.old))
+        (outside (S.left source.new) (S.given source.new) (K.written sink.new) (faults_of M.PageDevice T.PageDevice engine.new)) }
     ensures too_long_always { S.given source.new < 2 ^ 64 - 1 → S.given source.new ≡ S.given source.old + 2 ^ 32
         → (result ≡ Status.TooLong) ⊎ (result ≡ Status.SinkFault) }
 
     // After a sink fault no turn is given any more: of what the engine said, at most what waits at most
     // and one reply were not written.
     ensures sink_fault_stops { result ≡ Status.SinkFault
-        → Stops (moment (K.written sink.old) (faults_of M.PageDevice T.PageDevice engine.old.database) (said_by_engine engine.old.database))
-        (moment (K.written sink.new) (faults_of M.PageDevice T.PageDevice engine.new.database) (said_by_engine engine.new.database)) [] }
+        → Stops (moment (K.written sink.old) (faults_of M.PageDevice T.PageDevice engine.old) (said_by_engine engine.old))
+        (moment (K.written sink.new) (faults_of M.PageDevice T.PageDevice engine.new) (said_by_engine engine.new)) [] }
 
     // The words of the command line and the opening are not its own.
     ensures no_usage { result ≢ Status.Usage }
     ensures no_memory { result ≢ Status.NoMemory }
 
-    ensures idle { is_pending engine.new.database ≡ false }
-    ensures later { NoneFell (faults_of M.PageDevice T.PageDevice engine.old.database) (faults_of M.PageDevice T.PageDevice engine.new.database) }
+    ensures idle { is_pending engine.new ≡ false }
+    ensures later { NoneFell (faults_of M.PageDevice T.PageDevice engine.old) (faults_of M.PageDevice T.PageDevice engine.new) }
     ensures source_later { S.faults source.old ≤ S.faults source.new }
     ensures sink_later { K.faults sink.old ≤ K.faults sink.new }
 {
-    engine.database.stands_for_a_state();
-    read_and_answer(&mut engine.database, source, sink)
+    engine.stands_for_a_state();
+    let mut statement_room = Room::new();
+    read_and_answer(engine, source, sink, &mut statement_room)
 }

@@ -7,14 +7,13 @@ ghost use Rattle.hg_parse.specs.Kept.{kept};
 ghost use Rattle.hg_parse.specs.Statements.{tree_in};
 ghost use Rattle.hg_reply.specs.Asked.{IsReadAs};
 ghost use Rattle.hg_reply.specs.Plain.{line_of, IsKnown};
-ghost use Rattle.hg_reply.specs.Steps.{Says, Moves, NoneFell};
-ghost use Rattle.hg_serve.specs.Asking.{BeginsRead, Beginning};
+ghost use Rattle.hg_reply.specs.Steps.{Says, Moves, NoneFell, BeginsRead};
+ghost use Rattle.hg_serve.specs.Asking.{Beginning};
 ghost use Rattle.hg_serve.specs.Output.{moment, Tells};
 ghost use Rattle.hg_serve.specs.Session.{BreaksOff, Finishing, StoppingTurns, StopsWork};
 ghost use Rattle.hg_serve.specs.Serving.{HasNoFeed};
 
-use crate::asking::{LINE_TOO_LONG, SYNTAX_ERROR, asked_in, refusal};
-use crate::commands::built;
+use crate::asking::{LINE_TOO_LONG, asked_in, refusal};
 use crate::lines::{LINE_LIMIT, text};
 use crate::output::Output;
 use crate::statuses::Status;
@@ -36,8 +35,7 @@ fn say_alone(reply: &mut Reply, line: &ReplyLine) -> Next
     Next::Done
 }
 
-/// Asks the engine for the command that a line was read as. It is a syntax error where there is no such
-/// command by now.
+/// Asks the engine for the command that a line was read as.
 fn ask<E: Machine>(engine: &mut E, statement: &Statement, room: &Room, reply: &mut Reply) -> Next
     requires idle { E.pending engine.old ≡ false }
     requires read { IsReadAs (E.frames engine.old) (tree_in statement.now (kept room.now)) (kept room.now).texts }
@@ -49,9 +47,6 @@ fn ask<E: Machine>(engine: &mut E, statement: &Statement, room: &Room, reply: &m
     ensures tells_stay { E.tells engine.new ≡ E.tells engine.old }
 {
     let asked = asked_in(statement, room);
-    if !built(&asked.command) {
-        return say_alone(reply, &SYNTAX_ERROR);
-    }
     engine.answer(&asked, reply)
 }
 
@@ -157,13 +152,12 @@ fn front(bytes: &[u8], count: usize) -> &[u8]
 /// The bytes of a line that are kept: one more than it may have, so that a longer one is known.
 const KEPT_BYTES: usize = 4097;
 
-/// The reply lines that wait, and the front of the line at hand. `reply` and `room` are room for the lines
-/// of a step, and for what a line is read as: 37 KB, which are kept across lines.
+/// The reply lines that wait, and the front of the line at hand. Room for what a line is read as, and for
+/// the lines of a step, is lent to its calls: each stands once for a whole script, in a place of its own,
+/// since a value that holds them all would stand several times on the stack while it is made.
 #[derive(Drop)]
 pub struct Session {
     output: Output,
-    reply: Reply,
-    room: Room,
     line: ArrayVec<u8, KEPT_BYTES>,
 }
 
@@ -185,8 +179,6 @@ impl Session {
     {
         Session {
             output: Output::new(),
-            reply: Reply::new(),
-            room: Room::new(),
             line: ArrayVec::new(),
         }
     }
@@ -195,6 +187,8 @@ impl Session {
     fn answer_line<E: Machine, K: Sink>(
         &mut self,
         ended: bool,
+        room: &mut Room,
+        reply: &mut Reply,
         engine: &mut E,
         sink: &mut K,
     ) -> Result<(), Failed>
@@ -211,12 +205,12 @@ impl Session {
         ensures cause { CountsFaults (K.faults sink.old) (K.faults sink.new) result }
     {
         let line = self.line.as_slice();
-        let next = begin(engine, line, ended, &mut self.room, &mut self.reply);
-        if let Err(Failed) = self.output.put(&self.reply, sink) {
+        let next = begin(engine, line, ended, room, reply);
+        if let Err(Failed) = self.output.put(reply, sink) {
             stop(engine, next);
             return Err(Failed);
         }
-        give_turns(engine, next, &mut self.reply, &mut self.output, sink)?;
+        give_turns(engine, next, reply, &mut self.output, sink)?;
         Ok(())
     }
 
@@ -233,6 +227,8 @@ impl Session {
     fn take_line<E: Machine, K: Sink>(
         &mut self,
         front: &[u8],
+        room: &mut Room,
+        reply: &mut Reply,
         engine: &mut E,
         sink: &mut K,
     ) -> Result<(), Failed>
@@ -250,7 +246,7 @@ impl Session {
         ensures cause { CountsFaults (K.faults sink.old) (K.faults sink.new) result }
     {
         self.keep(front);
-        if let Err(Failed) = self.answer_line(true, engine, sink) {
+        if let Err(Failed) = self.answer_line(true, room, reply, engine, sink) {
             return Err(Failed);
         }
         self.line.clear();
@@ -261,6 +257,8 @@ impl Session {
     pub fn feed<E: Machine, K: Sink>(
         &mut self,
         bytes: &[u8],
+        room: &mut Room,
+        reply: &mut Reply,
         engine: &mut E,
         sink: &mut K,
     ) -> Result<(), Failed>
@@ -278,7 +276,7 @@ impl Session {
     {
         let mut rest = bytes;
         while let Some((front, behind)) = cut(rest) {
-            if let Err(Failed) = self.take_line(front, engine, sink) {
+            if let Err(Failed) = self.take_line(front, room, reply, engine, sink) {
                 return Err(Failed);
             }
             rest = behind;
@@ -318,7 +316,13 @@ impl Session {
     }
 
     /// Answers a last line that no line feed ends, and closes the session.
-    pub fn end<E: Machine, K: Sink>(&mut self, engine: &mut E, sink: &mut K) -> Status
+    pub fn end<E: Machine, K: Sink>(
+        &mut self,
+        room: &mut Room,
+        reply: &mut Reply,
+        engine: &mut E,
+        sink: &mut K,
+    ) -> Status
         requires idle { E.pending engine.old ≡ false }
         ensures closes { (first : E) (w : Moment) (taken : List ℕ)
             → Serves E.stands (E.tells engine.old) first engine.old w (moment (K.written sink.old) (E.faults engine.old) (E.said engine.old)) self.old taken
@@ -332,7 +336,7 @@ impl Session {
         if self.line.is_empty() {
             return self.finish(sink);
         }
-        if let Err(Failed) = self.answer_line(false, engine, sink) {
+        if let Err(Failed) = self.answer_line(false, room, reply, engine, sink) {
             return Status::SinkFault;
         }
         self.finish(sink)

@@ -1,16 +1,17 @@
 //! The top call.
-ghost use Rattle.std.specs.Prelude.{◌≡◌, ◌↔◌, ◌⊎◌, ◌<◌, ◌≤◌, ◌+◌, ◌-◌, ◌^◌, min, vec_len, true, false};
+ghost use Rattle.std.specs.Prelude.{◌≡◌, ◌↔◌, ◌⊎◌, ◌<◌, ◌≤◌, ◌+◌, ◌-◌, ◌^◌, min, vec_len, length, IfOk, true, false};
 ghost use Rattle.hg_base.specs.Count.{Rose};
 ghost use Rattle.hg_machine.specs.Plain.Outcome.{AnswersAll, AnswersWholeLines, AnswersUpToLimit, AnswersInPart};
 ghost use Rattle.hg_reply.specs.Steps.{NoneFell};
 ghost use Rattle.hg_serve.specs.Ending.{outside};
 ghost use Rattle.hg_serve.specs.Run.{RunOver, StoppedOver, faults_over};
 
-use crate::serving::serve;
+use crate::serving::read_and_answer;
 use crate::statuses::Status;
 use hg_engine::{Config, Devices, Engine};
 use hg_io::{PageDevice, Sink, Source};
-use std::alloc::Global;
+use hg_parse::Room;
+use std::alloc::{AllocError, Global};
 
 /// How a run ended, with the two devices that it was handed.
 #[derive(Drop)]
@@ -31,6 +32,17 @@ const MAX_FRAMES: u32 = 256;
 const POOL_FRAMES: u32 = 128;
 
 const REQUESTS: u32 = 4;
+
+/// Room for what a line is read as, of 51 KB, in a list of one: on the stack, where it stands twice while it
+/// is made, it would stand as long as the run.
+#[inline(never)]
+fn reserved_room(alloc: Global) -> Result<Vec<Room>, AllocError>
+    ensures one { IfOk result (λ rooms. length rooms.items ≡ 1) }
+{
+    let mut rooms = Vec::with_capacity(alloc, 1)?;
+    rooms.push_reserved(Room::new());
+    Ok(rooms)
+}
 
 /// Runs the script of `source` and writes its replies to `sink`. `words` are the words of the command
 /// line without the program's name; for now any word is a usage error. The devices have at least 64
@@ -111,6 +123,16 @@ pub fn run<S: Source, K: Sink, M: PageDevice, T: PageDevice>(
         main_pages: main.limit().min(MAIN_PAGES),
         temp_pages: temp.limit().min(TEMP_PAGES),
     };
+    let Ok(mut rooms) = reserved_room(alloc) else {
+        return Outcome {
+            status: Status::NoMemory,
+            main,
+            temp,
+        };
+    };
+    let Some(statement_room) = rooms.first_mut() else {
+        unreachable!()
+    };
     match Engine::new(alloc, &config, main, temp) {
         Err(Devices { main, temp }) => Outcome {
             status: Status::NoMemory,
@@ -118,7 +140,7 @@ pub fn run<S: Source, K: Sink, M: PageDevice, T: PageDevice>(
             temp,
         },
         Ok(mut engine) => {
-            let status = serve(&mut engine, source, sink);
+            let status = read_and_answer(&mut engine, source, sink, statement_room);
             let Devices { main, temp } = engine.close();
             Outcome { status, main, temp }
         }

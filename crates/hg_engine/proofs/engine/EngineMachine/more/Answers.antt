@@ -2,7 +2,7 @@ use Rattle.std.proofs.Common.{subst}
 use Rattle.hg_reply.specs.Steps.{ContinuesSo}
 use Rattle.hg_engine.specs.Shown.{space_of, tells_of, IsSomeEngine, EngineSteps}
 use Rattle.hg_engine.specs.Stepping.{TurnFinds}
-use Rattle.hg_engine.proofs.database.DatabaseMachine.more.Goals as goal
+use Rattle.hg_engine.proofs.engine.EngineMachine.more.Goals as goal
 
 pub invariant_of-self : goal.invariant_of-self
 invariant_of-self g c =

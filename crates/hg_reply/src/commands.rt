@@ -1,11 +1,11 @@
-//! Which commands there are by now.
+//! Which commands there are by now: the one place in the code that says so.
 ghost use Rattle.std.specs.Prelude.{◌≡◌};
 ghost use Rattle.std.specs.List.{list_all};
 ghost use Rattle.hg_reply.specs.Asked.{command_in, query_at};
 ghost use Rattle.hg_reply.specs.Built.{is_built, is_one_table, is_plain_column, is_whole_table};
 
+use crate::asked::{CommandAt, SelectAt};
 use hg_model::{FromTable, NewColumn};
-use hg_reply::{CommandAt, SelectAt};
 
 fn are_plain(columns: &[NewColumn]) -> bool
     ensures { result ≡ list_all is_plain_column columns.now }

@@ -1,9 +1,9 @@
 use Rattle.std.proofs.Common.{subst}
 use Rattle.hg_reply.specs.Asked.{command_in, texts_in}
-use Rattle.hg_reply.specs.Steps.{BeginsSo}
+use Rattle.hg_reply.specs.Steps.{BeginsRead}
 use Rattle.hg_engine.specs.Shown.{space_of, tells_of, IsSomeEngine, EngineSteps}
 use Rattle.hg_engine.specs.Stepping.{CommandFinds}
-use Rattle.hg_engine.proofs.database.DatabaseMachine.answer.Goals as goal
+use Rattle.hg_engine.proofs.engine.EngineMachine.answer.Goals as goal
 
 pub invariant_of-self : goal.invariant_of-self
 invariant_of-self g c =
@@ -15,7 +15,7 @@ pub returns-clause-step : goal.returns-clause-step
 returns-clause-step g c =
     let step =
     subst (λ k. EngineSteps g.M.PageDevice g.T.PageDevice k c.answer.new.self c.answer.new.reply
-    (BeginsSo (tells_of g.M.PageDevice g.T.PageDevice k) (command_in c.args.asked.now.command) (texts_in c.args.asked.now))
+    (BeginsRead (tells_of g.M.PageDevice g.T.PageDevice k) (command_in c.args.asked.now.command) (texts_in c.args.asked.now))
     (λ now. CommandFinds (space_of g.M.PageDevice g.T.PageDevice k) now (command_in c.args.asked.now.command)))
     c.self.view_is c.answer.ensures.step
     in

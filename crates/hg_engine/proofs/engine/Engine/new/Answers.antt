@@ -4,7 +4,7 @@ use Rattle.hg_base.specs.declared.File.TheVariants.{Main}
 use Rattle.hg_pool.specs.Disks.{disk_of}
 use Rattle.hg_pool.specs.Shown.{state_of}
 use Rattle.hg_engine.proofs.FirstPage.{opened}
-use Rattle.hg_engine.proofs.database.Database.new.Goals as goal
+use Rattle.hg_engine.proofs.engine.Engine.new.Goals as goal
 
 pub take_first-requires-clause-unused : goal.take_first-requires-clause-unused
 take_first-requires-clause-unused g c q = ap (λ (s : Space). s.taken q) (c.in-Ok-new.ensures {u = tt}).start
