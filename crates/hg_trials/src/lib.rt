@@ -1,0 +1,24 @@
+//! Trials over devices that fail: each call of a device fails in turn, under a whole script, and what was
+//! answered then is compared with a plain list of what stands. It stands on all that a script runs through
+//! (`hg_serve` and what is below it).
+//!
+//! It has tests alone and no public function, so no contract of its own, and no edits that a check must
+//! refuse. What the tests show by example for some scripts is proved for all of them in the crates below.
+//!
+//! ```text
+//! script_trials    script (`script`) --> engine over a device whose k-th call fails --> replies
+//!                                                                                          |
+//!                  lists of the rows that stand (`standing`) <---- line by line -----------+
+//! ```
+#![tactic(auto)]
+
+#[cfg(test)]
+mod counted;
+#[cfg(test)]
+mod engine_run;
+#[cfg(test)]
+mod script;
+#[cfg(test)]
+mod script_trials;
+#[cfg(test)]
+mod standing;
