@@ -204,15 +204,15 @@ module _ (scope : List FromColumn) (q : Query) (at : ℕ × ℕ → ℕ) (at_is 
         let z : k + 0 ≡ k = omega arith in
         let pushed = length-append done (x ∷ []) in
         let new : dead (length done) ≡ false → y ≡ x = λ h.
-            let d : dead k ≡ false = subst (λ m. dead m ≡ false) e h in
-            let leaf_is : value_at leaves' (length done') ≡ value_at leaves (length done) =
-            ap (value_at leaves') (a.even ∙ e ∙ sym z) ∙ agree 0 (omega arith) (subst (λ m. dead m ≡ false) (sym z) d) ∙ ap (value_at leaves) (z ∙ sym e) in
-            ap (λ m. node_value (value_at leaves' (length done')) texts m done') (node_stays k n d)
-            ∙ node_alike dead done done' a (value_at leaves (length done)) (value_at leaves' (length done')) texts n leaf_is
-            (all_live scope q (children n) (front_all (is_apart q) (children n) (flat_map children ns) each)) in
+        let d : dead k ≡ false = subst (λ m. dead m ≡ false) e h in
+        let leaf_is : value_at leaves' (length done') ≡ value_at leaves (length done) =
+        ap (value_at leaves') (a.even ∙ e ∙ sym z) ∙ agree 0 (omega arith) (subst (λ m. dead m ≡ false) (sym z) d) ∙ ap (value_at leaves) (z ∙ sym e) in
+        ap (λ m. node_value (value_at leaves' (length done')) texts m done') (node_stays k n d)
+        ∙ node_alike dead done done' a (value_at leaves (length done)) (value_at leaves' (length done')) texts n leaf_is
+        (all_live scope q (children n) (front_all (is_apart q) (children n) (flat_map children ns) each)) in
         walk texts leaves leaves' (suc k) ns (done ++ x ∷ []) (done' ++ y ∷ []) (alike_more dead done done' x y a new) (omega (arith, pushed, e))
         (λ i below d. let s : suc k + i ≡ k + suc i = omega arith in
-            ap (value_at leaves') s ∙ agree (suc i) (omega arith) (subst (λ m. dead m ≡ false) s d) ∙ ap (value_at leaves) (sym s))
+        ap (value_at leaves') s ∙ agree (suc i) (omega arith) (subst (λ m. dead m ≡ false) s d) ∙ ap (value_at leaves) (sym s))
         (back_all (is_apart q) (children n) (flat_map children ns) each)
 
     module _ (texts : List ℕ) (each : list_all (is_apart q) (flat_map children q.nodes) ≡ true) where
@@ -229,10 +229,10 @@ module _ (scope : List FromColumn) (q : Query) (at : ℕ × ℕ → ℕ) (at_is 
       front_alike =
           walk texts (leaves_of leaf q.nodes (positions_of scope q)) leaves' 0 q.nodes [] [] (record { even = refl; same = λ n h. refl }) refl
           (λ i below d. let z : 0 + i ≡ i = omega arith in
-              ap (value_at leaves') z
-              ∙ leaves_alike 0 q.nodes (star_nodes q.star scope) (star_places q.star scope) i below d
-              (λ j h. let s : 0 + j ≡ j = omega arith in ap (slice_index (positions_of scope q)) s) each
-              ∙ ap (value_at (leaves_of leaf q.nodes (positions_of scope q))) (sym z))
+          ap (value_at leaves') z
+          ∙ leaves_alike 0 q.nodes (star_nodes q.star scope) (star_places q.star scope) i below d
+          (λ j h. let s : 0 + j ≡ j = omega arith in ap (slice_index (positions_of scope q)) s) each
+          ∙ ap (value_at (leaves_of leaf q.nodes (positions_of scope q))) (sym z))
           each
 
       front_count : length front' ≡ length q.nodes

@@ -73,10 +73,10 @@ abbrev pub named_sum : Bool → List (Option ℕ) → ℕ → List FromColumn �
 named_sum star named p [] = 0
 named_sum star named p (c ∷ cs) = (if star || list_any (is_place p) named then type_length c.column.ty else 0) + named_sum star named (suc p) cs
 
--- the columns of FROM by their places: which of them are named
-pub record AreMarks (named : List (Option ℕ)) (count : ℕ) (marks : List Bool) : Type 0 where
+-- the columns of FROM by their places: which of them are named; a star names all
+pub record AreMarks (star : Bool) (named : List (Option ℕ)) (count : ℕ) (marks : List Bool) : Type 0 where
   pub count_is : length marks ≡ count
-  pub each : (p : ℕ) → p < count → slice_index_or marks p false ≡ list_any (is_place p) named
+  pub each : (p : ℕ) → p < count → slice_index_or marks p false ≡ (star || list_any (is_place p) named)
 
 -- one place more is marked, if it is that of a column
 pub record MarksOne (place : Option ℕ) (old new : List Bool) : Type 0 where

@@ -113,14 +113,14 @@ fn list_lengths(
     }
 }
 
-/// Marks none of so many columns.
-fn unmark(count: usize, marks: &mut ArrayVec<bool, 64>)
+/// Marks each of so many columns, or none.
+fn mark_all(star: bool, count: usize, marks: &mut ArrayVec<bool, 64>)
     requires few { count ≤ 64 }
     requires empty { marks.old.items ≡ [] }
-    ensures { selecting.AreMarks [] count marks.new.items }
+    ensures { selecting.AreMarks star [] count marks.new.items }
 {
     for _column in 0..count {
-        marks.push(false);
+        marks.push(star);
     }
 }
 
@@ -136,15 +136,26 @@ fn mark(place: Option<u8>, marks: &mut ArrayVec<bool, 64>)
     }
 }
 
-/// Marks the columns of FROM that are named. Each node is looked at once.
-fn list_marks(named: &[Option<u8>], count: usize, marks: &mut ArrayVec<bool, 64>)
+/// Marks the columns of FROM that are named; a star names all. Each node is looked at once.
+fn list_marks(star: bool, named: &[Option<u8>], count: usize, marks: &mut ArrayVec<bool, 64>)
     requires few { count ≤ 64 }
     requires empty { marks.old.items ≡ [] }
-    ensures { selecting.AreMarks named.now count marks.new.items }
+    ensures { selecting.AreMarks star named.now count marks.new.items }
 {
-    unmark(count, marks);
-    for place in named {
-        mark(*place, marks);
+    mark_all(star, count, marks);
+    for place in 0..named.len() {
+        mark(named[place], marks);
+    }
+}
+
+fn length_if(is_named: bool, column: &ScopeColumn) -> usize
+    ensures value { result ≡ (if is_named then types.type_length column.now.column.ty else 0) }
+    ensures small { result ≤ 257 }
+{
+    if is_named {
+        type_length(column.column.ty)
+    } else {
+        0
     }
 }
 
@@ -154,13 +165,11 @@ fn named_length(scope: &[ScopeColumn], named: &[Option<u8>], star: bool) -> usiz
     ensures { result ≡ selecting.named_sum star named.now 0 scope.now }
 {
     let mut marks = ArrayVec::new();
-    list_marks(named, scope.len(), &mut marks);
+    list_marks(star, named, scope.len(), &mut marks);
+    let marks = marks.as_slice();
     let mut sum = 0;
     for place in 0..scope.len() {
-        let column = &scope[place];
-        if star || marks[place] {
-            sum += type_length(column.column.ty);
-        }
+        sum += length_if(marks[place], &scope[place]);
     }
     sum
 }

@@ -63,9 +63,7 @@ pub use create_index::{place_index, place_key};
 pub use delete::{BoundDelete, bind_delete, place_delete, place_filter};
 pub use errors::BindError;
 pub use insert::{BoundInsert, bind_insert, place_insert, place_values};
-pub use laws::{
-    bound_is_sound, bound_means_the_same, places_are_positions, read_keys_stand_apart,
-};
+pub use laws::{bound_is_sound, bound_means_the_same, places_are_positions, read_keys_stand_apart};
 pub use nodes::Places;
 pub use select::{BoundSelect, bind_select, place_select};
 pub use update::{BoundUpdate, bind_update, place_sets, place_update};
