@@ -10,7 +10,7 @@ use Rattle.hg_pool.specs.Picture.{frame_at, place_at, is_in, is_key_of}
 use Rattle.hg_pool.specs.Keys.{at-here, at-other, is_key_of-other}
 use Rattle.hg_pool.specs.Loans.{frames-set}
 use Rattle.hg_pool.specs.FrameLaws.{here-at, other-at, inside-of, page-of}
-use Rattle.hg_pool.specs.Shown.{in_frame, frame_of, page_in, owed, OwesSame, SameFrames, SameFramesBut, KeepsFramesAll, KeepsFrames}
+use Rattle.hg_pool.specs.Shown.{in_frame, frame_of, owed, OwesSame, SameFrames, SameFramesBut, KeepsFramesAll, KeepsFrames}
 use Rattle.hg_pool.specs.Work.{owed_of}
 use Rattle.hg_pool.specs.Seen.{Frame}
 use Rattle.hg_pool.specs.declared.places.Places.{Places}

@@ -15,7 +15,8 @@
 //!
 //! What a call asks of the devices is said by their own counts of reads and writes (`Asked`): a page
 //! that is in a frame asks nothing, and any other at most one write, of the page that leaves the frame
-//! where it owes one, and then one read. The pool's counts rise just as those do.
+//! where it owes one, and then one read. The pool's counts rise just as those do. A page that was
+//! read owes nothing, and only new bytes make it owe a write (`owed`): no other call changes that.
 //!
 //! Beside pins, `take_page` hands a page out with its frame, as a chain of its own, and `put_page` takes
 //! it back; more than eight frames are always left for pins and for a victim. `resize` changes how many
