@@ -1,4 +1,4 @@
-//! The room that a statement is read into. The caller keeps it across lines: a statement has 37 KB.
+//! The room that a statement is read into. The caller keeps it across lines: it has 51 KB.
 //!
 //! ```text
 //!     lists    each keeps as many items as a statement may have of them

@@ -1,7 +1,9 @@
-//! One table of lines and of what they are read as, worked out by hand from the grammar.
+//! Lines and what they are read as, worked out by hand from the grammar.
+mod tables;
+
 use crate::{ParseError, Room, parse, parse_into};
 use arrayvec::ArrayVec;
-use hg_model::{Command, Count, Node, Parsed};
+use hg_model::{Command, Count, Node};
 
 /// What a line is read as, but for its tree.
 #[derive(Clone, Copy)]
@@ -13,6 +15,8 @@ enum Reading {
     Statement,
 }
 
+/// Whether a line is read so, where the pool may have 64 frames at most.
+#[inline(never)]
 fn is_read_as(line: &[u8], expected: Reading, room: &mut Room) -> bool {
     if line.len() > 4096 {
         return false;
@@ -29,409 +33,181 @@ fn is_read_as(line: &[u8], expected: Reading, room: &mut Room) -> bool {
     }
 }
 
-const BLANKS: &str = "
- \t 
--- x
-  -- 'open
-";
-
-const STATEMENTS: &str = "create table t (a integer)
-CREATE TABLE T (A INT, B VARCHAR(255))
-create table t (a int not null primary key unique)
-create table t (a int unique not null);
-create table t (a varchar(1)) -- end
-create index i on t (a)
-create unique index i on t (a, b)
-insert into t values (1)
-insert into t (a, b) values (1, 'x'), (null, -2)
-insert into t values (+1, 'it''s', '')
-insert into t values (1, 2), (3)
-update t set a = 1
-update t set a = a + 1, b = 'x' where c is null
-delete from t
-delete from t where a = 1 or not b
-vacuum t
-select * from t
-select all * from t
-select distinct a from t
-select a as b, t.c from t
-select a from t u
-select a from t as u, v
-select a from t cross join u
-select a from t join u on t.a = u.a
-select a from t inner join u on a = b where c = d
-select count(*) from t
-select sum(a), min(b), max(c), count(d) from t group by e, t.f having count(*) > 1
-select a from t order by 1, b desc, t.c asc
-open c for select * from t
-start c 1
-work 1000000000
-fetch c 1
-close c
-pool 16
-pool 64
-mpl 1
-mpl 16
-show memory
-show memory;
-SHOW MEMORY -- x
-select - a from t
-select + a from t
-select a from t where a between 1 and 2 and b
-select a from t where a not between b and c
-select a from t where a in (1, 2)
-select a from t where a not in (1)
-select a from t where a is not null
-select a from t where (a = 1) = (b)
-select a - b - c from t
-select a from t where not a = 1 and b
-select 'a--b' from t
-select a from t where a <> 1 or a != 2
-select a from t where a <= 1 and a >= 2 and a < 3 and a > 4
-select open from open open
-select for from for for
-select start from start start
-select work from work work
-select fetch from fetch fetch
-select close from close close
-select vacuum from vacuum vacuum
-select pool from pool pool
-select mpl from mpl mpl
-select show from show show
-select memory from memory memory
-create table open (for int)
-open open for select start from work as close
-start start 1
-close close
-vacuum vacuum
-fetch fetch 2
-insert into pool (mpl) values (1)
-insert into t values (99999999999999999999999999999999999999)
-insert into t values (-000000000000000000000000000000000000000000001)
-select a from t order by 4294967295
-select a from t order by 0
-vacuum aaaaaaaaaaaaaaaaaaaaaaaaaaaaaa
-insert into t values ('xxxxxxxxxxxxxxxxxxxxxxxxxxxxxxxxxxxxxxxxxxxxxxxxxxxxxxxxxxxxxxxxxxxxxxxxxxxxxxxxxxxxxxxxxxxxxxxxxxxxxxxxxxxxxxxxxxxxxxxxxxxxxxxxxxxxxxxxxxxxxxxxxxxxxxxxxxxxxxxxxxxxxxxxxxxxxxxxxxxxxxxxxxxxxxxxxxxxxxxxxxxxxxxxxxxxxxxxxxxxxxxxxxxxxxxxxxxxxxxxxxxxxxxxxxxxxxx')
-create table t (a int, a int, a int, a int, a int, a int, a int, a int, a int, a int, a int, a int, a int, a int, a int, a int)
-insert into t values (1), (1), (1), (1), (1), (1), (1), (1), (1), (1), (1), (1), (1), (1), (1), (1), (1), (1), (1), (1), (1), (1), (1), (1), (1), (1), (1), (1), (1), (1), (1), (1), (1), (1), (1), (1), (1), (1), (1), (1), (1), (1), (1), (1), (1), (1), (1), (1), (1), (1), (1), (1), (1), (1), (1), (1), (1), (1), (1), (1), (1), (1), (1), (1)
-select a from t, t, t, t
-select a, a, a, a, a, a, a, a, a, a, a, a, a, a, a, a from t
-select a from t group by a, a, a, a, a, a, a, a, a, a, a, a, a, a, a, a
-select a from t order by 1, 1, 1, 1, 1, 1, 1, 1
-select a + a + a + a + a + a + a + a + a + a + a + a + a + a + a + a + a + a + a + a + a + a + a + a + a + a + a + a + a + a + a + a + a + a + a + a + a + a + a + a + a + a + a + a + a + a + a + a from t
-select - a + a + a + a + a + a + a + a + a + a + a + a + a + a + a + a + a + a + a + a + a + a + a + a + a + a + a + a + a + a + a + a + a + a + a + a + a + a + a + a + a + a + a + a + a + a + a + a from t
-select ((((((((((((((((((((((((((((((((a)))))))))))))))))))))))))))))))) from t
-select (((((((((((((((((((((((((((((((count(a)))))))))))))))))))))))))))))))) from t";
-
-const NO_STATEMENTS: &str = ";
-a
-1
-'x'
-create
-create t (a int)
-create table t ()
-create table t (a)
-create table t (a int,)
-create table t (a int not null not null)
-create table t (a int unique unique)
-create table t (a int primary key primary key)
-create table t (a varchar)
-create table t (a varchar())
-create table t (a varchar(-1))
-create table table (a int)
-create index i on t ()
-create index on t (a)
-create unique i on t (a)
-insert into t values
-insert into t values ()
-insert into t () values (1)
-insert into t values (1),
-insert into t values (a)
-insert into t values (- - 1)
-insert into t values (1 + 1)
-insert t values (1)
-update t set
-update t set a
-update t set a = 1,
-update t a = 1
-delete t
-delete from t where
-select
-select from t
-select a
-select a from
-select a from t where
-select * , a from t
-select a, from t
-select a from t group a
-select a from t group by 1
-select a from t order by
-select a from t order by -1
-select a from t order 1
-select a b from t
-select a from t join u
-select a from t cross join u on a
-select a from t left join u on a = b
-select a from t as
-select a.b.c from t
-select .. from t
-select a from t where a <>= b
-select a from t where not not a
-select a from t where a = b = c
-select a from t where a in ()
-select a from t where a in 1
-select a from t where a between 1
-select a from t where a between 1 or 2
-select a from t where a is 1
-select a from t where a not 1
-select count(*, a) from t
-select sum(*) from t
-select count() from t
-select (a from t
-select a) from t
-select 1a from t
-select a from t; ;
-select a from t; x
-select a; from t
-select a from t 'open
-select a from t where a == b
-select - - a from t
-select a + from t
-select a # from t
-select \"a\" from t
-open c
-open c for
-open c select * from t
-open c for insert into t values (1)
-start c
-start 1
-work
-work c
-fetch c
-close
-close 1
-pool
-pool c
-mpl
-show
-show tables
-vacuum
-show memory memory
-vacuum t u
-select all distinct a from t
-update t set a = 1 where b where c
-vacuum all
-vacuum and
-vacuum as
-vacuum asc
-vacuum between
-vacuum bigint
-vacuum by
-vacuum count
-vacuum create
-vacuum cross
-vacuum delete
-vacuum desc
-vacuum distinct
-vacuum exists
-vacuum from
-vacuum group
-vacuum having
-vacuum in
-vacuum index
-vacuum inner
-vacuum insert
-vacuum int
-vacuum integer
-vacuum into
-vacuum is
-vacuum join
-vacuum key
-vacuum left
-vacuum max
-vacuum min
-vacuum not
-vacuum null
-vacuum on
-vacuum or
-vacuum order
-vacuum outer
-vacuum primary
-vacuum select
-vacuum set
-vacuum sum
-vacuum table
-vacuum unique
-vacuum update
-vacuum values
-vacuum varchar
-vacuum where
-vacuum aaaaaaaaaaaaaaaaaaaaaaaaaaaaaaa x
-pool 1 aaaaaaaaaaaaaaaaaaaaaaaaaaaaaaa
-create table t (a int, a int, a int, a int, a int, a int, a int, a int, a int, a int, a int, a int, a int, a int, a int, a int, a int) x
-select a + a + a + a + a + a + a + a + a + a + a + a + a + a + a + a + a + a + a + a + a + a + a + a + a + a + a + a + a + a + a + a + a + a + a + a + a + a + a + a + a + a + a + a + a + a + a + a + a from t where
-select (((((((((((((((((((((((((((((((((a))))))))))))))))))))))))))))))))) from t
-select ((((((((((((((((((((((((((((((((count(*))))))))))))))))))))))))))))))))) from t";
-
-const BAD_NUMBERS: &str = "create table t (a varchar(0))
-create table t (a varchar(256))
-create table t (a varchar(99999999999999999999))
-insert into t values (100000000000000000000000000000000000000)
-select 100000000000000000000000000000000000000 from t
-select a from t order by 4294967296
-start c 0
-work 1000000001
-fetch c 99999999999
-pool 15
-pool 65
-mpl 0
-mpl 17
-update t set a = 100000000000000000000000000000000000000
-select aaaaaaaaaaaaaaaaaaaaaaaaaaaaaaa from t order by 4294967296
-create table t (a int, a int, a int, a int, a int, a int, a int, a int, a int, a int, a int, a int, a int, a int, a int, a int, b varchar(0))";
-
-const TOO_MANY_NAME_LETTERS: &str = "vacuum aaaaaaaaaaaaaaaaaaaaaaaaaaaaaaa";
-
-const TOO_MANY_TEXT_LETTERS: &str =
-    "insert into t values ('xxxxxxxxxxxxxxxxxxxxxxxxxxxxxxxxxxxxxxxxxxxxxxxxxxxxxxxxxxxxxxxxxxxxxxxxxxxxxxxxxxxxxxxxxxxxxxxxxxxxxxxxxxxxxxxxxxxxxxxxxxxxxxxxxxxxxxxxxxxxxxxxxxxxxxxxxxxxxxxxxxxxxxxxxxxxxxxxxxxxxxxxxxxxxxxxxxxxxxxxxxxxxxxxxxxxxxxxxxxxxxxxxxxxxxxxxxxxxxxxxxxxxxxxxxxxxxxx')";
-
-const TOO_MANY_COLUMNS: &str =
-    "create table t (a int, a int, a int, a int, a int, a int, a int, a int, a int, a int, a int, a int, a int, a int, a int, a int, a int)";
-
-const TOO_MANY_ROWS: &str =
-    "insert into t values (1), (1), (1), (1), (1), (1), (1), (1), (1), (1), (1), (1), (1), (1), (1), (1), (1), (1), (1), (1), (1), (1), (1), (1), (1), (1), (1), (1), (1), (1), (1), (1), (1), (1), (1), (1), (1), (1), (1), (1), (1), (1), (1), (1), (1), (1), (1), (1), (1), (1), (1), (1), (1), (1), (1), (1), (1), (1), (1), (1), (1), (1), (1), (1), (1)";
-
-const TOO_MANY_TABLES_IN_FROM: &str = "select a from t, t, t, t, t";
-
-const TOO_MANY_OUTPUTS: &str = "select a, a, a, a, a, a, a, a, a, a, a, a, a, a, a, a, a from t";
-
-const TOO_MANY_GROUP_COLUMNS: &str =
-    "select a from t group by a, a, a, a, a, a, a, a, a, a, a, a, a, a, a, a, a";
-
-const TOO_MANY_ORDER_KEYS: &str = "select a from t order by 1, 1, 1, 1, 1, 1, 1, 1, 1";
-
-const TOO_MANY_NODES: &str =
-    "select a + a + a + a + a + a + a + a + a + a + a + a + a + a + a + a + a + a + a + a + a + a + a + a + a + a + a + a + a + a + a + a + a + a + a + a + a + a + a + a + a + a + a + a + a + a + a + a + a from t";
-
-/// Whether each line of a text is read so.
-fn all_read_as(text: &str, expected: Reading, room: &mut Room) -> bool {
+/// How many lines of a text come before the first that is not read so; all of them where each is.
+#[inline(never)]
+fn lines_read_as(text: &str, expected: Reading, room: &mut Room) -> usize {
+    let mut read: usize = 0;
     for line in text.lines() {
         if !is_read_as(line.as_bytes(), expected, room) {
-            return false;
+            return read;
         }
+        read = read.saturating_add(1);
     }
-    true
+    read
+}
+
+/// Whether each line of a text is read so.
+#[inline(never)]
+fn are_read_as(text: &str, expected: Reading, room: &mut Room) -> bool {
+    lines_read_as(text, expected, room) == text.lines().count()
+}
+
+/// Whether each line of a text has too many of this, and of nothing that comes before it.
+#[inline(never)]
+fn have_too_many(text: &str, count: Count, room: &mut Room) -> bool {
+    are_read_as(text, Reading::TooMany(count), room)
 }
 
 #[test]
 fn lines(rt: HostRuntime) {
     let mut room = Room::new();
-    assert!(rt; all_read_as(BLANKS, Reading::Blank, &mut room));
-    assert!(rt; all_read_as(STATEMENTS, Reading::Statement, &mut room));
-    assert!(rt; all_read_as(NO_STATEMENTS, Reading::Syntax, &mut room));
-    assert!(rt; all_read_as(BAD_NUMBERS, Reading::BadNumber, &mut room));
-    assert!(rt;
-        all_read_as(
-            TOO_MANY_NAME_LETTERS,
-            Reading::TooMany(Count::NameLetters),
-            &mut room
-        )
-    );
-    assert!(rt;
-        all_read_as(
-            TOO_MANY_TEXT_LETTERS,
-            Reading::TooMany(Count::TextLetters),
-            &mut room
-        )
-    );
-    assert!(rt;
-        all_read_as(
-            TOO_MANY_COLUMNS,
-            Reading::TooMany(Count::Columns),
-            &mut room
-        )
-    );
-    assert!(rt; all_read_as(TOO_MANY_ROWS, Reading::TooMany(Count::Rows), &mut room));
-    assert!(rt;
-        all_read_as(
-            TOO_MANY_TABLES_IN_FROM,
-            Reading::TooMany(Count::TablesInFrom),
-            &mut room
-        )
-    );
-    assert!(rt;
-        all_read_as(
-            TOO_MANY_OUTPUTS,
-            Reading::TooMany(Count::Outputs),
-            &mut room
-        )
-    );
-    assert!(rt;
-        all_read_as(
-            TOO_MANY_GROUP_COLUMNS,
-            Reading::TooMany(Count::GroupColumns),
-            &mut room
-        )
-    );
-    assert!(rt;
-        all_read_as(
-            TOO_MANY_ORDER_KEYS,
-            Reading::TooMany(Count::OrderKeys),
-            &mut room
-        )
-    );
-    assert!(rt; all_read_as(TOO_MANY_NODES, Reading::TooMany(Count::Nodes), &mut room));
+    assert!(rt; are_read_as(tables::BLANKS, Reading::Blank, &mut room));
+    assert!(rt; are_read_as(tables::STATEMENTS, Reading::Statement, &mut room));
+    assert!(rt; are_read_as(tables::NO_STATEMENTS, Reading::Syntax, &mut room));
+    assert!(rt; are_read_as(tables::BAD_NUMBERS, Reading::BadNumber, &mut room));
 }
 
-/// So many copies of a part between a front and an end; what does not fit is left out.
-fn repeated(front: &[u8], part: &[u8], times: usize, end: &[u8]) -> ArrayVec<u8, 4096> {
-    let mut line = ArrayVec::new();
-    for byte in front {
-        let _ = line.try_push(*byte);
-    }
-    for _turn in 0..times {
-        for byte in part {
-            let _ = line.try_push(*byte);
+#[test]
+fn too_many(rt: HostRuntime) {
+    let mut room = Room::new();
+    assert!(rt; have_too_many(tables::TOO_MANY_NAME_LETTERS, Count::NameLetters, &mut room));
+    assert!(rt; have_too_many(tables::TOO_MANY_TEXT_LETTERS, Count::TextLetters, &mut room));
+    assert!(rt; have_too_many(tables::TOO_MANY_COLUMNS, Count::Columns, &mut room));
+    assert!(rt; have_too_many(tables::TOO_MANY_ROWS, Count::Rows, &mut room));
+    assert!(rt;
+        have_too_many(
+            tables::TOO_MANY_TABLES_IN_FROM,
+            Count::TablesInFrom,
+            &mut room
+        )
+    );
+    assert!(rt; have_too_many(tables::TOO_MANY_OUTPUTS, Count::Outputs, &mut room));
+    assert!(rt;
+        have_too_many(
+            tables::TOO_MANY_GROUP_COLUMNS,
+            Count::GroupColumns,
+            &mut room
+        )
+    );
+    assert!(rt; have_too_many(tables::TOO_MANY_ORDER_KEYS, Count::OrderKeys, &mut room));
+    assert!(rt; have_too_many(tables::TOO_MANY_NODES, Count::Nodes, &mut room));
+}
+
+/// A room, and a line that is put together of parts.
+#[derive(Drop)]
+struct Desk {
+    room: Room,
+    line: ArrayVec<u8, 4096>,
+}
+
+impl Desk {
+    #[inline(never)]
+    fn new() -> Desk {
+        Desk {
+            room: Room::new(),
+            line: ArrayVec::new(),
         }
     }
-    for byte in end {
-        let _ = line.try_push(*byte);
+
+    /// Puts bytes behind the line; what does not fit is left out.
+    #[inline(never)]
+    fn put(&mut self, bytes: &[u8]) {
+        for byte in bytes {
+            let _ = self.line.try_push(*byte);
+        }
     }
-    line
+
+    /// Whether a line of three parts is read so.
+    #[inline(never)]
+    fn reads(&mut self, front: &[u8], middle: &[u8], end: &[u8], expected: Reading) -> bool {
+        self.reads_repeated(front, middle, 1, end, expected)
+    }
+
+    /// Whether a line is read so that has so many copies of a part between a front and an end.
+    #[inline(never)]
+    fn reads_repeated(
+        &mut self,
+        front: &[u8],
+        part: &[u8],
+        times: usize,
+        end: &[u8],
+        expected: Reading,
+    ) -> bool {
+        self.line.clear();
+        self.put(front);
+        for _turn in 0..times {
+            self.put(part);
+        }
+        self.put(end);
+        is_read_as(self.line.as_slice(), expected, &mut self.room)
+    }
 }
 
 #[test]
 fn long_lines(rt: HostRuntime) {
-    let mut room = Room::new();
-    let fits = repeated(b"insert into t values (1", b",1", 1023, b")");
-    assert!(rt; is_read_as(fits.as_slice(), Reading::Statement, &mut room));
-    let over = repeated(b"insert into t values (1", b",1", 1024, b")");
-    assert!(rt; is_read_as(over.as_slice(), Reading::TooMany(Count::Values), &mut room));
-    let wrong = repeated(b"insert into t values (1", b",1", 1024, b"");
-    assert!(rt; is_read_as(wrong.as_slice(), Reading::Syntax, &mut room));
-    let parts: [&[u8]; 4] = [b"(", b"-", b"+", b"a."];
-    for i in 0..parts.len() {
-        let line = repeated(b"select ", parts[i], 4080, b" from t");
-        assert!(rt;
-            is_read_as(line.as_slice(), Reading::Syntax, &mut room),
-            "part {}",
-            i
-        );
-    }
+    let mut desk = Desk::new();
+    let row = b"insert into t values (1";
+    assert!(rt; desk.reads_repeated(row, b",1", 1023, b")", Reading::Statement));
+    assert!(rt; desk.reads_repeated(row, b",1", 1024, b")", Reading::TooMany(Count::Values)));
+    assert!(rt; desk.reads_repeated(row, b",1", 1024, b"", Reading::Syntax));
+    assert!(rt; desk.reads_repeated(row, b"),(1", 1000, b")", Reading::TooMany(Count::Rows)));
+    assert!(rt; desk.reads_repeated(row, b",1", 2030, b")", Reading::TooMany(Count::Values)));
+    assert!(rt; desk.reads_repeated(b"", b" ", 4096, b"", Reading::Blank));
+    assert!(rt; desk.reads_repeated(b"", b"\t", 4095, b";", Reading::Syntax));
+    assert!(rt;
+        desk.reads_repeated(
+            b"select '",
+            b"''",
+            2000,
+            b"' from t",
+            Reading::TooMany(Count::TextLetters)
+        )
+    );
+    assert!(rt;
+        desk.reads_repeated(
+            b"select ",
+            b"'",
+            4080,
+            b" from t",
+            Reading::TooMany(Count::TextLetters)
+        )
+    );
+    assert!(rt; desk.reads_repeated(b"select ", b"'", 4079, b" from t", Reading::Syntax));
+    assert!(rt; desk.reads_repeated(b"pool ", b"0", 4080, b"16", Reading::Statement));
+    assert!(rt; desk.reads_repeated(b"pool ", b"9", 4091, b"", Reading::BadNumber));
 }
 
 #[test]
-fn bytes(rt: HostRuntime) {
-    let mut room = Room::new();
-    for byte in 0..=255u8 {
-        let front = [byte, b'w', b'o', b'r', b'k', b' ', b'1'];
-        let blank = byte == b' ' || byte == b'\t';
-        let expected = if blank {
-            Reading::Statement
+fn lines_of_one_part(rt: HostRuntime) {
+    let mut desk = Desk::new();
+    let parts: [&[u8]; 5] = [b"(", b"-", b"+", b"a.", b"not "];
+    for i in 0..parts.len() {
+        let alone = if i == 1 {
+            Reading::Blank
         } else {
             Reading::Syntax
         };
-        assert!(rt; is_read_as(&front, expected, &mut room), "front {}", byte);
+        assert!(rt;
+            desk.reads_repeated(b"", parts[i], 4096, b"", alone),
+            "alone {}",
+            i
+        );
+        assert!(rt;
+            desk.reads_repeated(b"select ", parts[i], 4080, b" from t", Reading::Syntax),
+            "select {}",
+            i
+        );
+        assert!(rt;
+            desk.reads_repeated(
+                b"delete from t where ",
+                parts[i],
+                4096,
+                b"",
+                Reading::Syntax
+            ),
+            "where {}",
+            i
+        );
     }
 }
 
@@ -456,72 +232,83 @@ fn is_between_operands(byte: u8) -> bool {
     }
 }
 
-/// Whether a line with a byte between two parts is a statement exactly where it should be one.
-fn is_statement_where(front: &[u8], byte: u8, end: &[u8], is_one: bool, room: &mut Room) -> bool {
-    let line = repeated(front, &[byte], 1, end);
-    is_read_as(line.as_slice(), statement_where(is_one), room)
+#[test]
+fn bytes_outside(rt: HostRuntime) {
+    let mut desk = Desk::new();
+    for byte in 0..=255u8 {
+        let blank = byte == b' ' || byte == b'\t';
+        let end = blank || byte == b';';
+        let front = statement_where(blank);
+        let behind = statement_where(end);
+        assert!(rt;
+            desk.reads(b"", &[byte], b"work 1", front),
+            "front {}",
+            byte
+        );
+        assert!(rt;
+            desk.reads(b"vacuum t ", &[byte], b"", behind),
+            "behind {}",
+            byte
+        );
+        assert!(rt;
+            desk.reads(b"work 1 --", &[byte], b"'", Reading::Statement),
+            "comment {}",
+            byte
+        );
+        assert!(rt;
+            desk.reads(b"--", &[byte], b"work 1", Reading::Blank),
+            "no line {}",
+            byte
+        );
+    }
 }
 
 #[test]
 fn bytes_inside(rt: HostRuntime) {
-    let mut room = Room::new();
+    let mut desk = Desk::new();
     for byte in 0..=255u8 {
         let digit = b'0' <= byte && byte <= b'9';
         let word = digit || is_letter(byte);
         let blank = byte == b' ' || byte == b'\t';
         let end = blank || byte == b';';
         let joins = is_between_operands(byte);
-        let plain = 32 <= byte && byte <= 126 && byte != b'\'';
-        let column = word || joins || byte == b'.';
-        let table = word || blank || byte == b',';
+        let text = statement_where(32 <= byte && byte <= 126 && byte != b'\'');
+        let column = statement_where(word || joins || byte == b'.');
+        let table = statement_where(word || blank || byte == b',');
+        let whole = statement_where(word || end);
+        let number = statement_where(digit || joins);
+        let count = statement_where(digit || end);
+        let part = [byte];
         assert!(rt;
-            is_statement_where(b"select a", byte, b"b from t", column, &mut room),
+            desk.reads(b"select a", &part, b"b from t", column),
             "column {}",
             byte
         );
         assert!(rt;
-            is_statement_where(b"select a from t", byte, b"u", table, &mut room),
+            desk.reads(b"select a from t", &part, b"u", table),
             "table {}",
             byte
         );
+        assert!(rt; desk.reads(b"vacuum q", &part, b"", whole), "word {}", byte);
         assert!(rt;
-            is_statement_where(b"vacuum q", byte, b"", word || end, &mut room),
-            "word {}",
-            byte
-        );
-        assert!(rt;
-            is_statement_where(b"select 1", byte, b"2 from t", digit || joins, &mut room),
+            desk.reads(b"select 1", &part, b"2 from t", number),
             "number {}",
             byte
         );
+        assert!(rt; desk.reads(b"work 1", &part, b"", count), "count {}", byte);
         assert!(rt;
-            is_statement_where(b"work 1", byte, b"", digit || end, &mut room),
-            "end {}",
-            byte
-        );
-        assert!(rt;
-            is_statement_where(b"insert into t values ('a", byte, b"b')", plain, &mut room),
+            desk.reads(b"insert into t values ('a", &part, b"b')", text),
             "text {}",
             byte
         );
     }
 }
 
-/// The words of commands that are names everywhere else.
-const COMMAND_WORDS: &str = "OPEN
-FOR
-START
-WORK
-FETCH
-CLOSE
-POOL
-MPL
-SHOW
-MEMORY
-VACUUM";
+/// Where a name may stand: as a table, a column, an alias, an index, a cursor.
+const PLACES: usize = 24;
 
-/// Where a name may stand: what is before it, and what is behind it.
-const FRONTS: [&[u8]; 18] = [
+/// What stands before it.
+static FRONTS: [&[u8]; PLACES] = [
     b"select a from ",
     b"select a from t join ",
     b"create table ",
@@ -534,15 +321,22 @@ const FRONTS: [&[u8]; 18] = [
     b"create table t (",
     b"update t set ",
     b"select t.",
+    b"insert into t (",
+    b"create index i on t (a, ",
+    b"select a from t group by ",
+    b"select a from t order by ",
     b"select a from t ",
     b"select a from t as ",
     b"select a as ",
+    b"create index ",
     b"open ",
     b"start ",
+    b"fetch ",
     b"close ",
 ];
 
-const ENDS: [&[u8]; 18] = [
+/// What stands behind it.
+static ENDS: [&[u8]; PLACES] = [
     b"",
     b" on a = b",
     b" (a int)",
@@ -555,26 +349,48 @@ const ENDS: [&[u8]; 18] = [
     b" int)",
     b" = 1",
     b" from t",
-    b"",
+    b") values (1)",
+    b")",
+    b", b",
+    b" desc",
+    b", u",
     b"",
     b" from t",
+    b" on t (a)",
     b" for select a from t",
+    b" 1",
     b" 1",
     b"",
 ];
 
+/// In how many places a word stands until it is first not read so; in all of them where it is.
+#[inline(never)]
+fn places_read_as(word: &[u8], expected: Reading, desk: &mut Desk) -> usize {
+    for i in 0..PLACES {
+        if !desk.reads(FRONTS[i], word, ENDS[i], expected) {
+            return i;
+        }
+    }
+    PLACES
+}
+
 #[test]
 fn command_words_are_names(rt: HostRuntime) {
-    let mut room = Room::new();
-    for word in COMMAND_WORDS.lines() {
-        for i in 0..18usize {
-            let line = repeated(FRONTS[i], word.as_bytes(), 1, ENDS[i]);
-            assert!(rt;
-                is_read_as(line.as_slice(), Reading::Statement, &mut room),
-                "place {}",
-                i
-            );
-        }
+    let mut desk = Desk::new();
+    for word in tables::COMMAND_WORDS.lines() {
+        let places = places_read_as(word.as_bytes(), Reading::Statement, &mut desk);
+        assert!(rt; places == PLACES, "{} in place {}", word, places);
+    }
+}
+
+/// Each word but NULL, which is a value in the place of a column.
+#[test]
+fn keywords_are_no_names(rt: HostRuntime) {
+    let mut desk = Desk::new();
+    for word in tables::KEYWORDS.lines() {
+        let places = places_read_as(word.as_bytes(), Reading::Syntax, &mut desk);
+        let expected = if word == "NULL" { 8 } else { PLACES };
+        assert!(rt; places == expected, "{} in place {}", word, places);
     }
 }
 
@@ -596,13 +412,6 @@ fn is_not(room: &Room, at: usize, operand: u8) -> bool {
 fn is_both(room: &Room, at: usize, left: u8, right: u8) -> bool {
     match room.nodes.get(at) {
         Some(Node::Both(a, b)) => *a == left && *b == right,
-        _ => false,
-    }
-}
-
-fn is_insert_of(parsed: &Parsed, values: usize) -> bool {
-    match &parsed.command {
-        Command::Insert(insert) => insert.values.len() == values,
         _ => false,
     }
 }
@@ -630,8 +439,52 @@ fn trees(rt: HostRuntime) {
         )
     );
     assert!(rt; room.texts.as_str() == "it's");
-    match parse(b"insert into t values (1)", 64) {
-        Ok(Some(parsed)) => assert!(rt; is_insert_of(&parsed, 1)),
-        _ => assert!(rt; false),
+    assert!(rt; room.values.len() == 2);
+}
+
+/// A room has nothing of an earlier line, however that was read.
+#[test]
+fn a_room_is_used_again(rt: HostRuntime) {
+    let mut room = Room::new();
+    let long = b"insert into t (a, b) values (1, 'x'), (2, 'y'), (3, 'z')";
+    let short = b"insert into t values ('w')";
+    assert!(rt; is_read_as(long, Reading::Statement, &mut room));
+    assert!(rt; is_read_as(short, Reading::Statement, &mut room));
+    assert!(rt; room.names.is_empty() && room.values.len() == 1 && room.ends.len() == 1);
+    assert!(rt; room.texts.as_str() == "w");
+    for line in tables::REFUSED.lines() {
+        assert!(rt;
+            !is_read_as(line.as_bytes(), Reading::Statement, &mut room),
+            "{}",
+            line
+        );
+        assert!(rt;
+            is_read_as(short, Reading::Statement, &mut room),
+            "{}",
+            line
+        );
+        assert!(rt; room.names.is_empty() && room.values.len() == 1 && room.ends.len() == 1);
+        assert!(rt; room.texts.as_str() == "w");
     }
+}
+
+/// How many values an INSERT has, where a line is read by value.
+#[inline(never)]
+fn values_by_value(line: &[u8]) -> usize {
+    if line.len() > 4096 {
+        return 0;
+    }
+    match parse(line, 64) {
+        Ok(Some(parsed)) => match &parsed.command {
+            Command::Insert(insert) => insert.values.len(),
+            _ => 0,
+        },
+        _ => 0,
+    }
+}
+
+#[test]
+fn lines_by_value(rt: HostRuntime) {
+    assert!(rt; values_by_value(b"insert into t values (1, 2), ('x', null)") == 4);
+    assert!(rt; values_by_value(b"insert into t values (1, 2), ('x', nul)") == 0);
 }
