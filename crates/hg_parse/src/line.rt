@@ -35,7 +35,7 @@ fn whole_line<'a>(input: &mut Input<'a>, room: &mut Room) -> Result<FormAt<'a>, 
 /// fit, for it is no statement of the grammar if anything behind is wrong, and a number out of range comes
 /// before a count that is too great.
 ///
-/// With all parentheses open that may be, it takes 25 KB of stack.
+/// With all parentheses open that may be, it takes 32 KB of stack at most.
 #[inline(never)]
 pub fn parse_into(line: &[u8], max: u32, out: &mut Room) -> Result<Option<Statement>, ParseError>
     requires short { length line.now ≤ 4096 }
