@@ -12,12 +12,14 @@ use Rattle.hg_model.proofs.KeyOrder.{pairs_ordered}
 use Rattle.hg_model.specs.Order.{Pair, MayComeNext, stands_before}
 use Rattle.hg_model.specs.Script.{Line}
 use Rattle.hg_model.specs.Statements.{CommandTree}
-use Rattle.hg_machine.proofs.StepsSteady.{begins_steady, turns_steady, lines_keep_steady}
+use Rattle.hg_machine.proofs.LooseRuns.{turns_are_loose}
+use Rattle.hg_machine.proofs.LooseSteady.{exact_steps_keep_steady, loose_steps_keep_steady, turns_keep, lines_keep}
 use Rattle.hg_machine.proofs.Steady.{turn_steady}
 use Rattle.hg_machine.proofs.Turns.{turns_end}
 use Rattle.hg_machine.specs.Plain.Refused.{too_many_line}
 use Rattle.hg_model.specs.declared.trees.Count.TheVariants as count
-use Rattle.hg_machine.specs.Plain.Laws.{WantsRows, IsSteady, turns_left, NoFault, CanFinish, CanAlwaysFinish, GoesOn, StoppedRunsAreFronts}
+use Rattle.hg_machine.specs.Plain.Laws.{WantsRows, IsSteady, StepsKeepSteady, turns_left, NoFault, CanFinish, CanAlwaysFinish, GoesOn, StoppedRunsAreFronts, CanAlwaysFinishLoosely, LooseStoppedRunsAreFronts}
+use Rattle.hg_machine.specs.Plain.Loose.{loosely, with_any_rows}
 use Rattle.hg_machine.specs.Plain.Replies.{ReplyLine, CursorName, error, row, done, ended, closed, worked, code_lines, fault_lines, fault_code}
 use Rattle.hg_machine.specs.Plain.Rounds.{wants_more, one_less, closes, has_turns, task_has_turns, has_someone, is_started}
 use Rattle.hg_machine.specs.Plain.Run.{Manner, exactly, rests, Closes, nothing_at_work, work_ends, fetch_ends, select_ends, GivesTurns, lines_of_turns, Finishes, RunsLine, RunsLines, StopsIn, between_lines, in_a_line}
@@ -261,28 +263,30 @@ one_line : (m : Manner) (old new : State) (line : Line) (lines : List ReplyLine)
 unfolding RunsLines
 one_line m old new line lines runs = (lines, [], new, runs, (refl, refl), sym (append-nil lines))
 
-steady_behind : (built : CommandTree → Bool) (old new : State) (script : List Line) (lines : List ReplyLine) → RunsLines (exactly built) old script lines new → IsSteady old → IsSteady new
-steady_behind built old new script lines runs steady = lines_keep_steady built old new script lines runs steady
+-- a manner whose steps keep what every state of a run is like, and in which a command at work can finish
+record AlwaysFinishes (m : Manner) : Type 0 where
+  keeps : StepsKeepSteady m
+  can : (s : State) → IsSteady s → CanFinish m s
 
-goes_on_in : (built : CommandTree → Bool) (old ready at_work now : State) (before : List Line) (line : Line) (first begun : List ReplyLine) (turns : List (List ReplyLine))
-    → RunsLines (exactly built) old before first ready → (exactly built).begins ready line begun at_work → GivesTurns (exactly built) at_work turns now
-    → IsSteady old → GoesOn (exactly built) old (before ++ line ∷ []) (first ++ (begun ++ lines_of_turns turns))
-goes_on_in built old ready at_work now before line first begun turns runs begins given steady =
-    let steady_ready : IsSteady ready = steady_behind built old ready before first runs steady in
-    let steady_at_work : IsSteady at_work = begins_steady built ready at_work line begun begins steady_ready in
-    let steady_now : IsSteady now = turns_steady built at_work now turns given steady_at_work in
-    let end : CanFinish (exactly built) now = finishing built now steady_now in
+goes_on_in : (m : Manner) → AlwaysFinishes m → (old ready at_work now : State) (before : List Line) (line : Line) (first begun : List ReplyLine) (turns : List (List ReplyLine))
+    → RunsLines m old before first ready → m.begins ready line begun at_work → GivesTurns m at_work turns now
+    → IsSteady old → GoesOn m old (before ++ line ∷ []) (first ++ (begun ++ lines_of_turns turns))
+goes_on_in m always old ready at_work now before line first begun turns runs begins given steady =
+    let steady_ready : IsSteady ready = lines_keep m always.keeps old ready before first runs steady in
+    let steady_at_work : IsSteady at_work = always.keeps.begins ready at_work line begun begins steady_ready in
+    let steady_now : IsSteady now = turns_keep m always.keeps at_work now turns given steady_at_work in
+    let end : CanFinish m now = always.can now steady_now in
     let f = end.finishes in
-    let whole : Finishes (exactly built) at_work (lines_of_turns turns ++ end.lines) end.last = record {
+    let whole : Finishes m at_work (lines_of_turns turns ++ end.lines) end.last = record {
       turns = turns ++ f.turns;
       between = f.between;
       last = f.last;
-      given = turns_append (exactly built) at_work now f.between turns f.turns given f.given;
+      given = turns_append m at_work now f.between turns f.turns given f.given;
       close = f.close;
       joined = ap (λ l. lines_of_turns turns ++ l) f.joined ∙ (sym (append_assoc (lines_of_turns turns) (lines_of_turns f.turns) f.last)
           ∙ ap (λ l. l ++ f.last) (sym (flat_map-append (λ (ls : List ReplyLine). ls) turns f.turns)));
     } in
-    let run_line : RunsLine (exactly built) ready line (begun ++ (lines_of_turns turns ++ end.lines)) end.last = record {
+    let run_line : RunsLine m ready line (begun ++ (lines_of_turns turns ++ end.lines)) end.last = record {
       between = at_work;
       first = begun;
       others = lines_of_turns turns ++ end.lines;
@@ -290,25 +294,52 @@ goes_on_in built old ready at_work now before line first begun turns runs begins
       finishes = whole;
       joined = refl;
     } in
-    let all = lines_append (exactly built) old ready end.last before (line ∷ []) first (begun ++ (lines_of_turns turns ++ end.lines)) runs
-    (one_line (exactly built) ready end.last line (begun ++ (lines_of_turns turns ++ end.lines)) run_line) in
+    let all = lines_append m old ready end.last before (line ∷ []) first (begun ++ (lines_of_turns turns ++ end.lines)) runs
+    (one_line m ready end.last line (begun ++ (lines_of_turns turns ++ end.lines)) run_line) in
     record {
       more = end.lines;
       last = end.last;
       no_fault = end.no_fault;
-      runs = subst (λ (l : List ReplyLine). RunsLines (exactly built) old (before ++ line ∷ []) l end.last)
+      runs = subst (λ (l : List ReplyLine). RunsLines m old (before ++ line ∷ []) l end.last)
           (ap (λ l. first ++ l) (sym (append_assoc begun (lines_of_turns turns) end.lines)) ∙ sym (append_assoc first (begun ++ lines_of_turns turns) end.lines)) all;
     }
 
-stopped : (built : CommandTree → Bool) (old new : State) (script : List Line) (lines : List ReplyLine) → StopsIn (exactly built) old script lines new → IsSteady old
-    → GoesOn (exactly built) old script lines
-stopped built old new script lines (between_lines runs) steady =
-    record { more = []; last = new; runs = subst (λ (l : List ReplyLine). RunsLines (exactly built) old script l new) (sym (append-nil lines)) runs; no_fault = nothing_no_fault }
-stopped built old new script lines (in_a_line before line first begun turns ready at_work now cut runs begins given said is) steady =
-    let on : GoesOn (exactly built) old (before ++ line ∷ []) (first ++ (begun ++ lines_of_turns turns)) =
-    goes_on_in built old ready at_work now before line first begun turns runs begins given steady in
-    subst (λ (l : List Line). GoesOn (exactly built) old l lines) (sym cut)
-    (subst (λ (l : List ReplyLine). GoesOn (exactly built) old (before ++ line ∷ []) l) (sym said) on)
+stopped : (m : Manner) → AlwaysFinishes m → (old new : State) (script : List Line) (lines : List ReplyLine) → StopsIn m old script lines new → IsSteady old
+    → GoesOn m old script lines
+stopped m always old new script lines (between_lines runs) steady =
+    record { more = []; last = new; runs = subst (λ (l : List ReplyLine). RunsLines m old script l new) (sym (append-nil lines)) runs; no_fault = nothing_no_fault }
+stopped m always old new script lines (in_a_line before line first begun turns ready at_work now cut runs begins given said is) steady =
+    let on : GoesOn m old (before ++ line ∷ []) (first ++ (begun ++ lines_of_turns turns)) =
+    goes_on_in m always old ready at_work now before line first begun turns runs begins given steady in
+    subst (λ (l : List Line). GoesOn m old l lines) (sym cut)
+    (subst (λ (l : List ReplyLine). GoesOn m old (before ++ line ∷ []) l) (sym said) on)
 
 pub stopped_runs_are_fronts : StoppedRunsAreFronts
-stopped_runs_are_fronts = stopped
+stopped_runs_are_fronts built = stopped (exactly built) (record { keeps = exact_steps_keep_steady built; can = finishing built })
+
+-- over devices that do not tell, the machine's own steps are among those that may come
+
+finishing_loosely : (built : CommandTree → Bool) (s : State) → IsSteady s → CanFinish (loosely (exactly built)) s
+finishing_loosely built s steady =
+    let end : CanFinish (exactly built) s = finishing built s steady in
+    let f = end.finishes in
+    record {
+      lines = end.lines;
+      last = end.last;
+      finishes = record {
+        turns = f.turns;
+        between = f.between;
+        last = f.last;
+        given = turns_are_loose (exactly built) s f.between f.turns f.given;
+        close = with_any_rows f.between refl f.close;
+        joined = f.joined;
+      };
+      no_fault = end.no_fault;
+    }
+
+pub can_always_finish_loosely : CanAlwaysFinishLoosely
+can_always_finish_loosely = finishing_loosely
+
+pub loose_stopped_runs_are_fronts : LooseStoppedRunsAreFronts
+loose_stopped_runs_are_fronts built =
+    stopped (loosely (exactly built)) (record { keeps = loose_steps_keep_steady built; can = finishing_loosely built })

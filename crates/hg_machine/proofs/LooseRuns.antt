@@ -8,7 +8,7 @@ use Rattle.hg_machine.specs.Plain.State.{State}
 use Rattle.hg_model.specs.Script.{Line}
 use Rattle.hg_model.specs.Statements.{CommandTree}
 
-turns_are_loose : (m : Manner) (old new : State) (turns : List (List ReplyLine)) → GivesTurns m old turns new → GivesTurns (loosely m) old turns new
+pub turns_are_loose : (m : Manner) (old new : State) (turns : List (List ReplyLine)) → GivesTurns m old turns new → GivesTurns (loosely m) old turns new
 unfolding GivesTurns
 turns_are_loose m old new [] given = given
 turns_are_loose m old new (turn ∷ turns) given = (given.0, with_any_rows old refl given.1, turns_are_loose m given.0 new turns given.2)

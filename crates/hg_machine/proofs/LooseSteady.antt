@@ -108,7 +108,7 @@ loose_steps_keep_steady built = steps_loosely (exactly built) (exact_steps_keep_
 
 -- ---- whole lines
 
-turns_keep : (m : Manner) → StepsKeepSteady m → (old new : State) (turns : List (List ReplyLine)) → GivesTurns m old turns new → IsSteady old → IsSteady new
+pub turns_keep : (m : Manner) → StepsKeepSteady m → (old new : State) (turns : List (List ReplyLine)) → GivesTurns m old turns new → IsSteady old → IsSteady new
 unfolding GivesTurns
 turns_keep m steps old new [] given steady = becomes_so IsSteady new old given steady
 turns_keep m steps old new (turn ∷ turns) given steady = turns_keep m steps given.0 new turns given.2 (steps.turns old given.0 turn given.1 steady)
@@ -119,7 +119,7 @@ line_keeps m steps old new line lines runs steady =
     steps.closes f.between new f.last f.close
     (turns_keep m steps runs.between f.between f.turns f.given (steps.begins old runs.between line runs.first runs.begins steady))
 
-lines_keep : (m : Manner) → StepsKeepSteady m → (old new : State) (script : List Line) (lines : List ReplyLine) → RunsLines m old script lines new → IsSteady old → IsSteady new
+pub lines_keep : (m : Manner) → StepsKeepSteady m → (old new : State) (script : List Line) (lines : List ReplyLine) → RunsLines m old script lines new → IsSteady old → IsSteady new
 unfolding RunsLines
 lines_keep m steps old new [] lines runs steady = becomes_so IsSteady new old runs.1 steady
 lines_keep m steps old new (line ∷ script) lines runs steady =

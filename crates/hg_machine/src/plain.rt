@@ -25,10 +25,12 @@ pub fn steps_keep_steady()
 {}
 
 /// A command at work can always finish, and no device need fail for that; so what a run says that stops in
-/// the midst of a line is a front of what a whole run says.
+/// the midst of a line is a front of what a whole run says. Both hold over devices that do not tell as well.
 pub fn commands_can_finish()
     ensures finish { laws.CanAlwaysFinish }
     ensures fronts { laws.StoppedRunsAreFronts }
+    ensures finish_loosely { laws.CanAlwaysFinishLoosely }
+    ensures loose_fronts { laws.LooseStoppedRunsAreFronts }
 {}
 
 /// Between two lines of a run no command is at work, and every open cursor has a name.

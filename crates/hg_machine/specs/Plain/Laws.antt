@@ -109,6 +109,14 @@ abbrev pub StoppedRunsAreFronts : Type 0
 StoppedRunsAreFronts = (built : CommandTree → Bool) (old new : State) (script : List Line) (lines : List ReplyLine)
     → StopsIn (exactly built) old script lines new → IsSteady old → GoesOn (exactly built) old script lines
 
+-- and the same over devices that do not tell
+abbrev pub CanAlwaysFinishLoosely : Type 0
+CanAlwaysFinishLoosely = (built : CommandTree → Bool) (s : State) → IsSteady s → CanFinish (loosely (exactly built)) s
+
+abbrev pub LooseStoppedRunsAreFronts : Type 0
+LooseStoppedRunsAreFronts = (built : CommandTree → Bool) (old new : State) (script : List Line) (lines : List ReplyLine)
+    → StopsIn (loosely (exactly built)) old script lines new → IsSteady old → GoesOn (loosely (exactly built)) old script lines
+
 -- ---- completeness
 
 -- the needs of a line, as a function of the state and its command

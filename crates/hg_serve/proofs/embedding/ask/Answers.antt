@@ -7,8 +7,8 @@ use Rattle.hg_model.specs.Statements.{command_tree}
 use Rattle.hg_parse.specs.Parsing.{reading_given}
 use Rattle.hg_serve.proofs.embedding.ask.Goals as goal
 
-pub command-requires-clause-read : goal.command-requires-clause-read
-command-requires-clause-read c =
+pub command-next-requires-clause-read : goal.command-next-requires-clause-read
+command-next-requires-clause-read c =
     let p = c.in-Ok-Some.parsed in
     let r = Statement (command_tree p.command) p.texts.bytes in
     let line : Line = record { bytes = c.args.line.now; ended = false } in
