@@ -7,3 +7,6 @@ pub mod Inserting
 pub mod Steps
 pub mod Tuples
 pub mod Fitting
+pub mod Filtering
+pub mod Deleting
+pub mod DeleteSteps

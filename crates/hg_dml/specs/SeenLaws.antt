@@ -1,5 +1,5 @@
 -- Laws of the rows that a snapshot sees.
-use Rattle.std.specs.Prelude.{◌≡◌, ℕ, ◌≤◌, nat_lt, nat_le, Bool, true, false, List, [], ◌∷◌, ◌++◌, Option, Some, None, MatchOption, ⊤, map, if◌then◌else◌}
+use Rattle.std.specs.Prelude.{◌≡◌, ℕ, ◌<◌, ◌≤◌, nat_lt, nat_le, Bool, true, false, List, [], ◌∷◌, ◌++◌, Option, Some, None, MatchOption, ⊤, map, if◌then◌else◌}
 use Rattle.std.specs.List.{filter, AllByRecursion}
 use Rattle.std.specs.List.Sorted.{IsPermutation}
 use Rattle.std.proofs.Common.{sym, ◌∙◌, ap, subst, refl, arith, append_assoc, length-append}
@@ -15,7 +15,10 @@ use Rattle.hg_table.specs.Calls.{PutsIn, newborn}
 use Rattle.hg_dml.specs.Seen.{is_seen, row_of, seen_rows, IsPast}
 use Rattle.hg_dml.specs.Putting.{Joined}
 
-lt-no : (a b : ℕ) → b ≤ a → nat_lt a b ≡ false
+pub lt-yes : (a b : ℕ) → a < b → nat_lt a b ≡ true
+lt-yes a b h = grind (arith, nat_tests)
+
+pub lt-no : (a b : ℕ) → b ≤ a → nat_lt a b ≡ false
 lt-no a b h = grind (arith, nat_tests)
 
 le-yes : (a b : ℕ) → a ≤ b → nat_le a b ≡ true
@@ -27,7 +30,7 @@ alive-later : (c d : ℕ → Bool) (n m : ℕ) (died : Option ℕ) → ((k : ℕ
 alive-later c d n m None agree later past = refl
 alive-later c d n m (Some k) agree later past = rw (agree k past, lt-no n k past, lt-no m k (omega arith)) refl
 
-seen-later : (c d : ℕ → Bool) (n m : ℕ) (v : Placed) → ((k : ℕ) → k ≤ n → d k ≡ c k) → n ≤ m → IsPast n v → is_seen d m v ≡ is_seen c n v
+pub seen-later : (c d : ℕ → Bool) (n m : ℕ) (v : Placed) → ((k : ℕ) → k ≤ n → d k ≡ c k) → n ≤ m → IsPast n v → is_seen d m v ≡ is_seen c n v
 seen-later c d n m v agree later past =
     rw (
       agree v.version.born past.born,
