@@ -1,0 +1,11 @@
+pub mod Looking
+pub mod Lookups
+pub mod Opening
+pub mod Joining
+pub mod Stepping
+pub mod Nearing
+pub mod Beginning
+pub mod Going
+pub mod Fitting
+pub mod Faults
+pub mod Meaning
