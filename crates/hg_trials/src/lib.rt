@@ -1,6 +1,7 @@
-//! Trials over devices that fail: each call of a device fails in turn, under a whole script, and what was
-//! answered then is compared with a plain list of what stands. It stands on all that a script runs through
-//! (`hg_serve` and what is below it).
+//! Trials over devices that fail: each call of a device fails in turn, under a whole script and under the
+//! insertions of an ordered tree, and what was answered then is compared with a plain list of what stands.
+//! It stands on all that a script runs through (`hg_serve` and what is below it), on the pool (`hg_pool`)
+//! and on the ordered tree (`hg_btree`).
 //!
 //! It has tests alone and no public function, so no contract of its own, and no edits that a check must
 //! refuse. What the tests show by example for some scripts is proved for all of them in the crates below.
@@ -9,6 +10,8 @@
 //! script_trials    script (`script`) --> engine over a device whose k-th call fails --> replies
 //!                                                                                          |
 //!                  lists of the rows that stand (`standing`) <---- line by line -----------+
+//!
+//! tree_trials      400 insertions, pool of 16 frames over such a device --> walked beside a sorted list
 //! ```
 #![tactic(auto)]
 
@@ -22,3 +25,5 @@ mod script;
 mod script_trials;
 #[cfg(test)]
 mod standing;
+#[cfg(test)]
+mod tree_trials;
