@@ -150,21 +150,24 @@ fn two_long_texts_are_a_key(rt: HostRuntime) -> Result<(), Fail> {
     Ok(())
 }
 
+/// A new column of texts of up to 255 bytes.
+fn text_column(name: Name) -> NewColumn {
+    NewColumn {
+        column: column(name, SqlType::Varchar(255)),
+        primary: false,
+        unique: false,
+    }
+}
+
 // a table may be as wide as its columns make it: a row that is too long is refused when it comes
 #[test]
 fn table_of_long_texts_is_made(rt: HostRuntime) -> Result<(), Fail> {
     let catalog = catalog(&rt, rt.alloc()).ok().ok_or("memory")?;
     let mut columns = ArrayVec::new();
-    for name in ["c0", "c1", "c2", "c3"] {
-        match Name::parse(name) {
-            Some(name) => columns.push(NewColumn {
-                column: column(name, SqlType::Varchar(255)),
-                primary: false,
-                unique: false,
-            }),
-            None => panic!(rt; "{name} is no name"),
-        }
-    }
+    columns.push(text_column(Name::new("c0")));
+    columns.push(text_column(Name::new("c1")));
+    columns.push(text_column(Name::new("c2")));
+    columns.push(text_column(Name::new("c3")));
     let table = NewTable {
         name: Name::new("w"),
         columns,
