@@ -17,7 +17,7 @@ use Rattle.hg_exec.specs.Entering.{begun}
 use Rattle.hg_exec.specs.Joins.{Form, TableRows, rows_from}
 use Rattle.hg_exec.specs.Standing.{entry, IsAtWork, IsForm, LoopHasLeft, LoopStands, Owes}
 use Rattle.hg_exec.specs.declared.loops.Loops.{Loops}
-use Rattle.hg_exec.specs.declared.plan.TableLoop.{TableLoop}
+use Rattle.hg_plan.specs.declared.plan.TableLoop.{TableLoop}
 
 -- ---- how many versions a table may have
 

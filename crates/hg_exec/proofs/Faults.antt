@@ -13,7 +13,7 @@ use Rattle.hg_exec.specs.Turning.{IfStepFault, NamesRead, fault_of_step}
 use Rattle.hg_exec.specs.declared.loops.Step.{Step}
 use Rattle.hg_exec.specs.declared.loops.Step.TheVariants as step
 use Rattle.hg_exec.specs.declared.plan.OpenLoop.{OpenLoop}
-use Rattle.hg_exec.specs.declared.plan.TableLoop.{TableLoop}
+use Rattle.hg_plan.specs.declared.plan.TableLoop.{TableLoop}
 use Rattle.hg_exec.proofs.Opening.{same-one, no-loop}
 
 pub entered-none : (f : Form) (loops : List TableLoop) (most : ℕ) (l : TableLoop) (outer : List OpenLoop) (o : OpenLoop) (joined : List Value) (os : List OpenLoop) (s : Step)

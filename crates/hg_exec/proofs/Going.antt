@@ -12,7 +12,7 @@ use Rattle.hg_exec.specs.Joins.{Form}
 use Rattle.hg_exec.specs.Standing.{IsAtWork, Owes}
 use Rattle.hg_exec.specs.Turning.{looks_left}
 use Rattle.hg_exec.specs.declared.loops.Loops.{Loops}
-use Rattle.hg_exec.specs.declared.plan.TableLoop.{TableLoop}
+use Rattle.hg_plan.specs.declared.plan.TableLoop.{TableLoop}
 
 pub record Going (a b : Space) (marks : List Bool) (tables : List CatalogTable) (f : Form) (loops : List TableLoop) (x y : Loops) : Type 0 where
   pub steady : Steady none_mine a b

@@ -22,8 +22,9 @@ use Rattle.hg_value.specs.Coding.{coding, coded}
 use Rattle.hg_value.specs.Looks.{chosen}
 use Rattle.hg_exec.specs.Entering.{MayJoin, IsWhole}
 use Rattle.hg_exec.specs.Joins.{Form, joined_with, output_of}
-use Rattle.hg_exec.specs.Standing.{entry, AreNamed, AreRowsOf, HasRoom, IsForm, IsJoined, LoopStands}
-use Rattle.hg_exec.specs.declared.plan.TableLoop.{TableLoop}
+use Rattle.hg_exec.specs.Standing.{entry, AreRowsOf, HasRoom, IsForm, IsJoined, LoopStands}
+use Rattle.hg_plan.specs.Planning.{AreNamed}
+use Rattle.hg_plan.specs.declared.plan.TableLoop.{TableLoop}
 use Rattle.hg_exec.proofs.Opening.{same-one, no-loop}
 
 and-left : (a b : Bool) → (a && b) ≡ true → a ≡ true

@@ -9,3 +9,17 @@ pub mod Going
 pub mod Fitting
 pub mod Faults
 pub mod Meaning
+pub mod PlannedBags
+pub mod PlannedPlaces
+pub mod PlannedTables
+pub mod PlannedSelect
+pub mod ReadyCauses
+pub mod ReadyTables
+pub mod ReadyPlaces
+pub mod ReadyRoom
+pub mod ReadyNames
+pub mod ReadyValues
+pub mod ReadyLeaves
+pub mod ReadyOutputs
+pub mod Ready
+pub mod Taking

@@ -1,6 +1,6 @@
 -- Loops give what a SELECT means.
 use Rattle.std.specs.Prelude.{◌≡◌, ℕ, zero, suc, ◌+◌, ◌-◌, ◌<◌, ◌≤◌, ◌&&◌, nat_eq, Bool, true, false, List, [], ◌∷◌, ◌++◌, length, map, not, take, IsTrue, if◌then◌else◌}
-use Rattle.std.specs.List.{All, AllByRecursion, filter, flat_map, list_all, position_or_len, range_with_len}
+use Rattle.std.specs.List.{AllByRecursion, filter, flat_map, list_all, position_or_len, range_with_len}
 use Rattle.std.specs.List.Sorted.{IsPermutation}
 use Rattle.std.proofs.Common.{sym, ◌∙◌, ap, subst, refl, append_assoc, append-nil, arith, length-append}
 use Rattle.std.proofs.lemmas.Bool.{false≢true}
@@ -11,7 +11,7 @@ use Rattle.std.proofs.lemmas.List.Folds.{list_all-append}
 use Rattle.std.proofs.lemmas.List.Sorted.{All-permutation, IsPermutation-sym}
 use Rattle.hg_expr.specs.Laws.{AreOnePlaces, TablesSoFarTell, held}
 use Rattle.hg_expr.specs.Over.{values_over}
-use Rattle.hg_expr.specs.Slots.{named_columns, slots_of}
+use Rattle.hg_expr.specs.Slots.{named_columns}
 use Rattle.hg_model.specs.Binding.{columns_at, free_from}
 use Rattle.hg_model.specs.Conditions.{are_there, first_table, meets, split_conditions, tested_at}
 use Rattle.hg_model.specs.Evaluation.{value_of, truth_of}
@@ -24,9 +24,9 @@ use Rattle.hg_model.specs.declared.trees.Output.{Output}
 use Rattle.hg_model.specs.declared.values.Value.{Value}
 use Rattle.hg_value.specs.Looks.{chosen}
 use Rattle.hg_exec.specs.Joins.{Form, TableRows, joined_with, output_of, passes, rows_from}
-use Rattle.hg_exec.specs.Meaning.{AreTested, IsPlanned, LoopsMeanSelect, choices, form_for, rows_in}
-use Rattle.hg_exec.specs.Standing.{AreNamed}
-use Rattle.hg_exec.specs.declared.plan.TableLoop.{TableLoop}
+use Rattle.hg_exec.specs.Meaning.{LoopsMeanSelect, choices, form_for, rows_in}
+use Rattle.hg_plan.specs.Planning.{AreNamed, AreTested}
+use Rattle.hg_plan.specs.declared.plan.TableLoop.{TableLoop}
 use Rattle.hg_exec.proofs.Joining.{held-more}
 
 -- ---- lists
@@ -48,11 +48,11 @@ filter-map p g (x ∷ xs) = by (p (g x)) (filter-map p g xs)
     by true h = ap (λ r. g x ∷ r) h
     by false h = h
 
-map-map : {X Y Z : Type 0} (g : Y → Z) (h : X → Y) (xs : List X) → map g (map h xs) ≡ map (λ x. g (h x)) xs
+pub map-map : {X Y Z : Type 0} (g : Y → Z) (h : X → Y) (xs : List X) → map g (map h xs) ≡ map (λ x. g (h x)) xs
 map-map g h [] = refl
 map-map g h (x ∷ xs) = ap (λ r. g (h x) ∷ r) (map-map g h xs)
 
-map-same : {X Y : Type 0} (g h : X → Y) (xs : List X) → ((x : X) → g x ≡ h x) → map g xs ≡ map h xs
+pub map-same : {X Y : Type 0} (g h : X → Y) (xs : List X) → ((x : X) → g x ≡ h x) → map g xs ≡ map h xs
 map-same g h [] e = refl
 map-same g h (x ∷ xs) e = rw (e x, map-same g h xs e) refl
 
@@ -326,7 +326,7 @@ module _ (law : TablesSoFarTell) (scope : List FromColumn) (s : Setting) (places
 
   -- what loops give over rows that have joined
   gives : (xs : List (List Value)) (k : ℕ) (ls : List TableLoop) → length xs ≡ k → k + length ls ≡ tables → tables ≤ 4 → 0 < tables
-      → AreNamed s.query.nodes places k ls → AreTested scope s k ls → AllByRecursion (λ (o : Output). IsThere (tables - 1) o.node) s.query.outputs
+      → AreNamed s.query.nodes places k ls → AreTested scope s.positions s.query k ls → AllByRecursion (λ (o : Output). IsThere (tables - 1) o.node) s.query.outputs
       → AllByRecursion (λ ys. AreOne (xs ++ ys)) (inner ls)
       → rows_from g rows ls (joined-rows xs) ≡ outs xs k ls (inner ls)
   gives xs zero [] long count few some named tested there one = absurd (omega arith)

@@ -10,7 +10,7 @@ use Rattle.hg_exec.specs.Turning.{IfGoesOn, worth, looks_from}
 use Rattle.hg_exec.specs.declared.loops.Step.{Step}
 use Rattle.hg_exec.specs.declared.loops.Step.TheVariants as step
 use Rattle.hg_exec.specs.declared.plan.OpenLoop.{OpenLoop}
-use Rattle.hg_exec.specs.declared.plan.TableLoop.{TableLoop}
+use Rattle.hg_plan.specs.declared.plan.TableLoop.{TableLoop}
 use Rattle.hg_exec.proofs.Opening.{drop-at, worth-some, looks-top}
 
 times-some : (b w : ℕ) → 0 < b → 0 < w → 0 < b * w

@@ -19,7 +19,7 @@ use Rattle.hg_exec.specs.Joins.{Form, TableRows, rows_over}
 use Rattle.hg_exec.specs.Standing.{HasLeft, LoopHasLeft, OwesFrom, Each, Ascend}
 use Rattle.hg_exec.specs.Turning.{worth, looks_from}
 use Rattle.hg_exec.specs.declared.plan.OpenLoop.{OpenLoop}
-use Rattle.hg_exec.specs.declared.plan.TableLoop.{TableLoop}
+use Rattle.hg_plan.specs.declared.plan.TableLoop.{TableLoop}
 
 pub same-one : (x y : TableLoop) → ◌≡◌ {A = Option TableLoop} (Some x) (Some y) → x ≡ y
 same-one x y e = ap (λ o. unwrap_or o x) e

@@ -26,7 +26,7 @@ use Rattle.hg_exec.specs.declared.loops.Loops.{Loops}
 use Rattle.hg_exec.specs.declared.loops.Step.{Step}
 use Rattle.hg_exec.specs.declared.loops.Step.TheVariants as step
 use Rattle.hg_exec.specs.declared.plan.OpenLoop.{OpenLoop}
-use Rattle.hg_exec.specs.declared.plan.TableLoop.{TableLoop}
+use Rattle.hg_plan.specs.declared.plan.TableLoop.{TableLoop}
 use Rattle.hg_exec.proofs.Joining.{Joins, row-joins, whole-row}
 use Rattle.hg_exec.proofs.Opening.{all-at, drop-at, AreBefore, before-later, before-more, ascend-top, ascend-join, each-inside, each-top, each-join, each-map, has-stays, Top, owes-top, owes-join, owes-stays, worth-some, looks-top}
 

@@ -15,7 +15,7 @@ use Rattle.hg_exec.specs.Standing.{entry, HasRoom, LoopHasLeft}
 use Rattle.hg_exec.specs.declared.loops.Step.{Step}
 use Rattle.hg_exec.specs.declared.loops.Step.TheVariants as step
 use Rattle.hg_exec.specs.declared.plan.OpenLoop.{OpenLoop}
-use Rattle.hg_exec.specs.declared.plan.TableLoop.{TableLoop}
+use Rattle.hg_plan.specs.declared.plan.TableLoop.{TableLoop}
 
 -- a look at a loop may begin: its place is on a page of its table, and where the space tells, some rows are left
 pub record IsOnWay (s : Space) (committed : ℕ → Bool) (snapshot : ℕ) (tables : List CatalogTable) (pages : ℕ → List ℕ) (t : ℕ) (o : OpenLoop) : Type 0 where

@@ -11,7 +11,7 @@ use Rattle.hg_model.specs.declared.trees.Output.{Output}
 use Rattle.hg_model.specs.declared.values.Value.{Value}
 use Rattle.hg_value.specs.Looks.{chosen}
 use Rattle.hg_exec.specs.declared.plan.Statement.{Statement}
-use Rattle.hg_exec.specs.declared.plan.TableLoop.{TableLoop}
+use Rattle.hg_plan.specs.declared.plan.TableLoop.{TableLoop}
 
 -- what the outputs and the conditions of a SELECT are made of; a node's slot is the number of its value in the
 -- joined row

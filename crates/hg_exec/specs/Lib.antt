@@ -4,3 +4,4 @@ pub mod Turning
 pub mod Entering
 pub mod Beginning
 pub mod Meaning
+pub mod Planned

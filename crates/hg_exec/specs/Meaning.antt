@@ -4,7 +4,7 @@ use Rattle.std.specs.List.{All, AllByRecursion, filter, flat_map, list_all}
 use Rattle.hg_expr.specs.Laws.{AreOnePlaces}
 use Rattle.hg_expr.specs.Slots.{slots_of}
 use Rattle.hg_model.specs.Binding.{columns_at, free_from}
-use Rattle.hg_model.specs.Conditions.{are_there, first_table, split_conditions, tested_at}
+use Rattle.hg_model.specs.Conditions.{are_there, first_table, split_conditions}
 use Rattle.hg_model.specs.SelectMeaning.{Setting, keeps_row, output_row, row_values}
 use Rattle.hg_model.specs.Tables.{cross}
 use Rattle.hg_model.specs.Width.{is_tree}
@@ -12,8 +12,8 @@ use Rattle.hg_model.specs.declared.tables.FromColumn.{FromColumn}
 use Rattle.hg_model.specs.declared.trees.Output.{Output}
 use Rattle.hg_model.specs.declared.values.Value.{Value}
 use Rattle.hg_exec.specs.Joins.{Form, TableRows, rows_from}
-use Rattle.hg_exec.specs.Standing.{AreNamed}
-use Rattle.hg_exec.specs.declared.plan.TableLoop.{TableLoop}
+use Rattle.hg_plan.specs.Planning.{AreNamed, AreTested}
+use Rattle.hg_plan.specs.declared.plan.TableLoop.{TableLoop}
 
 -- one row of each table, in all ways; the first table is the slowest
 abbrev pub choices : List (List (List Value)) → List (List (List Value))
@@ -23,12 +23,6 @@ choices (rows ∷ more) = flat_map (λ row. map (λ rest. row ∷ rest) (choices
 -- the rows of the tables of FROM
 abbrev pub rows_in : TableRows → List TableLoop → List (List (List Value))
 rows_in rows loops = map (λ (l : TableLoop). rows l.table) loops
-
--- the conditions of each loop are those that are tested at its table, in any order
-abbrev pub AreTested : List FromColumn → Setting → ℕ → List TableLoop → Type 0
-AreTested scope s k [] = ⊤
-AreTested scope s k (l ∷ ls) =
-    ((p : ℕ → Bool) → list_all p l.tests.items ≡ list_all p (tested_at scope s.positions s.query k)) × AreTested scope s (suc k) ls
 
 -- all columns of a node are there when the last table has joined
 abbrev pub IsThereAtLast : List FromColumn → Setting → List TableLoop → ℕ → Type 0
@@ -48,7 +42,7 @@ pub record IsPlanned (scope : List FromColumn) (s : Setting) (places : List (ℕ
   pub some : 0 < length loops
   pub few : length loops ≤ 4
   pub named : AreNamed s.query.nodes places 0 loops
-  pub tested : AreTested scope s 0 loops
+  pub tested : AreTested scope s.positions s.query 0 loops
   pub tested_somewhere : All (λ n. first_table scope s.positions s.query n < length s.query.tables) (split_conditions s.query)
   pub outputs_there : AllByRecursion (λ (o : Output). IsThereAtLast scope s loops o.node) s.query.outputs
   pub one : AllByRecursion (λ chosen. AreOnePlaces scope chosen s.query.nodes s.positions places) (choices (rows_in rows loops))

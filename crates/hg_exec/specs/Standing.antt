@@ -7,7 +7,7 @@ use Rattle.hg_base.specs.declared.Table.{Table}
 use Rattle.hg_catalog.specs.Contents.{CatalogTable}
 use Rattle.hg_dml.specs.Seen.{seen_rows}
 use Rattle.hg_expr.specs.Laws.{AggregatesNameNone, held}
-use Rattle.hg_expr.specs.Slots.{named_columns, slots_of, ArePlaced}
+use Rattle.hg_expr.specs.Slots.{slots_of, ArePlaced}
 use Rattle.hg_model.specs.Tables.{fits_columns}
 use Rattle.hg_model.specs.Width.{IsSound}
 use Rattle.hg_model.specs.declared.trees.Column.{Column}
@@ -20,10 +20,11 @@ use Rattle.hg_table.specs.Marks.{committed}
 use Rattle.hg_table.specs.Places.{behind}
 use Rattle.hg_table.specs.Versions.{Placed}
 use Rattle.hg_value.specs.Coding.{coded}
+use Rattle.hg_plan.specs.Planning.{AreNamed}
 use Rattle.hg_exec.specs.Joins.{Form, TableRows, output_of, rows_over}
 use Rattle.hg_exec.specs.declared.loops.Loops.{Loops}
 use Rattle.hg_exec.specs.declared.plan.OpenLoop.{OpenLoop}
-use Rattle.hg_exec.specs.declared.plan.TableLoop.{TableLoop}
+use Rattle.hg_plan.specs.declared.plan.TableLoop.{TableLoop}
 
 -- ---- tables
 
@@ -71,11 +72,6 @@ abbrev pub AreRowsOf : List CatalogTable → List TableLoop → List (List Value
 AreRowsOf tables ls [] = ⊤
 AreRowsOf tables [] (row ∷ rows) = ⊥
 AreRowsOf tables (l ∷ ls) (row ∷ rows) = (fits_columns (entry tables l.table).columns row ≡ true) × AreRowsOf tables ls rows
-
--- the columns of each loop are those of its table, by its position in FROM, that the nodes name
-abbrev pub AreNamed : List Node → List (ℕ × ℕ) → ℕ → List TableLoop → Type 0
-AreNamed nodes places k [] = ⊤
-AreNamed nodes places k (l ∷ ls) = (l.columns.items ≡ named_columns nodes places k) × AreNamed nodes places (suc k) ls
 
 -- a row has room for these values
 pub record HasRoom (vs : List Value) : Type 0 where

@@ -20,7 +20,7 @@ use Rattle.hg_exec.specs.declared.loops.Step.TheVariants as step
 use Rattle.hg_exec.specs.declared.loops.Turn.{Turn}
 use Rattle.hg_exec.specs.declared.loops.Turn.TheVariants as turn
 use Rattle.hg_exec.specs.declared.plan.OpenLoop.{OpenLoop}
-use Rattle.hg_exec.specs.declared.plan.TableLoop.{TableLoop}
+use Rattle.hg_plan.specs.declared.plan.TableLoop.{TableLoop}
 
 -- a look at a loop found its next row, and the loop stands behind it
 pub record Finds (s : Space) (committed : ℕ → Bool) (snapshot : ℕ) (t : Table) (columns : List Column) (pages : List ℕ) (left : List (List Value)) (row : List Value) (o : OpenLoop) : Type 0 where

@@ -24,7 +24,8 @@ mod laws;
 mod loops;
 mod next;
 mod plan;
+mod whole;
 
-pub use laws::loops_mean_select;
+pub use laws::{loops_mean_select, planned_may_run, planned_means_the_same};
 pub use loops::{Loops, Turn};
-pub use plan::{OpenLoop, Statement, TableLoop};
+pub use plan::{OpenLoop, Statement};

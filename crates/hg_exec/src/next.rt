@@ -1,5 +1,5 @@
 //! The next row of a loop.
-ghost use Rattle.std.specs.Prelude.{◌≡◌, [], ◌+◌, ◌<◌, ◌≤◌, ℕ, true, List, length, IfOk, IfErr, IfSome, MatchOption};
+ghost use Rattle.std.specs.Prelude.{◌≡◌, [], ◌+◌, ◌<◌, ◌≤◌, ℕ, true, List, length, IfOk, IfErr, IfSome, MatchOption, None};
 ghost use Rattle.hg_base.specs.Causes.{HasCause, fault_of};
 ghost use Rattle.hg_base.specs.Space.{NoPins};
 ghost use Rattle.hg_base.specs.Steadiness.{Steady};
@@ -54,6 +54,7 @@ pub fn next_row<S: Pages, D: TableCalls>(
         → MatchOption found (left ≡ [])
         (Finds (S.state space.new) (committed stamps.now) snapshot.0 (D.ends table.now) columns.now pages left row.new)) }
     ensures fits { IfOk result (λ found. IfSome found (λ o. fits_columns columns.now row.new ≡ true)) }
+    ensures unseen { IfOk result (λ found. found ≡ None → row.new ≡ row.old) }
     ensures next { IfOk result (λ found. IfSome found (λ o. (o.budget + 1 ≡ from.budget) × (0 < o.budget) × (o.start ≡ from.start))) }
     ensures on { IfOk result (λ found. IfSome found (λ o. (pages : List ℕ)
         → IsChain (S.state space.old) (D.ends table.now) pages → StandsOn pages o.at)) }

@@ -1,16 +1,7 @@
 //! What stays the same for all rows of a SELECT.
-use arrayvec::ArrayVec;
 use hg_base::Place;
 use hg_model::{Node, Output};
-
-/// The loop over one table of FROM: the number of the table, the columns of it that the nodes name, and the
-/// conditions that are tested once a row of it has joined the rows before.
-#[derive(Drop, Default)]
-pub struct TableLoop {
-    pub table: u8,
-    pub columns: ArrayVec<u8, 16>,
-    pub tests: ArrayVec<u8, 112>,
-}
+use hg_plan::TableLoop;
 
 /// A SELECT that is bound and planned: its nodes, its texts and its outputs, for each node the number of its
 /// value in the joined row, and its loops, the outermost first.

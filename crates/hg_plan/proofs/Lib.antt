@@ -1,0 +1,10 @@
+pub mod Bound
+pub mod Latest
+pub mod Lists
+pub mod Marking
+pub mod Parts
+pub mod ReadStatements
+pub mod ReadTokens
+pub mod ReadTrees
+pub mod Splitting
+pub mod Tested

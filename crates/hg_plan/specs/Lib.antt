@@ -1,0 +1,5 @@
+pub mod Examples
+pub mod Planning
+pub mod PlanLaws
+pub mod ReadLaws
+pub mod Testing
