@@ -3,17 +3,16 @@ use Rattle.std.specs.Prelude.{◌≡◌, ℕ, zero, suc, ◌+◌, ◌≤◌, ◌
 use Rattle.std.specs.List.{count_by, list_all, list_any}
 use Rattle.std.proofs.Common.{sym, ◌∙◌, ap, subst, refl, arith}
 use Rattle.std.proofs.lemmas.Bool.{false≢true}
-use Rattle.std.proofs.lemmas.List.{append-nil}
 use Rattle.hg_base.specs.Space.{Space}
 use Rattle.hg_bind.specs.Bound.{table_of, tables_of, indexes_of}
 use Rattle.hg_catalog.specs.Contents.{Contents, CatalogTable}
 use Rattle.hg_machine.specs.Plain.Begin.{BeginsCommand}
-use Rattle.hg_machine.specs.Plain.CreateTable.{CreatesTable, refused, made, with_table, new_table, keys_of, table_allowance}
-use Rattle.hg_machine.specs.Plain.Loose.{Loosely, with_any_rows, finds_damage, looks_at_pages}
+use Rattle.hg_machine.specs.Plain.CreateTable.{CreatesTable, refused, made, with_table, new_table}
+use Rattle.hg_machine.specs.Plain.Loose.{with_any_rows, finds_damage, looks_at_pages}
 use Rattle.hg_machine.specs.Plain.Refused.{refusal_line, damaged}
 use Rattle.hg_machine.specs.Plain.Replies.{ReplyLine, created, device_fault}
 use Rattle.hg_machine.specs.Plain.State.{State, TableState, is_table, versions_in, versions_set}
-use Rattle.hg_model.specs.Creation.{create_table_refusal, created_table, created_column, created_indexes, indexes_from, is_key}
+use Rattle.hg_model.specs.Creation.{create_table_refusal, created_column, indexes_from, is_key}
 use Rattle.hg_model.specs.Refusal.{Refusal, first_cause}
 use Rattle.hg_model.specs.Statements.{CommandTree, CreateTable, TableTree}
 use Rattle.hg_model.specs.Tables.{table_named}
@@ -24,12 +23,11 @@ use Rattle.hg_base.specs.declared.PageId.{PageId}
 use Rattle.hg_reply.specs.Built.{is_plain_column}
 use Rattle.hg_reply.specs.Steps.{BeginsSo}
 use Rattle.hg_table.specs.TableLaws.{no_pages}
-use Rattle.hg_engine.specs.Standing.{Stands, state_of, LeftStands}
-use Rattle.hg_engine.specs.Stepping.{TablesAre, StepsTo}
-use Rattle.hg_engine.specs.declared.scan.Scan.{Scan}
+use Rattle.hg_engine.specs.Standing.{Stands, nothing_left, state_of}
+use Rattle.hg_engine.specs.Stepping.{TablesAre, StepsTo, work_in}
+use Rattle.hg_engine.specs.declared.open.OpenSelect.{OpenSelect}
 use Rattle.hg_engine.specs.declared.tables.Tables.{Tables}
 use Rattle.hg_engine.proofs.Lookups.{some-same, tables_in}
-use Rattle.hg_engine.proofs.StarLaws.{and-both}
 use Rattle.hg_engine.proofs.StandLaws.{same-count, new-stands, tables-more}
 
 -- ---- how a command begins, over devices of either kind
@@ -70,6 +68,10 @@ create-same c tables t shape none =
 
 -- ---- no key, no index
 
+pub and-both : (a b : Bool) → (a && b) ≡ true → (a ≡ true) × (b ≡ true)
+and-both true b h = (refl, h)
+and-both false b h = absurd (false≢true h)
+
 no-key : (c : NewColumn) → is_plain_column c ≡ true → is_key c ≡ false
 no-key c h = by (is_key c) h
   where
@@ -94,14 +96,18 @@ versions-same (t ∷ ts) name = by (is_table name t) (versions-same ts name)
     by false rest = ap (λ l. t ∷ l) rest
 
 -- what an engine keeps by now
-pub kept : (s : Space) (x : Tables) (scan : Option Scan) (state : State) (max mpl : ℕ) (catalog : Contents) (marks : List Bool) → x.catalog ≡ catalog → x.stamps ≡ marks
-    → x.scan ≡ scan → x.max ≡ max → x.mpl ≡ mpl → Stands s max mpl catalog marks scan state → TablesAre s x state
-kept s x scan state max mpl catalog marks c m w k l st =
-    subst (λ n. Stands s x.max n x.catalog x.stamps x.scan state) (sym l)
-    (subst (λ n. Stands s n mpl x.catalog x.stamps x.scan state) (sym k)
+pub kept : (s : Space) (x : Tables) (work : Option OpenSelect) (state : State) (max mpl : ℕ) (catalog : Contents) (marks : List Bool) → x.catalog ≡ catalog → x.stamps ≡ marks
+    → work_in x.is_open x.open ≡ work → x.max ≡ max → x.mpl ≡ mpl → Stands s max mpl catalog marks work state → TablesAre s x state
+kept s x work state max mpl catalog marks c m w k l st =
+    subst (λ n. Stands s x.max n x.catalog x.stamps (work_in x.is_open x.open) state) (sym l)
+    (subst (λ n. Stands s n mpl x.catalog x.stamps (work_in x.is_open x.open) state) (sym k)
     (subst (λ n. Stands s max mpl x.catalog x.stamps n state) (sym w)
-    (subst (λ n. Stands s max mpl x.catalog n scan state) (sym m)
-    (subst (λ n. Stands s max mpl n marks scan state) (sym c) st))))
+    (subst (λ n. Stands s max mpl x.catalog n work state) (sym m)
+    (subst (λ n. Stands s max mpl n marks work state) (sym c) st))))
+
+-- no SELECT is at work
+pub no-work : (b : Bool) (w : OpenSelect) → b ≡ false → work_in b w ≡ None
+no-work b w idle = ap (λ o. work_in o w) idle
 
 -- ---- the two ways of CREATE TABLE
 
@@ -110,7 +116,7 @@ module _ (s : Space) (old : Tables) (t : TableTree) (texts : List ℕ) where
       → StepsTo s s old old (BeginsSo s.told (CreateTable t) texts) (refusal_line r ∷ [])
   create-refused r cause = record {
     to = λ before st.
-        let now : State = state_of s old.max old.mpl old.stamps old.scan st.tables st.left in
+        let now : State = state_of s old.max old.mpl old.stamps (work_in old.is_open old.open) st.tables st.left in
         let why : create_table_refusal (tables_in st.tables) [] t ≡ Some r = create-same old.catalog st.tables t st.stand.shape st.no_indexes ∙ cause in (
           before,
           st,
@@ -119,16 +125,16 @@ module _ (s : Space) (old : Tables) (t : TableTree) (texts : List ℕ) where
         );
   }
 
-  pub create-made : (new : Tables) → create_table_refusal (tables_of old.catalog) (indexes_of old.catalog) t ≡ None → list_all is_plain_column t.columns ≡ true → old.scan ≡ None
+  pub create-made : (new : Tables) → create_table_refusal (tables_of old.catalog) (indexes_of old.catalog) t ≡ None → list_all is_plain_column t.columns ≡ true → old.is_open ≡ false
       → new.catalog ≡ record old.catalog { tables = old.catalog.tables ++ record { name = t.name; columns = map created_column t.columns; pages = no_pages } ∷ [] }
-      → new.stamps ≡ old.stamps → new.scan ≡ old.scan → new.max ≡ old.max → new.mpl ≡ old.mpl
+      → new.stamps ≡ old.stamps → new.is_open ≡ old.is_open → new.max ≡ old.max → new.mpl ≡ old.mpl
       → StepsTo s s old new (BeginsSo s.told (CreateTable t) texts) (created ∷ [])
   create-made new none plain idle grown stamps scan max mpl = record {
     to = λ before st.
         let entry : CatalogTable = record { name = t.name; columns = map created_column t.columns; pages = no_pages } in
         let more : List TableState = st.tables ++ new_table t ∷ [] in
-        let after : State = state_of s old.max old.mpl old.stamps None more [] in
-        let is : before ≡ state_of s old.max old.mpl old.stamps None st.tables st.left = st.is ∙ ap (λ c. state_of s old.max old.mpl old.stamps c st.tables st.left) idle in
+        let after : State = state_of s old.max old.mpl old.stamps None more nothing_left in
+        let is : before ≡ state_of s old.max old.mpl old.stamps None st.tables st.left = st.is ∙ ap (λ c. state_of s old.max old.mpl old.stamps c st.tables st.left) (no-work old.is_open old.open idle) in
         let why : create_table_refusal (tables_in st.tables) [] t ≡ None = create-same old.catalog st.tables t st.stand.shape st.no_indexes ∙ none in
         let standing : Stands s old.max old.mpl (record old.catalog { tables = old.catalog.tables ++ entry ∷ [] }) old.stamps None after = record {
           pins = st.pins;
@@ -140,8 +146,8 @@ module _ (s : Space) (old : Tables) (t : TableTree) (texts : List ℕ) where
           pages = λ k. if k == length old.catalog.tables then [] else st.pages k;
           stand = tables-more s old.stamps old.catalog.tables st.tables st.pages entry (new_table t) st.stand
               (new-stands s old.stamps entry (new_table t) refl refl refl) refl;
-          left = [];
-          work = tt;
+          left = nothing_left;
+          stands = tt;
           is = refl;
         } in
         let spent : after ≡ record (with_table (state_of s old.max old.mpl old.stamps None st.tables st.left) t) {
@@ -155,7 +161,7 @@ module _ (s : Space) (old : Tables) (t : TableTree) (texts : List ℕ) where
           stamps = (let z : after.stamps ≡ after.stamps + 0 = omega arith in z) i;
         } in (
           after,
-          kept s new None after old.max old.mpl (record old.catalog { tables = old.catalog.tables ++ entry ∷ [] }) old.stamps grown stamps (scan ∙ idle) max mpl standing,
+          kept s new None after old.max old.mpl (record old.catalog { tables = old.catalog.tables ++ entry ∷ [] }) old.stamps grown stamps (no-work new.is_open new.open (scan ∙ idle)) max mpl standing,
           begins-same s.told (CreateTable t) texts before after (created ∷ [])
               (subst (λ b. CreatesTable b t (created ∷ []) after) (sym is) (made why refl (record {
                 used = after.used;

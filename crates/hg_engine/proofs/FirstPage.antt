@@ -17,12 +17,11 @@ use Rattle.hg_pool.specs.declared.Config.{Config}
 use Rattle.std.proofs.lemmas.Bool.{false≢true}
 use Rattle.std.proofs.lemmas.Option.{none-some}
 use Rattle.hg_machine.specs.Plain.State.{first_state}
-use Rattle.hg_dml.specs.Lent.{NoneLent}
 use Rattle.hg_engine.specs.Opened.{TakesFirst, sizes_of}
-use Rattle.hg_engine.specs.Standing.{Stands}
+use Rattle.hg_engine.specs.Standing.{nothing_left}
 use Rattle.hg_engine.specs.Stepping.{TablesAre}
 use Rattle.hg_engine.specs.declared.tables.Tables.{Tables}
-use Rattle.hg_engine.proofs.CreateLaws.{kept}
+use Rattle.hg_engine.proofs.CreateLaws.{kept, no-work}
 
 at-twice : (f : ℕ → Bool) (p q : ℕ) → f q ≡ false → at (at f p true) p false q ≡ false
 at-twice f p q h = elim (eqb_tells q p) [
@@ -65,14 +64,14 @@ none-taken taken file (suc n) none =
 
 -- an engine of no table stands for the first state
 pub opened : (a b : Space) (x : Tables) (c : Config) (d : Disks) → TakesFirst a b → a ≡ new_space c d → 1 ≤ c.mpl → 0 < c.main_pages
-    → x.catalog ≡ record { tables = []; indexes = [] } → x.stamps ≡ [] → x.scan ≡ None → x.max ≡ c.max → x.mpl ≡ c.mpl → TablesAre b x (first_state (sizes_of c))
-opened a b x c d first new mpl some catalog stamps scan max_is mpl_is =
+    → x.catalog ≡ record { tables = []; indexes = [] } → x.stamps ≡ [] → x.is_open ≡ false → x.max ≡ c.max → x.mpl ≡ c.mpl → TablesAre b x (first_state (sizes_of c))
+opened a b x c d first new mpl some catalog stamps idle max_is mpl_is =
     let none : (q : ℕ) → a.taken q ≡ false = λ q. ap (λ (s : Space). s.taken q) new in
     let none_main : taken_in a Main ≡ 0 = none-taken a.taken Main (a.limit Main) none in
     let none_temp : taken_in a Temp ≡ 0 = none-taken a.taken Temp (a.limit Temp) none in
     let used : taken_in b Main ≡ 1 = let one = first.used in omega (arith, one, none_main) in
     let over : taken_in b Temp ≡ 0 = first.over ∙ none_temp in
-    kept b x None (first_state (sizes_of c)) c.max c.mpl (record { tables = []; indexes = [] }) [] catalog stamps scan max_is mpl_is (record {
+    kept b x None (first_state (sizes_of c)) c.max c.mpl (record { tables = []; indexes = [] }) [] catalog stamps (no-work x.is_open x.open idle) max_is mpl_is (record {
       pins = first.pins;
       none_lent = first.none_lent (λ q. ap (λ (s : Space). s.of_heap q) new);
       most = ap (λ (h : Heaps). h.most) first.heaps ∙ ap (λ (s : Space). s.heaps.most) new;
@@ -85,8 +84,8 @@ opened a b x c d first new mpl some catalog stamps scan max_is mpl_is =
         each = λ k e t he ht. absurd (none-some e he);
         apart = λ j k x hj hk differ mj mk. absurd (false≢true mj);
       };
-      left = [];
-      work = tt;
+      left = nothing_left;
+      stands = tt;
       is = λ i. record (first_state (sizes_of c)) {
         current = sym (ap (λ (h : Heaps). h.current) first.heaps ∙ ap (λ (s : Space). s.heaps.current) new) i;
         used = sym used i;

@@ -18,37 +18,36 @@ use Rattle.hg_bind.specs.Bound.{table_of, tables_of}
 use Rattle.hg_catalog.specs.Contents.{Contents, CatalogTable, table_number, with_pages}
 use Rattle.hg_dml.specs.declared.insert.ChangeError.{ChangeError}
 use Rattle.hg_dml.specs.declared.insert.ChangeError.TheVariants as change
-use Rattle.hg_dml.specs.Inserting.{StandsAt, PutsAll, PutsPart, IsCause, OnFault, OnRefused}
-use Rattle.hg_dml.specs.Putting.{Grows, Puts, PutsSome, PutFault, FindsLast, table_mine}
+use Rattle.hg_dml.specs.Inserting.{StandsAt, PutsAll, PutsPart, OnFault, OnRefused}
+use Rattle.hg_dml.specs.Putting.{Grows, Puts, PutFault, FindsLast, table_mine}
 use Rattle.hg_dml.specs.Rows.{rows_of_tuples, rows_cause}
 use Rattle.hg_dml.specs.Seen.{seen_rows}
-use Rattle.hg_machine.specs.Plain.Changes.{ChangesRows, refused_before, made, refused, failed, done_allowance, ended_allowance}
+use Rattle.hg_machine.specs.Plain.Changes.{refused_before, made, refused, failed, done_allowance, ended_allowance}
 use Rattle.hg_machine.specs.Plain.Insert.{Inserts, insertion}
-use Rattle.hg_machine.specs.Plain.Licences.{Licensed, device_failed, main_is_full, both_files, Allowance, Spends, Within}
-use Rattle.hg_machine.specs.Plain.Refused.{refusal_line, damaged}
-use Rattle.hg_machine.specs.Plain.Replies.{ReplyLine, rows, device_fault, file_full}
-use Rattle.hg_machine.specs.Plain.State.{State, TableState, tables_of as tables_seen, is_table, versions_of, versions_in, versions_set, rows_set, with_rows, has_rows}
-use Rattle.hg_model.specs.ChangeBinding.{insert_refusal, insert_targets, table_cause, columns_cause, tuple_fits}
+use Rattle.hg_machine.specs.Plain.Licences.{device_failed, main_is_full, both_files, Spends}
+use Rattle.hg_machine.specs.Plain.Refused.{refusal_line}
+use Rattle.hg_machine.specs.Plain.Replies.{rows, device_fault, file_full}
+use Rattle.hg_machine.specs.Plain.State.{State, TableState, tables_of as tables_seen, is_table, versions_in, with_rows, has_rows}
+use Rattle.hg_model.specs.ChangeBinding.{insert_refusal, insert_targets, columns_cause, tuple_fits}
 use Rattle.hg_model.specs.ChangeMeaning.{insert_cause, insert_meaning, insert_count, stamp_cause, change_of}
-use Rattle.hg_model.specs.Changes.{Change, Made, Refused, unless, insert_change, change_cause, new_rows, new_row, tuples_from}
+use Rattle.hg_model.specs.Changes.{Made, unless, insert_change, new_row, tuples_from}
 use Rattle.hg_model.specs.CommandNeeds.{storing_need}
 use Rattle.hg_model.specs.Creation.{uniques_of}
 use Rattle.hg_model.specs.Refusal.{Refusal, StampsUsedUp, TypeMismatch, first_cause}
 use Rattle.hg_model.specs.Scope.{columns_of}
-use Rattle.hg_model.specs.Statements.{CommandTree, InsertRows, InsertTree}
+use Rattle.hg_model.specs.Statements.{InsertRows, InsertTree}
 use Rattle.hg_model.specs.Tables.{Table, table_named, same_name}
 use Rattle.hg_model.specs.declared.trees.Column.{Column}
 use Rattle.hg_model.specs.declared.trees.Literal.{Literal}
 use Rattle.hg_model.specs.declared.values.Value.{Value}
 use Rattle.hg_reply.specs.Steps.{BeginsSo, TellOnlyFound}
-use Rattle.hg_table.specs.Chains.{IsChain}
 use Rattle.hg_table.specs.Marks.{last, committed, Draws, Commits}
-use Rattle.hg_engine.specs.Standing.{Stands, TableStands, TablesStand, HasRows, state_of, rowless}
-use Rattle.hg_engine.specs.Stepping.{TablesAre, StepsTo, CountedIn, IsSameSpace, InsertFinds, line_of}
+use Rattle.hg_engine.specs.Standing.{Left, Stands, TableStands, TablesStand, HasRows, nothing_left, state_of, rowless}
+use Rattle.hg_engine.specs.Stepping.{TablesAre, StepsTo, CountedIn, IsSameSpace, InsertFinds, line_of, work_in}
 use Rattle.hg_engine.specs.declared.tables.Tables.{Tables}
 use Rattle.hg_engine.proofs.Lookups.{FirstAt, tables_in, columns-same, some-same, rows-set, versions-set, versions-in, first-set, first-is, set-set, get-set-here, pages-set, named-first, number-first, position-first, first-holds}
 use Rattle.hg_engine.proofs.StandLaws.{IsLater, FoundAt, found-at, with_ends, rows-later, pages_with, tables-then, same-count}
-use Rattle.hg_engine.proofs.CreateLaws.{begins-same, begins-damaged, kept}
+use Rattle.hg_engine.proofs.CreateLaws.{begins-same, begins-damaged, kept, no-work}
 use Rattle.hg_engine.proofs.Saying.{same-space, put-counted, sound-line}
 
 -- ---- marks
@@ -279,7 +278,7 @@ inserts-unmade state texts i r cause = refused_before r cause refl refl
 taken-fits : (s : Space) (file : File) → taken_in s file ≤ s.limit file
 taken-fits s file = taken_below-le s.taken file (s.limit file)
 
-module _ (a b : Space) (max mpl : ℕ) (old new : List Bool) (listed : List TableState) (left : List Rattle.hg_model.specs.Order.Pair) (k : ℕ) (u : TableState) (name : List ℕ) (n : ℕ)
+module _ (a b : Space) (max mpl : ℕ) (old new : List Bool) (listed : List TableState) (left : Left) (k : ℕ) (u : TableState) (name : List ℕ) (n : ℕ)
     (first : FirstAt (is_table name) listed k) (at : slice_get listed k ≡ Some u) (limit : b.limit ≡ a.limit) (current : b.heaps.current ≡ a.heaps.current)
     (temp_same : taken_in b Temp ≡ taken_in a Temp) (one_more : last new ≡ last old + 1) where
   abbrev grown : List TableState
@@ -287,7 +286,7 @@ module _ (a b : Space) (max mpl : ℕ) (old new : List Bool) (listed : List Tabl
 
   pub spends : (main temp versions : ℕ) → taken_in a Main ≤ taken_in b Main → taken_in b Main ≤ taken_in a Main + main → u.versions ≤ n → n ≤ u.versions + versions
       → Spends (record { main = main; temp = temp; versions = versions; stamps = 1; lowers = false }) name
-      (state_of a max mpl old None listed left) (state_of b max mpl new None grown [])
+      (state_of a max mpl old None listed left) (state_of b max mpl new None grown nothing_left)
   spends main temp versions more few rows_more rows_few =
       let same : versions_in listed name ≡ u.versions = versions-in listed name k u first at in record {
         used = taken_in b Main;
@@ -298,7 +297,7 @@ module _ (a b : Space) (max mpl : ℕ) (old new : List Bool) (listed : List Tabl
         rows = record { not_less = λ h. omega (arith, same, rows_more); few = omega (arith, same, rows_few) };
         main_fits = λ h. let f = taken-fits b Main in let l = ap (λ g. g Main) limit in omega (arith, f, l);
         temp_fits = λ h. let f = taken-fits b Temp in let l = ap (λ g. g Temp) limit in omega (arith, f, l);
-        after = λ i. record (state_of b max mpl new None grown []) {
+        after = λ i. record (state_of b max mpl new None grown nothing_left) {
           tables = sym (versions-set listed name k u n first at) i;
           current = current i;
           stamps = one_more i;
@@ -318,7 +317,7 @@ shape-at catalog tables k c t shape hc ht =
     Rattle.hg_engine.proofs.StandLaws.some-one (rowless t) (table_of c) mapped
 
 module _ (a b : Space) (old new : Tables) (i : InsertTree) (texts targets : List ℕ) (k stamp : ℕ) (mid : List Bool)
-    (idle : old.scan ≡ None) (still : new.scan ≡ old.scan) (max : new.max ≡ old.max) (mpl : new.mpl ≡ old.mpl)
+    (idle : old.is_open ≡ false) (still : new.is_open ≡ old.is_open) (max : new.max ≡ old.max) (mpl : new.mpl ≡ old.mpl)
     (number : table_number old.catalog i.table ≡ Some k) (inside : k < length old.catalog.tables)
     (unrefused : insert_refusal (tables_of old.catalog) i ≡ None)
     (targets_are : targets ≡ insert_targets (columns_of (table_named (tables_of old.catalog) i.table)) i.columns)
@@ -329,7 +328,7 @@ module _ (a b : Space) (old new : Tables) (i : InsertTree) (texts targets : List
     now = state_of a old.max old.mpl old.stamps None st.tables st.left
 
     now-is : before ≡ now
-    now-is = st.is ∙ ap (λ c. state_of a old.max old.mpl old.stamps c st.tables st.left) idle
+    now-is = st.is ∙ ap (λ c. state_of a old.max old.mpl old.stamps c st.tables st.left) (no-work old.is_open old.open idle)
 
     pub at-k : FoundAt a old.stamps old.catalog.tables st.tables st.pages k
     at-k = found-at a old.stamps old.catalog.tables st.tables st.pages k st.stand inside
@@ -373,7 +372,7 @@ module _ (a b : Space) (old new : Tables) (i : InsertTree) (texts targets : List
       more = slice_set st.tables k (with_more t w_rows w.versions)
 
       abbrev after : State
-      after = state_of b old.max old.mpl marks None more []
+      after = state_of b old.max old.mpl marks None more nothing_left
 
       same-shape : rowless (with_more t w_rows w.versions) ≡ rowless t
       same-shape = refl
@@ -389,13 +388,13 @@ module _ (a b : Space) (old new : Tables) (i : InsertTree) (texts targets : List
         pages = pages_with st.pages k g_now;
         stand = subst (λ l. TablesStand b marks l more (pages_with st.pages k g_now)) (sym (pages-set old.catalog.tables k entry ends at-k.at_entry))
             (tables-then a b old.stamps marks old.catalog.tables st.tables st.pages k entry t (with_more t w_rows w.versions) ends g_now n later st.stand at-k.at_entry at-k.at_table g refl w.stands);
-        left = [];
-        work = tt;
+        left = nothing_left;
+        stands = tt;
         is = refl;
       }
 
       pub stands-after : TablesAre b new after
-      stands-after = kept b new None after old.max old.mpl (record old.catalog { tables = with_pages old.catalog.tables k ends }) marks moved stamped (still ∙ idle) max mpl standing
+      stands-after = kept b new None after old.max old.mpl (record old.catalog { tables = with_pages old.catalog.tables k ends }) marks moved stamped (no-work new.is_open new.open (still ∙ idle)) max mpl standing
 
       -- a change that was made: the rows are those of the table now
       pub spent-made : (main temp versions : ℕ) → n ≤ main → n ≤ versions
@@ -407,7 +406,7 @@ module _ (a b : Space) (old new : Tables) (i : InsertTree) (texts targets : List
           let there : FirstAt (is_table i.table) listed k = first-set st.tables i.table k u first is_t in
           let inside_t : k < length st.tables = slice_get_within st.tables k t at-k.at_table in
           let P : List TableState → Type 0 = λ l. Spends (record { main = main; temp = temp; versions = versions; stamps = 1; lowers = false }) i.table
-          (state_of a old.max old.mpl old.stamps None listed st.left) (state_of b old.max old.mpl marks None l []) in
+          (state_of a old.max old.mpl old.stamps None listed st.left) (state_of b old.max old.mpl marks None l nothing_left) in
           let Q : List TableState → Type 0 = λ l. Spends (record { main = main; temp = temp; versions = versions; stamps = 1; lowers = false }) i.table
           (state_of a old.max old.mpl old.stamps None l st.left) after in
           let one : P more = subst P (set-set st.tables k u (with_more t w_rows w.versions))
@@ -420,7 +419,7 @@ module _ (a b : Space) (old new : Tables) (i : InsertTree) (texts targets : List
           → Spends (record { main = main; temp = temp; versions = versions; stamps = 1; lowers = false }) i.table now after
       spent-kept main temp versions em ev same =
           let P : List (List Value) → Type 0 = λ rows'. Spends (record { main = main; temp = temp; versions = versions; stamps = 1; lowers = false }) i.table now
-          (state_of b old.max old.mpl marks None (slice_set st.tables k (with_more t rows' w.versions)) []) in
+          (state_of b old.max old.mpl marks None (slice_set st.tables k (with_more t rows' w.versions)) nothing_left) in
           subst P (sym same)
           (spends a b old.max old.mpl old.stamps marks st.tables st.left k t i.table w.versions first at-k.at_table g.steady.limit g.steady.current g.temp one_more
           main temp versions g.more (let f = g.few in omega (arith, f, em)) w.more (let f = w.few in omega (arith, f, ev)))
@@ -509,13 +508,14 @@ module _ (a b : Space) (old new : Tables) (i : InsertTree) (texts targets : List
 
 -- ---- an INSERT that writes nothing
 
-module _ (s : Space) (old new : Tables) (i : InsertTree) (texts : List ℕ) (idle : old.scan ≡ None) (still : new.scan ≡ old.scan) (max : new.max ≡ old.max) (mpl : new.mpl ≡ old.mpl)
+module _ (s : Space) (old new : Tables) (i : InsertTree) (texts : List ℕ) (idle : old.is_open ≡ false) (still : new.is_open ≡ old.is_open) (max : new.max ≡ old.max) (mpl : new.mpl ≡ old.mpl)
     (catalog : new.catalog ≡ old.catalog) where
   unmoved : (before : State) (st : TablesAre s old before) → new.stamps ≡ old.stamps → TablesAre s new before
-  unmoved before st stamps = kept s new old.scan before old.max old.mpl old.catalog old.stamps catalog stamps still max mpl st
+  unmoved before st stamps = kept s new (work_in old.is_open old.open) before old.max old.mpl old.catalog old.stamps catalog stamps
+      (no-work new.is_open new.open (still ∙ idle) ∙ sym (no-work old.is_open old.open idle)) max mpl st
 
   resting-here : (before : State) (st : TablesAre s old before) → before ≡ state_of s old.max old.mpl old.stamps None st.tables st.left
-  resting-here before st = st.is ∙ ap (λ c. state_of s old.max old.mpl old.stamps c st.tables st.left) idle
+  resting-here before st = st.is ∙ ap (λ c. state_of s old.max old.mpl old.stamps c st.tables st.left) (no-work old.is_open old.open idle)
 
   unmade-step : (before : State) (st : TablesAre s old before) (r : Refusal)
       → insert_cause (last old.stamps) (tables_in st.tables) i ≡ Some r → BeginsSo s.told (InsertRows i) texts before (refusal_line r ∷ []) before
@@ -552,7 +552,7 @@ set-same (y ∷ ys) zero x h = ap (λ w. w ∷ ys) (sym (Rattle.hg_engine.proofs
 set-same (y ∷ ys) (suc k) x h = ap (λ l. y ∷ l) (set-same ys k x h)
 
 module _ (s : Space) (old new : Tables) (i : InsertTree) (texts targets : List ℕ) (k stamp : ℕ)
-    (idle : old.scan ≡ None) (still : new.scan ≡ old.scan) (max : new.max ≡ old.max) (mpl : new.mpl ≡ old.mpl) (catalog : new.catalog ≡ old.catalog)
+    (idle : old.is_open ≡ false) (still : new.is_open ≡ old.is_open) (max : new.max ≡ old.max) (mpl : new.mpl ≡ old.mpl) (catalog : new.catalog ≡ old.catalog)
     (number : table_number old.catalog i.table ≡ Some k) (inside : k < length old.catalog.tables)
     (unrefused : insert_refusal (tables_of old.catalog) i ≡ None)
     (targets_are : targets ≡ insert_targets (columns_of (table_named (tables_of old.catalog) i.table)) i.columns)
@@ -565,7 +565,7 @@ module _ (s : Space) (old new : Tables) (i : InsertTree) (texts targets : List �
     to = λ before st.
         let e = found-at s old.stamps old.catalog.tables st.tables st.pages k st.stand inside in
         let here : State = state_of s old.max old.mpl old.stamps None st.tables st.left in
-        let here_is : before ≡ here = st.is ∙ ap (λ c. state_of s old.max old.mpl old.stamps c st.tables st.left) idle in
+        let here_is : before ≡ here = st.is ∙ ap (λ c. state_of s old.max old.mpl old.stamps c st.tables st.left) (no-work old.is_open old.open idle) in
         let first : FirstAt (is_table i.table) st.tables k = number-first old.catalog st.tables i.table k st.stand.shape number in
         let named : table_named (tables_in st.tables) i.table ≡ Some e.table.table = named-first st.tables i.table k e.table first e.at_table in
         let stands : insert_refusal (tables_in st.tables) i ≡ None = refusal-same old.catalog st.tables i st.stand.shape ∙ unrefused in
@@ -574,15 +574,15 @@ module _ (s : Space) (old new : Tables) (i : InsertTree) (texts targets : List �
         targets_are ∙ ap (λ cs. insert_targets cs i.columns) (sym (columns-same old.catalog st.tables st.stand.shape i.table) ∙ ap columns_of named) in
         let later : IsLater old.stamps new.stamps = later-drawn old.stamps new.stamps stamp draws in
         let one : last new.stamps ≡ last old.stamps + 1 = let x = draws.next in let d = draws.drawn in omega arith in
-        let after : State = state_of s old.max old.mpl new.stamps None st.tables [] in
+        let after : State = state_of s old.max old.mpl new.stamps None st.tables nothing_left in
         let cause : rows_cause e.table.table.columns (rows_of_tuples texts e.table.table.columns (insert_targets e.table.table.columns i.columns) i.values i.ends) ≡ Some r =
         (λ j. rows_cause (sym cols j) (rows_of_tuples texts (sym cols j) (sym goals j) i.values i.ends)) ∙ against e.entry e.at_entry in
-        let P : List TableState → Type 0 = λ l. Spends (done_allowance (insertion here texts i)) i.table here (state_of s old.max old.mpl new.stamps None l []) in
+        let P : List TableState → Type 0 = λ l. Spends (done_allowance (insertion here texts i)) i.table here (state_of s old.max old.mpl new.stamps None l nothing_left) in
         let spent : P st.tables = subst P (set-same st.tables k e.table e.at_table)
         (spends s s old.max old.mpl old.stamps new.stamps st.tables st.left k e.table i.table e.table.versions first e.at_table refl refl refl one
         (insertion here texts i).need.main 0 (insertion here texts i).versions (omega arith) (omega arith) (omega arith) (omega arith)) in (
           after,
-          kept s new None after old.max old.mpl old.catalog new.stamps catalog refl (still ∙ idle) max mpl (record {
+          kept s new None after old.max old.mpl old.catalog new.stamps catalog refl (no-work new.is_open new.open (still ∙ idle)) max mpl (record {
             pins = st.pins;
             none_lent = st.none_lent;
             most = st.most;
@@ -591,8 +591,8 @@ module _ (s : Space) (old new : Tables) (i : InsertTree) (texts targets : List �
             tables = st.tables;
             pages = st.pages;
             stand = Rattle.hg_engine.proofs.StandLaws.tables-later s old.stamps new.stamps old.catalog.tables st.tables st.pages later st.stand;
-            left = [];
-            work = tt;
+            left = nothing_left;
+            stands = tt;
             is = refl;
           }),
           begins-same s.told (InsertRows i) texts before after (refusal_line r ∷ [])

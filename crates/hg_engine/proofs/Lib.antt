@@ -1,13 +1,11 @@
 pub mod PageLaws
 pub mod Lookups
 pub mod StandLaws
-pub mod Looking
 pub mod StepLaws
 pub mod TurnLaws
-pub mod StarLaws
 pub mod CreateLaws
 pub mod InsertLaws
-pub mod ScanLaws
+pub mod SelectLaws
 pub mod Saying
 pub mod Words
 pub mod NewTables

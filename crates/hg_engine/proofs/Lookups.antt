@@ -1,7 +1,7 @@
 -- Tables by their names: what is found in a catalog is found in a state with the same tables, whatever rows
 -- they have.
 use Rattle.std.specs.Prelude.{◌≡◌, ℕ, zero, suc, ◌+◌, ◌<◌, ◌≤◌, nat_lt, Bool, true, false, List, [], ◌∷◌, Option, Some, None, is_some, map, length, option_map, slice_get, slice_set, position, if◌then◌else◌, not, unwrap_or}
-use Rattle.std.specs.List.{find, position_or_len, AllByRecursion}
+use Rattle.std.specs.List.{position_or_len, AllByRecursion}
 use Rattle.std.proofs.Common.{sym, ◌∙◌, ap, subst, refl, arith, cond}
 use Rattle.std.proofs.lemmas.Bool.{false≢true}
 use Rattle.std.proofs.lemmas.Bool.Decides.{nat_tests}
@@ -9,9 +9,8 @@ use Rattle.std.proofs.lemmas.Option.{none-some}
 use Rattle.hg_bind.specs.Bound.{table_of, tables_of}
 use Rattle.hg_catalog.specs.Contents.{Contents, CatalogTable, table_number, with_pages}
 use Rattle.hg_machine.specs.Plain.State.{TableState, is_table, rows_set, versions_set, versions_in, has_rows}
-use Rattle.hg_model.specs.Scope.{columns_of, rows_of}
+use Rattle.hg_model.specs.Scope.{columns_of}
 use Rattle.hg_model.specs.Tables.{Table, table_named, same_name}
-use Rattle.hg_model.specs.declared.trees.Column.{Column}
 use Rattle.hg_model.specs.declared.values.Value.{Value}
 use Rattle.hg_base.specs.declared.Table.{Table as Ends}
 use Rattle.hg_engine.specs.Standing.{rowless}

@@ -1,7 +1,7 @@
 -- A table that nothing stands against may be put into the catalog.
-use Rattle.std.specs.Prelude.{◌≡◌, ℕ, zero, suc, ◌+◌, ◌≤◌, ◌<◌, nat_le, nat_lt, nat_eq, Bool, true, false, List, [], ◌∷◌, ◌++◌, length, map, Option, Some, None, is_some, not, ◌&&◌, ◌||◌, option_map, position, IsTrue, if◌then◌else◌}
+use Rattle.std.specs.Prelude.{◌≡◌, ℕ, zero, suc, ◌≤◌, ◌<◌, nat_le, nat_eq, Bool, true, false, List, [], ◌∷◌, ◌++◌, length, map, Option, Some, None, is_some, not, ◌&&◌, ◌||◌, option_map, if◌then◌else◌}
 use Rattle.std.specs.List.{list_any, AllByRecursion}
-use Rattle.std.proofs.Common.{sym, ◌∙◌, ap, subst, refl, arith}
+use Rattle.std.proofs.Common.{sym, ◌∙◌, ap, refl, arith}
 use Rattle.std.proofs.lemmas.Bool.{false≢true}
 use Rattle.std.proofs.lemmas.Bool.Decides.{nat_tests}
 use Rattle.std.proofs.lemmas.List.Folds.{list_any-append}
@@ -12,7 +12,7 @@ use Rattle.hg_model.specs.Binding.{cause_if, repeated_name, repeated_from}
 use Rattle.hg_model.specs.Creation.{create_table_refusal, created_column}
 use Rattle.hg_model.specs.Refusal.{Refusal, NameTaken, first_cause}
 use Rattle.hg_model.specs.Statements.{TableTree}
-use Rattle.hg_model.specs.Tables.{Table, table_named, same_name}
+use Rattle.hg_model.specs.Tables.{table_named, same_name}
 use Rattle.hg_model.specs.declared.trees.Column.{Column}
 use Rattle.hg_model.specs.declared.trees.NewColumn.{NewColumn}
 use Rattle.hg_engine.proofs.Lookups.{FirstAt, position-first}

@@ -1,12 +1,12 @@
 -- Laws of the pages of tables.
-use Rattle.std.specs.Prelude.{◌≡◌, ℕ, zero, suc, ◌<◌, ◌==◌, ◌||◌, Bool, true, false, List, [], ◌∷◌}
+use Rattle.std.specs.Prelude.{◌≡◌, ℕ, ◌<◌, ◌==◌, ◌||◌, Bool, true, false, List, [], ◌∷◌}
 use Rattle.std.specs.List.{AllByRecursion}
 use Rattle.std.proofs.Common.{sym, ◌∙◌, ap, subst, refl, arith, inl, inr}
-use Rattle.std.proofs.lemmas.Bool.{false≢true, false_from_ne_true}
+use Rattle.std.proofs.lemmas.Bool.{false≢true}
 use Rattle.std.proofs.lemmas.Bool.Decides.{nat_tests, eqb_tells}
 use Rattle.hg_base.specs.Space.{Space, key_in, taken_in, taken_below}
 use Rattle.hg_base.specs.Lines.{NoneMine, has_page}
-use Rattle.hg_base.specs.Steadiness.{Mine, Steady}
+use Rattle.hg_base.specs.Steadiness.{Steady}
 use Rattle.hg_base.specs.TakenLaws.{AreDistinctPages}
 use Rattle.hg_base.specs.declared.File.{File}
 use Rattle.hg_base.specs.declared.File.TheVariants.{Main}

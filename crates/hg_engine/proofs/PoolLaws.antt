@@ -1,5 +1,5 @@
 -- POOL is a step of the plain machine.
-use Rattle.std.specs.Prelude.{◌≡◌, ℕ, ◌≤◌, Bool, List, [], ◌∷◌, Option, Some, None, Result, Ok, Err}
+use Rattle.std.specs.Prelude.{◌≡◌, ℕ, ◌≤◌, false, List, [], ◌∷◌, Some, None}
 use Rattle.std.proofs.Common.{sym, ◌∙◌, ap, subst, refl, arith}
 use Rattle.hg_base.specs.Space.{Space, NoPins, IsSame}
 use Rattle.hg_base.specs.Causes.{Later, HasCause, PinFault}
@@ -10,32 +10,31 @@ use Rattle.hg_base.specs.declared.pages.PageFault.{PageFault}
 use Rattle.hg_base.specs.declared.pages.PageFault.TheVariants as fault
 use Rattle.hg_machine.specs.Plain.Licences.{device_failed}
 use Rattle.hg_machine.specs.Plain.Pool.{SetsPool, made, failed}
-use Rattle.hg_machine.specs.Plain.Replies.{ReplyLine, pool_set}
+use Rattle.hg_machine.specs.Plain.Replies.{pool_set}
 use Rattle.hg_machine.specs.Plain.State.{State}
 use Rattle.hg_model.specs.Statements.{Pool}
 use Rattle.hg_pool.specs.Resizing.{with_current}
 use Rattle.hg_reply.specs.Steps.{BeginsSo}
 use Rattle.hg_table.specs.Calls.{none_mine, TakesNone}
-use Rattle.hg_engine.specs.Scanning.{ScanFault}
-use Rattle.hg_engine.specs.Standing.{Stands, state_of}
-use Rattle.hg_engine.specs.Stepping.{TablesAre, StepsTo, IsSameSpace, line_of}
+use Rattle.hg_engine.specs.Standing.{LeftStands, nothing_left, state_of}
+use Rattle.hg_engine.specs.Stepping.{TablesAre, StepsTo, IsSameSpace, TurnFault, line_of, work_in}
 use Rattle.hg_engine.specs.declared.tables.Tables.{Tables}
 use Rattle.hg_engine.proofs.PageLaws.{none-lent-still}
 use Rattle.hg_engine.proofs.StandLaws.{tables-stay, stays-still, stays-resized}
-use Rattle.hg_engine.proofs.CreateLaws.{begins-same, kept}
+use Rattle.hg_engine.proofs.CreateLaws.{begins-same, kept, no-work}
 use Rattle.hg_engine.proofs.TurnLaws.{state-still, dropped-is}
 use Rattle.hg_machine.specs.Plain.Run.{dropped}
 
-module _ (a : Space) (x : Tables) (n : ℕ) (texts : List ℕ) (idle : x.scan ≡ None) where
+module _ (a : Space) (x : Tables) (n : ℕ) (texts : List ℕ) (idle : x.is_open ≡ false) where
   idle-is : (before : State) (st : TablesAre a x before) → before ≡ state_of a x.max x.mpl x.stamps None st.tables st.left
-  idle-is before st = st.is ∙ ap (λ c. state_of a x.max x.mpl x.stamps c st.tables st.left) idle
+  idle-is before st = st.is ∙ ap (λ c. state_of a x.max x.mpl x.stamps c st.tables st.left) (no-work x.is_open x.open idle)
 
   resized : StepsTo a (with_current a n) x x (BeginsSo a.told (Pool n) texts) (pool_set n ∷ [])
   resized = record {
     to = λ before st.
-        let after : State = state_of (with_current a n) x.max x.mpl x.stamps None st.tables [] in (
+        let after : State = state_of (with_current a n) x.max x.mpl x.stamps None st.tables nothing_left in (
           after,
-          kept (with_current a n) x None after x.max x.mpl x.catalog x.stamps refl refl idle refl refl (record {
+          kept (with_current a n) x None after x.max x.mpl x.catalog x.stamps refl refl (no-work x.is_open x.open idle) refl refl (record {
             pins = record { none_out = st.pins.none_out; not_pinned = st.pins.not_pinned };
             none_lent = st.none_lent;
             most = st.most;
@@ -44,8 +43,8 @@ module _ (a : Space) (x : Tables) (n : ℕ) (texts : List ℕ) (idle : x.scan �
             tables = st.tables;
             pages = st.pages;
             stand = tables-stay a (with_current a n) x.stamps x.catalog.tables st.tables st.pages (λ k. stays-resized a n (st.pages k)) st.stand;
-            left = [];
-            work = tt;
+            left = nothing_left;
+            stands = tt;
             is = refl;
           }),
           begins-same a.told (Pool n) texts before after (pool_set n ∷ []) (subst (λ s. SetsPool s n (pool_set n ∷ []) after) (sym (idle-is before st)) (made refl refl)),
@@ -70,8 +69,8 @@ module _ (a : Space) (x : Tables) (n : ℕ) (texts : List ℕ) (idle : x.scan �
         pages = st.pages;
         stand = tables-stay a b x.stamps x.catalog.tables st.tables st.pages (λ k. stays-still a b (st.pages k) steady) st.stand;
         left = st.left;
-        work = subst (λ c. Rattle.hg_engine.specs.Standing.LeftStands b x.stamps x.catalog.tables st.pages c st.left) (sym idle) tt;
-        is = st.is ∙ sym (state-still a b x.max x.mpl x.stamps x.scan st.tables st.left steady none);
+        stands = subst (λ c. LeftStands b x.stamps x.catalog.tables st.pages c st.left) (sym (no-work x.is_open x.open idle)) tt;
+        is = st.is ∙ sym (state-still a b x.max x.mpl x.stamps (work_in x.is_open x.open) st.tables st.left steady none);
       },
       by-cause f before is,
     );
@@ -89,7 +88,7 @@ pub still : (a b : Space) → NoPins a → IsSame a b → Later a.counts b.count
 still a b pins same later = (Steady_refused none_mine a b pins same later, record { taken = ap (λ (s : Space). s.taken) same.after })
 
 -- why, as it is counted
-pub pool-cause : (a b : Space) (f : PageFault) → PinFault f → HasCause a b (Some f) → ScanFault a b f
+pub pool-cause : (a b : Space) (f : PageFault) → PinFault f → HasCause a b (Some f) → TurnFault a b f
 pool-cause a b fault.MainFault is cause = main_failed a b cause
 pool-cause a b fault.TempFault is cause = temp_failed a b cause
 pool-cause a b fault.MainFull is cause = is
@@ -97,12 +96,12 @@ pool-cause a b fault.TempFull is cause = is
 pool-cause a b (fault.Damaged page check) is cause = absurd is
 
 -- the command at work is dropped
-pub drops : (s : Space) (x y : Tables) → y.catalog ≡ x.catalog → y.stamps ≡ x.stamps → y.scan ≡ None → y.max ≡ x.max → y.mpl ≡ x.mpl
+pub drops : (s : Space) (x y : Tables) → y.catalog ≡ x.catalog → y.stamps ≡ x.stamps → y.is_open ≡ false → y.max ≡ x.max → y.mpl ≡ x.mpl
     → (before : State) → TablesAre s x before → TablesAre s y (dropped before)
-drops s x y catalog stamps scan max mpl before st =
-    let rest : State = state_of s x.max x.mpl x.stamps None st.tables [] in
-    let is : dropped before ≡ rest = ap dropped st.is ∙ dropped-is s x.max x.mpl x.stamps x.scan st.tables st.left in
-    subst (TablesAre s y) (sym is) (kept s y None rest x.max x.mpl x.catalog x.stamps catalog stamps scan max mpl (record {
+drops s x y catalog stamps idle max mpl before st =
+    let rest : State = state_of s x.max x.mpl x.stamps None st.tables nothing_left in
+    let is : dropped before ≡ rest = ap dropped st.is ∙ dropped-is s x.max x.mpl x.stamps (work_in x.is_open x.open) st.tables st.left in
+    subst (TablesAre s y) (sym is) (kept s y None rest x.max x.mpl x.catalog x.stamps catalog stamps (no-work y.is_open y.open idle) max mpl (record {
       pins = st.pins;
       none_lent = st.none_lent;
       most = st.most;
@@ -111,8 +110,8 @@ drops s x y catalog stamps scan max mpl before st =
       tables = st.tables;
       pages = st.pages;
       stand = st.stand;
-      left = [];
-      work = tt;
+      left = nothing_left;
+      stands = tt;
       is = refl;
     }))
 

@@ -1,6 +1,6 @@
 -- Lines of a reply, and what they count.
-use Rattle.std.specs.Prelude.{◌≡◌, ℕ, ◌+◌, ◌≤◌, Bool, true, false, ◌||◌, List, [], ◌∷◌, ◌++◌, Option, Some, None, if◌then◌else◌}
-use Rattle.std.proofs.Common.{sym, ◌∙◌, ap, subst, refl, arith}
+use Rattle.std.specs.Prelude.{◌≡◌, ℕ, ◌+◌, Bool, true, false, ◌||◌, List, [], ◌∷◌, ◌++◌, None, if◌then◌else◌}
+use Rattle.std.proofs.Common.{sym, ◌∙◌, ap, refl, arith}
 use Rattle.std.proofs.lemmas.Bool.{false≢true}
 use Rattle.std.proofs.lemmas.List.{append-nil}
 use Rattle.hg_base.specs.Space.{Space, NoPins}
@@ -9,7 +9,6 @@ use Rattle.hg_base.specs.Causes.{Later, MainFailed, TempFailed, PinFault}
 use Rattle.hg_base.specs.Steadiness.{Mine, Steady}
 use Rattle.hg_base.specs.SteadyLaws.{Later_same}
 use Rattle.hg_base.specs.declared.Check.{Check}
-use Rattle.hg_base.specs.declared.File.TheVariants.{Main, Temp}
 use Rattle.hg_base.specs.declared.PageId.{PageId}
 use Rattle.hg_base.specs.declared.pages.PageFault.{PageFault}
 use Rattle.hg_base.specs.declared.pages.PageFault.TheVariants as fault
@@ -17,10 +16,9 @@ use Rattle.hg_dml.specs.Putting.{PutFault}
 use Rattle.hg_machine.specs.Plain.Refused.{refusal_line}
 use Rattle.hg_machine.specs.Plain.Replies.{ReplyLine, closed, line_text, text_of, has_error, is_error, is_code, code_lines}
 use Rattle.hg_model.specs.Refusal.{Refusal, UnknownTable, UnknownColumn, AmbiguousColumn, TypeMismatch, TooWide, NameTaken, TooMany, NotGrouped, DoesNotFit, NullNotAllowed, DuplicateKey, BadNumber, RowTooLong, StampsUsedUp, KeyTooLong}
-use Rattle.hg_reply.specs.Steps.{HasLines, Findings, TellsFound, TellOnlyFound}
+use Rattle.hg_reply.specs.Steps.{HasLines, Findings, TellOnlyFound}
 use Rattle.hg_reply.specs.declared.reply.Reply.{Reply}
-use Rattle.hg_engine.specs.Scanning.{ScanFault}
-use Rattle.hg_engine.specs.Stepping.{CountedIn, IsSameSpace, line_of}
+use Rattle.hg_engine.specs.Stepping.{CountedIn, IsSameSpace, TurnFault, line_of}
 
 text-one : (line : ReplyLine) → line_text line ≡ text_of (line ∷ [])
 unfolding text_of
@@ -195,7 +193,7 @@ put-counted a b n fault.TempFull later h = absurd h
 put-counted a b n (fault.Damaged page check) later h = quiet-counted a b _ later (damaged-says page check [] none-says)
 
 -- a look that failed, with no line behind its own
-pub look-counted : (a b : Space) (f : PageFault) → Later a.counts b.counts → ScanFault a b f → CountedIn a b (line_of f ∷ [])
+pub look-counted : (a b : Space) (f : PageFault) → Later a.counts b.counts → TurnFault a b f → CountedIn a b (line_of f ∷ [])
 look-counted a b fault.MainFault later h = main-counted a b _ later h (main-says [] none-says)
 look-counted a b fault.TempFault later h = temp-counted a b _ later h (temp-says [] none-says)
 look-counted a b fault.MainFull later h = absurd h
@@ -213,12 +211,12 @@ pin-sound found (fault.Damaged page check) h = absurd h
 closed-says : HasFaultLines (closed None ∷ []) 0 0 0 0
 closed-says = says-quiet (closed None) (record { main = refl; temp = refl; main_full = refl; temp_full = refl })
 
-pub scan-counted : (a b : Space) (f : PageFault) → Later a.counts b.counts → ScanFault a b f → CountedIn a b (line_of f ∷ closed None ∷ [])
-scan-counted a b fault.MainFault later h = main-counted a b _ later h (main-says _ closed-says)
-scan-counted a b fault.TempFault later h = temp-counted a b _ later h (temp-says _ closed-says)
-scan-counted a b fault.MainFull later h = absurd h
-scan-counted a b fault.TempFull later h = absurd h
-scan-counted a b (fault.Damaged page check) later h = quiet-counted a b _ later (damaged-says page check _ closed-says)
+pub turn-counted : (a b : Space) (f : PageFault) → Later a.counts b.counts → TurnFault a b f → CountedIn a b (line_of f ∷ closed None ∷ [])
+turn-counted a b fault.MainFault later h = main-counted a b _ later h (main-says _ closed-says)
+turn-counted a b fault.TempFault later h = temp-counted a b _ later h (temp-says _ closed-says)
+turn-counted a b fault.MainFull later h = absurd h
+turn-counted a b fault.TempFull later h = absurd h
+turn-counted a b (fault.Damaged page check) later h = quiet-counted a b _ later (damaged-says page check _ closed-says)
 
 pub or-false : (b : Bool) → b ≡ (b || false)
 or-false true = refl

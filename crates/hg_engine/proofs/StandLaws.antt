@@ -1,5 +1,5 @@
 -- What the tables of an engine are after a call over its space.
-use Rattle.std.specs.Prelude.{◌≡◌, ◌≢◌, ℕ, zero, suc, ◌*◌, ◌+◌, ◌<◌, ◌≤◌, ◌==◌, Bool, true, false, List, [], ◌∷◌, ◌++◌, length, map, Option, Some, None, unwrap_or, if◌then◌else◌, slice_get, slice_set, slice_index_or}
+use Rattle.std.specs.Prelude.{◌≡◌, ◌≢◌, ℕ, zero, suc, ◌*◌, ◌<◌, ◌≤◌, ◌==◌, Bool, true, false, List, [], ◌∷◌, ◌++◌, length, map, Some, unwrap_or, if◌then◌else◌, slice_get, slice_set, slice_index_or}
 use Rattle.std.specs.List.{AllByRecursion}
 use Rattle.std.specs.List.Sorted.{IsPermutation}
 use Rattle.std.proofs.Common.{sym, ◌∙◌, ap, subst, refl, arith, inl, inr, length-append}
@@ -8,18 +8,17 @@ use Rattle.std.proofs.lemmas.Bool.Decides.{nat_tests, eqb_tells}
 use Rattle.std.proofs.lemmas.Grind.{common_steps}
 use Rattle.std.proofs.lemmas.Option.{slice_get_within, slice_get-get_or}
 use Rattle.std.proofs.lemmas.List.{map-append}
-use Rattle.std.proofs.lemmas.List.Sorted.{IsPermutation-refl, IsPermutation-trans, IsPermutation-sym, IsPermutation-append_left}
-use Rattle.hg_base.specs.Space.{Space, key_in, taken_in}
+use Rattle.std.proofs.lemmas.List.Sorted.{IsPermutation-refl}
+use Rattle.hg_base.specs.Space.{Space, key_in}
 use Rattle.hg_base.specs.Lines.{NoneMine, has_page}
 use Rattle.hg_base.specs.Steadiness.{Mine, Steady, IsSamePage}
 use Rattle.hg_base.specs.declared.File.TheVariants.{Main}
 use Rattle.hg_base.specs.declared.Table.{Table}
 use Rattle.hg_bind.specs.Bound.{table_of}
 use Rattle.hg_catalog.specs.Contents.{CatalogTable}
-use Rattle.hg_dml.specs.Seen.{seen_rows}
 use Rattle.hg_dml.specs.SeenLaws.{seen_rows-later, past-later}
-use Rattle.hg_dml.specs.Putting.{Grows, Puts, IsOneOf, table_mine}
-use Rattle.hg_machine.specs.Plain.State.{TableState, has_rows}
+use Rattle.hg_dml.specs.Putting.{Grows, table_mine}
+use Rattle.hg_machine.specs.Plain.State.{TableState}
 use Rattle.hg_model.specs.declared.trees.Column.{Column}
 use Rattle.hg_model.specs.declared.values.Value.{Value}
 use Rattle.hg_pool.specs.Resizing.{with_current}

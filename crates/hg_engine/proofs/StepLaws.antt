@@ -1,11 +1,11 @@
 -- Laws of the two manners in which an engine takes a step.
 use Rattle.std.specs.Prelude.{◌≡◌, Bool, true, false, List, ◌∷◌}
-use Rattle.std.proofs.Common.{sym, ◌∙◌, ap, subst, refl}
+use Rattle.std.proofs.Common.{sym, subst, refl}
 use Rattle.std.proofs.lemmas.Bool.{false≢true}
 use Rattle.hg_base.specs.declared.Check.{Check}
 use Rattle.hg_base.specs.declared.File.{File}
 use Rattle.hg_base.specs.declared.PageId.{PageId}
-use Rattle.hg_machine.specs.Plain.Loose.{Alike, Loosely, with_any_rows, finds_damage}
+use Rattle.hg_machine.specs.Plain.Loose.{with_any_rows, finds_damage}
 use Rattle.hg_machine.specs.Plain.Refused.{damaged}
 use Rattle.hg_machine.specs.Plain.Replies.{ReplyLine, device_fault}
 use Rattle.hg_machine.specs.Plain.State.{State}

@@ -5,7 +5,7 @@ use Rattle.std.proofs.lemmas.Option.{none-some, slice_get_within}
 use Rattle.hg_bind.specs.Bound.{error_of, name_written, kind_written}
 use Rattle.hg_bind.specs.declared.errors.BindError.{BindError}
 use Rattle.hg_machine.specs.Plain.Refused.{refusal_line, words_of, column_word}
-use Rattle.hg_machine.specs.Plain.Replies.{ReplyLine, error}
+use Rattle.hg_machine.specs.Plain.Replies.{error}
 use Rattle.hg_model.specs.Refusal.{Refusal, code_of, UnknownTable, UnknownColumn, AmbiguousColumn, TypeMismatch, TooWide, NameTaken, TooMany, NotGrouped, DoesNotFit, NullNotAllowed, DuplicateKey, BadNumber, RowTooLong, StampsUsedUp, KeyTooLong}
 use Rattle.hg_model.specs.declared.trees.ColRef.{ColRef}
 use Rattle.hg_model.specs.declared.trees.Count.{Count}

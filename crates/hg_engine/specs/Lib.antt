@@ -1,7 +1,6 @@
-pub mod Scanning
+pub mod Work
 pub mod Standing
 pub mod Steps
-pub mod Stars
 pub mod Stepping
 pub mod Shown
 pub mod ShownLaws

@@ -1,6 +1,6 @@
 -- What contracts see of an engine, which is what it keeps: the space of its pages, and which state of
 -- the plain machine it stands for.
-use Rattle.std.specs.Prelude.{◌≡◌, ◌≤◌, ℕ, Bool, List, is_some}
+use Rattle.std.specs.Prelude.{◌≡◌, ℕ, Bool, List}
 use Rattle.hg_base.specs.Space.{Space}
 use Rattle.hg_io.specs.declared.device.PageDevice.{Ghosts}
 use Rattle.hg_machine.specs.Plain.Replies.{ReplyLine}
@@ -8,7 +8,7 @@ use Rattle.hg_machine.specs.Plain.State.{State}
 use Rattle.hg_pool.specs.Shown.{state_of, main_device, temp_device}
 use Rattle.hg_reply.specs.Steps.{DeviceFacts, FullCounts, FullsLater, NoneFell, Says, FullOnlyWhereFull, Findings, TellOnlyFound, Moves}
 use Rattle.hg_reply.specs.declared.reply.Reply.{Reply}
-use Rattle.hg_engine.specs.Stepping.{TablesAre, faults_in, fulls_in, looks_left}
+use Rattle.hg_engine.specs.Stepping.{TablesAre, faults_in, fulls_in, turns_in}
 use Rattle.hg_engine.specs.declared.kept.Kept.{Kept}
 use Rattle.hg_engine.specs.declared.tables.Tables.{Tables}
 
@@ -45,10 +45,10 @@ module _ {M T : Type 0} where
 
   -- a SELECT is at work
   abbrev pub is_pending : Kept M T → Bool
-  is_pending e = is_some e.tables.scan
+  is_pending e = e.tables.is_open
 
   abbrev pub turns_left : Kept M T → ℕ
-  turns_left e = looks_left e.tables.scan
+  turns_left e = turns_in e.tables.is_open e.tables.open
 
   -- the most frames that its pool may have
   abbrev pub frames_of : Kept M T → ℕ

@@ -16,14 +16,15 @@ use Rattle.hg_model.specs.Order.{Pair}
 use Rattle.hg_model.specs.Tables.{Table}
 use Rattle.hg_model.specs.declared.values.Value.{Value}
 use Rattle.hg_table.specs.Marks.{last, committed}
-use Rattle.hg_table.specs.Calls.{StandsOn}
 use Rattle.hg_table.specs.Chains.{IsChain}
 use Rattle.hg_table.specs.Agreement.{IsTableOver}
 use Rattle.hg_table.specs.Versions.{Placed}
 use Rattle.hg_dml.specs.Lent.{NoneLent}
 use Rattle.hg_dml.specs.Seen.{seen_rows, IsPast}
-use Rattle.hg_engine.specs.Scanning.{Position}
-use Rattle.hg_engine.specs.declared.scan.Scan.{Scan}
+use Rattle.hg_exec.specs.Planned.{keyless}
+use Rattle.hg_exec.specs.Standing.{IsAtWork, Owes}
+use Rattle.hg_engine.specs.Work.{form_of_work}
+use Rattle.hg_engine.specs.declared.open.OpenSelect.{OpenSelect}
 
 -- ---- tables
 
@@ -53,57 +54,66 @@ pub record TablesStand (s : Space) (marks : List Bool) (catalog : List CatalogTa
 
 -- ---- the SELECT at work
 
--- a row of an answer without keys
-abbrev pub keyless : List Value → Pair
-keyless row = record { row = row; keys = [] }
+-- what is left to it, the pages without which it may end with the limit error, and those that it needs at most
+pub record Left : Type 0 where
+  pub pairs : List Pair
+  pub floor : ℕ
+  pub need : ℕ
 
--- what a scan has still to give: the rows of the versions behind its place that the last stamp sees
-pub record HasLeft (s : Space) (marks : List Bool) (c : CatalogTable) (pages : List ℕ) (scan : Scan) (left : List Pair) : Type 0 where
-  pub done : List Placed
-  pub rest : List Placed
-  pub position : Position s c.pages (length c.columns) pages done rest scan.at
-  pub few : length rest < scan.budget
-  pub seen : IsPermutation left (map keyless (seen_rows (committed marks) (last marks) rest))
+abbrev pub nothing_left : Left
+nothing_left = record { pairs = []; floor = 0; need = 0 }
 
--- a scan of a table: over every space its place is on one of the pages of the table, and a budget is left
-pub record ScanStands (s : Space) (marks : List Bool) (catalog : List CatalogTable) (pages : ℕ → List ℕ) (scan : Scan) (left : List Pair) : Type 0 where
-  pub table : scan.table < length catalog
-  pub on : StandsOn (pages scan.table) scan.at
-  pub more : 0 < scan.budget
-  pub rows : s.told ≡ true → (c : CatalogTable) → slice_get catalog scan.table ≡ Some c → HasLeft s marks c (pages scan.table) scan left
+-- what its loops owe is left, in any order
+pub record OwesLeft (s : Space) (marks : List Bool) (catalog : List CatalogTable) (pages : ℕ → List ℕ) (w : OpenSelect) (left : List Pair) : Type 0 where
+  pub owed : List (List Value)
+  pub owes : Owes s marks catalog pages (form_of_work w) w.plan.loops.items w.loops owed
+  pub in_any_order : IsPermutation left (map keyless owed)
+
+-- its loops stand on the pages of its tables, over every space
+pub record WorkStands (s : Space) (marks : List Bool) (catalog : List CatalogTable) (pages : ℕ → List ℕ) (w : OpenSelect) (left : List Pair) : Type 0 where
+  pub at_work : IsAtWork s marks catalog pages (form_of_work w) w.plan.loops.items w.loops
+  pub rows : s.told ≡ true → OwesLeft s marks catalog pages w left
 
 -- what the SELECT at work has still to give, if one is at work
-abbrev pub LeftStands : Space → List Bool → List CatalogTable → (ℕ → List ℕ) → Option Scan → List Pair → Type 0
+abbrev pub LeftStands : Space → List Bool → List CatalogTable → (ℕ → List ℕ) → Option OpenSelect → Left → Type 0
 LeftStands s marks catalog pages None left = ⊤
-LeftStands s marks catalog pages (Some scan) left = ScanStands s marks catalog pages scan left
+LeftStands s marks catalog pages (Some w) left = WorkStands s marks catalog pages w left.pairs
 
 -- its cursor, which has no name; it is in the round, and has the turn
-abbrev pub cursor_with : List Pair → CursorState
-cursor_with left = record { name = None; left = left; is_too_many = false; wanted = None; held = 0; floor = 0; need = 0 }
+abbrev pub cursor_with : Left → CursorState
+cursor_with left = record {
+  name = None;
+  left = left.pairs;
+  is_too_many = false;
+  wanted = None;
+  held = 0;
+  floor = left.floor;
+  need = left.need;
+}
 
-abbrev pub cursors_at : Option Scan → List Pair → List CursorState
+abbrev pub cursors_at : Option OpenSelect → Left → List CursorState
 cursors_at None left = []
-cursors_at (Some scan) left = cursor_with left ∷ []
+cursors_at (Some w) left = cursor_with left ∷ []
 
-abbrev pub round_at : Option Scan → List CursorName
+abbrev pub round_at : Option OpenSelect → List CursorName
 round_at None = []
-round_at (Some scan) = None ∷ []
+round_at (Some w) = None ∷ []
 
-abbrev pub task_at : Option Scan → Option Task
+abbrev pub task_at : Option OpenSelect → Option Task
 task_at None = None
-task_at (Some scan) = Some (Fetches None)
+task_at (Some w) = Some (Fetches None)
 
 -- ---- the state
 
 -- the state of these tables, with so much left to the SELECT at work
-abbrev pub state_of : Space → (max mpl : ℕ) → List Bool → Option Scan → List TableState → List Pair → State
-state_of s max mpl marks scan tables left = record {
+abbrev pub state_of : Space → (max mpl : ℕ) → List Bool → Option OpenSelect → List TableState → Left → State
+state_of s max mpl marks work tables left = record {
   tables = tables;
   indexes = [];
-  cursors = cursors_at scan left;
-  round = round_at scan;
+  cursors = cursors_at work left;
+  round = round_at work;
   waiting = [];
-  task = task_at scan;
+  task = task_at work;
   max = max;
   current = s.heaps.current;
   mpl = mpl;
@@ -116,7 +126,7 @@ state_of s max mpl marks scan tables left = record {
 
 -- What an engine keeps of its tables, its stamps and the SELECT at work stands for this state. It has no
 -- index; and as many frames are reserved as the pool may have.
-pub record Stands (s : Space) (max mpl : ℕ) (catalog : Contents) (marks : List Bool) (scan : Option Scan) (state : State) : Type 0 where
+pub record Stands (s : Space) (max mpl : ℕ) (catalog : Contents) (marks : List Bool) (work : Option OpenSelect) (state : State) : Type 0 where
   pub pins : NoPins s
   pub none_lent : NoneLent s
   pub most : s.heaps.most ≡ max
@@ -125,6 +135,6 @@ pub record Stands (s : Space) (max mpl : ℕ) (catalog : Contents) (marks : List
   pub tables : List TableState
   pub pages : ℕ → List ℕ
   pub stand : TablesStand s marks catalog.tables tables pages
-  pub left : List Pair
-  pub work : LeftStands s marks catalog.tables pages scan left
-  pub is : state ≡ state_of s max mpl marks scan tables left
+  pub left : Left
+  pub stands : LeftStands s marks catalog.tables pages work left
+  pub is : state ≡ state_of s max mpl marks work tables left

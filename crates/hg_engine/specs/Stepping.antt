@@ -1,30 +1,37 @@
 -- What a step of an engine promises: it says lines, and is a step of the plain machine. Our own rule.
-use Rattle.std.specs.Prelude.{◌≡◌, ℕ, ◌+◌, true, false, List, Option, None, Some, IsTrue, slice_get}
+use Rattle.std.specs.Prelude.{◌≡◌, ℕ, ◌+◌, Bool, true, false, List, Option, None, Some, slice_get}
+use Rattle.std.specs.List.{AllByRecursion}
 use Rattle.hg_base.specs.Space.{Space, NoPins}
-use Rattle.hg_base.specs.Causes.{Later}
-use Rattle.hg_base.specs.Lines.{has_page}
+use Rattle.hg_base.specs.Causes.{Later, MainFailed, TempFailed}
 use Rattle.hg_base.specs.declared.Check.{Check}
 use Rattle.hg_base.specs.declared.File.TheVariants.{Main, Temp}
 use Rattle.hg_base.specs.declared.PageId.{PageId}
 use Rattle.hg_base.specs.declared.pages.PageFault.{PageFault}
 use Rattle.hg_base.specs.declared.pages.PageFault.TheVariants as fault
-use Rattle.hg_catalog.specs.Contents.{Contents, CatalogTable}
+use Rattle.hg_catalog.specs.Contents.{CatalogTable}
 use Rattle.hg_machine.specs.Plain.Refused.{damaged}
 use Rattle.hg_machine.specs.Plain.Replies.{ReplyLine, device_fault, file_full}
 use Rattle.hg_machine.specs.Plain.State.{State}
 use Rattle.hg_model.specs.Statements.{CommandTree, CreateTable, CreateIndex, InsertRows, UpdateRows, DeleteRows, Vacuum, SelectRows, OpenCursor, Start, Work, Fetch, Close, Pool, Mpl, ShowMemory}
 use Rattle.hg_model.specs.Tables.{same_name}
 use Rattle.hg_reply.specs.Steps.{DeviceFacts, FullCounts, Counted, FullOnlyWhereFull, Findings}
-use Rattle.hg_table.specs.Calls.{main_page, NamesGiven, IsPageCheck}
+use Rattle.hg_table.specs.Calls.{NamesGiven, IsPageCheck}
 use Rattle.hg_table.specs.Chains.{IsChain}
-use Rattle.hg_engine.specs.Scanning.{IsScanCheck}
+use Rattle.hg_plan.specs.declared.plan.TableLoop.{TableLoop}
+use Rattle.hg_exec.specs.Standing.{entry}
+use Rattle.hg_exec.specs.Turning.{IsLoopCheck, NamesRead, looks_left}
 use Rattle.hg_engine.specs.Standing.{Stands}
-use Rattle.hg_engine.specs.declared.scan.Scan.{Scan}
+use Rattle.hg_engine.specs.declared.open.OpenSelect.{OpenSelect}
 use Rattle.hg_engine.specs.declared.tables.Tables.{Tables}
+
+-- the SELECT at work, if one is
+abbrev pub work_in : Bool → OpenSelect → Option OpenSelect
+work_in true w = Some w
+work_in false w = None
 
 -- what an engine keeps of its tables stands for this state
 abbrev pub TablesAre : Space → Tables → State → Type 0
-TablesAre s x state = Stands s x.max x.mpl x.catalog x.stamps x.scan state
+TablesAre s x state = Stands s x.max x.mpl x.catalog x.stamps (work_in x.is_open x.open) state
 
 -- what a space says of its devices, and of full files
 abbrev pub faults_in : Space → DeviceFacts
@@ -55,24 +62,28 @@ line_of fault.MainFull = file_full Main
 line_of fault.TempFull = file_full Temp
 line_of (fault.Damaged page check) = damaged page check
 
--- these are the pages of the table that is scanned
-pub record IsScanned (s : Space) (catalog : List CatalogTable) (scan : Scan) (pages : List ℕ) : Type 0 where
-  pub entry : CatalogTable
-  pub at : slice_get catalog scan.table ≡ Some entry
-  pub chain : IsChain s entry.pages pages
+-- why a turn fails: a device failed, or a page is damaged, where the space does not tell
+abbrev pub TurnFault : Space → Space → PageFault → Type 0
+TurnFault a b fault.MainFault = MainFailed a.counts b.counts
+TurnFault a b fault.TempFault = TempFailed a.counts b.counts
+TurnFault a b fault.MainFull = ⊥
+TurnFault a b fault.TempFull = ⊥
+TurnFault a b (fault.Damaged page check) = a.told ≡ false
 
--- A turn finds damage only over a space that does not tell, in a page of the table that is scanned: it is
--- no slotted page (Kind, Size), or a record on it is no version of a row (RowBytes), or the budget is used
--- up (Order).
+-- these are the pages of a table that is read
+abbrev pub HasChain : Space → List CatalogTable → (ℕ → List ℕ) → TableLoop → Type 0
+HasChain s catalog pages l = IsChain s (entry catalog l.table).pages (pages l.table)
+
+-- A turn finds damage only over a space that does not tell, in a page of a table that the SELECT at work reads: it
+-- is no slotted page (Kind, Size), or a record on it is no version of a row of its table (RowBytes), or the budget
+-- is used up (Order).
 pub record TurnFinds (s : Space) (x : Tables) (page : PageId) (check : Check) : Type 0 where
   pub untold : s.told ≡ false
-  pub scan : Scan
-  pub at_work : x.scan ≡ Some scan
-  pub pages : List ℕ
-  pub scanned : IsScanned s x.catalog.tables scan pages
-  pub main : page ≡ main_page page.no
-  pub on : IsTrue (has_page pages page.no)
-  pub failed : IsScanCheck scan.budget check
+  pub at_work : x.is_open ≡ true
+  pub pages : ℕ → List ℕ
+  pub chains : AllByRecursion (HasChain s x.catalog.tables pages) x.open.plan.loops.items
+  pub named : NamesRead pages x.open.plan.loops.items (fault.Damaged page check)
+  pub failed : IsLoopCheck check
 
 -- An INSERT finds damage only over a space that does not tell, and only that the last page of its table,
 -- as the INSERT leaves it, is no slotted page (Kind, Size).
@@ -115,6 +126,6 @@ pub record IsSameSpace (a b : Space) : Type 0 where
   pub later : Later a.counts b.counts
 
 -- at most so many turns are left
-abbrev pub looks_left : Option Scan → ℕ
-looks_left None = 0
-looks_left (Some scan) = scan.budget + 1
+abbrev pub turns_in : Bool → OpenSelect → ℕ
+turns_in false w = 0
+turns_in true w = looks_left w.plan.loops.items w.loops + 1

@@ -2,6 +2,7 @@
 ghost use Rattle.std.specs.Prelude.{◌≡◌, ◌≤◌, length, map};
 ghost use Rattle.hg_model.specs.Creation.{created_column};
 
+use crate::open::SelectRoom;
 use crate::say::say_refusal;
 use crate::tables::Tables;
 use arrayvec::ArrayVec;
@@ -31,7 +32,7 @@ fn made_columns(columns: &[NewColumn]) -> ArrayVec<Column, 16>
 }
 
 impl Tables {
-    ghost use Rattle.std.specs.Prelude.{◌≡◌, ◌≤◌, ℕ, [], List, length, None, IfOk, true, false};
+    ghost use Rattle.std.specs.Prelude.{◌≡◌, ◌≤◌, ℕ, [], List, length, IfOk, true, false};
     ghost use Rattle.std.specs.List.{list_all};
     ghost use Rattle.hg_base.specs.Space.{Space};
     ghost use Rattle.hg_machine.specs.Plain.Replies.{ReplyLine as ReplyLineOf};
@@ -45,14 +46,15 @@ impl Tables {
     pub fn new(alloc: Global, max: u32, mpl: u32) -> Result<Tables, NoMemory>
         ensures catalog { IfOk result (λ x. x.catalog ≡ record { tables = []; indexes = [] }) }
         ensures stamps { IfOk result (λ x. x.stamps ≡ []) }
-        ensures scan { IfOk result (λ x. x.scan ≡ None) }
+        ensures idle { IfOk result (λ x. x.is_open ≡ false) }
         ensures max { IfOk result (λ x. x.max ≡ max) }
         ensures mpl { IfOk result (λ x. x.mpl ≡ mpl) }
     {
         Ok(Tables {
             catalog: Catalog::new(alloc)?,
             stamps: Stamps::new(alloc)?,
-            scan: None,
+            is_open: false,
+            open: SelectRoom::new(alloc)?,
             max,
             mpl,
             row: Row::new(),
@@ -62,7 +64,7 @@ impl Tables {
 
     /// CREATE TABLE.
     pub fn create_table(&mut self, table: &TableAt, reply: &mut Reply)
-        requires idle { self.old.scan ≡ None }
+        requires idle { self.old.is_open ≡ false }
         requires some_columns { 1 ≤ length table.now.columns.now }
         requires plain { is_built (CreateTable (table_at table.now)) ≡ true }
         requires empty { reply.old.text.items ≡ [] }
@@ -70,7 +72,7 @@ impl Tables {
         ensures step { (lines : List ReplyLineOf) × HasLines reply.new lines × ((s : Space) → CountedIn s s lines)
             × ((s : Space) (texts : List ℕ) → StepsTo s s self.old self.new (BeginsSo s.told (CreateTable (table_at table.now)) texts) lines)
             × TellOnlyFound no_damage lines }
-        ensures idle { self.new.scan ≡ None }
+        ensures idle { self.new.is_open ≡ false }
         ensures max { self.new.max ≡ self.old.max }
     {
         if let Some(error) = refuse_columns(table.name, table.columns, &self.catalog) {

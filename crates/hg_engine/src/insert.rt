@@ -56,7 +56,7 @@ impl Tables {
         ensures err { IfErr result (λ e. option_map error_of (insert_refusal (tables_of self.old.catalog) (insert_at insert.now)) ≡ Some e) }
         ensures catalog { self.new.catalog ≡ self.old.catalog }
         ensures stamps { self.new.stamps ≡ self.old.stamps }
-        ensures scan { self.new.scan ≡ self.old.scan }
+        ensures open { self.new.is_open ≡ self.old.is_open }
         ensures max { self.new.max ≡ self.old.max }
         ensures mpl { self.new.mpl ≡ self.old.mpl }
     {
@@ -81,7 +81,7 @@ impl Tables {
             (λ s. Draws self.old.stamps self.new.stamps s.0 × (last self.old.stamps < 2 ^ 20)) }
         ensures catalog { self.new.catalog ≡ self.old.catalog }
         ensures targets { self.new.targets ≡ self.old.targets }
-        ensures scan { self.new.scan ≡ self.old.scan }
+        ensures open { self.new.is_open ≡ self.old.is_open }
         ensures max { self.new.max ≡ self.old.max }
         ensures mpl { self.new.mpl ≡ self.old.mpl }
     {
@@ -98,7 +98,7 @@ impl Tables {
         texts: &[u8],
         reply: &mut Reply,
     )
-        requires idle { self.old.scan ≡ None }
+        requires idle { self.old.is_open ≡ false }
         requires stands { (state : State) × TablesAre (S.state space.old) self.old state }
         requires printable { IsTrue (list_all is_printable texts.now) }
         requires empty { reply.old.text.items ≡ [] }
@@ -106,7 +106,7 @@ impl Tables {
         ensures step { (lines : List ReplyLineOf) × HasLines reply.new lines × CountedIn (S.state space.old) (S.state space.new) lines
             × StepsTo (S.state space.old) (S.state space.new) self.old self.new (BeginsSo (S.state space.old).told (InsertRows (insert_at insert.now)) texts.now) lines
             × TellOnlyFound (InsertFinds (S.state space.old) self.new.catalog.tables insert.now.table.now) lines }
-        ensures idle { self.new.scan ≡ None }
+        ensures idle { self.new.is_open ≡ false }
         ensures same { IsSameSpace (S.state space.old) (S.state space.new) }
         ensures max { self.new.max ≡ self.old.max }
     {

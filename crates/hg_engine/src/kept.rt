@@ -2,7 +2,6 @@
 use crate::say::say_fault;
 use crate::tables::Tables;
 use hg_io::PageDevice;
-use hg_model::Name;
 use hg_pool::Pool;
 use hg_reply::{
     Asked, CommandAt, InsertAt, Next, Reply, ReplyLine, SelectAt, TableAt, Words, built,
@@ -28,14 +27,13 @@ impl<M: PageDevice, T: PageDevice> Kept<M, T> {
     ghost use Rattle.hg_reply.specs.Built.{is_built};
     ghost use Rattle.hg_reply.specs.Steps.{DropsCommand, BeginsSo, BeginsRead, ContinuesSo};
     ghost use Rattle.hg_engine.specs.Shown.{space_of, IsEngineOf, IsSomeEngine, is_pending, turns_left, tells_of, frames_of, EngineSteps, IsLater};
-    ghost use Rattle.hg_engine.specs.Stars.{star_of, from_one};
     ghost use Rattle.hg_engine.specs.Stepping.{CommandFinds, InsertFinds, TurnFinds, no_damage};
 
     /// Whether a SELECT is at work.
     fn next(&self) -> Next
         ensures { (result ≡ Next.More) ↔ (is_pending self.now ≡ true) }
     {
-        if self.tables.scan.is_some() {
+        if self.tables.is_open {
             Next::More
         } else {
             Next::Done
@@ -75,16 +73,19 @@ impl<M: PageDevice, T: PageDevice> Kept<M, T> {
     }
 
     /// SELECT.
-    fn select(&mut self, table: &Name, reply: &mut Reply)
+    fn select(&mut self, select: &SelectAt, texts: &str, reply: &mut Reply)
         requires idle { is_pending self.old ≡ false }
-        ensures step { (alias texts : List ℕ) → EngineSteps M.PageDevice T.PageDevice self.old self.new reply.new
-            (BeginsSo (tells_of M.PageDevice T.PageDevice self.old) (SelectRows (star_of (from_one table.now alias))) texts) (λ now. no_damage) }
+        requires read { IsReadAs (frames_of self.old) (SelectRows (query_at select.now)) texts.now }
+        requires short { length texts.now ≤ 4096 }
+        requires built { is_built (SelectRows (query_at select.now)) ≡ true }
+        ensures step { EngineSteps M.PageDevice T.PageDevice self.old self.new reply.new
+            (BeginsSo (tells_of M.PageDevice T.PageDevice self.old) (SelectRows (query_at select.now)) texts.now) (λ now. no_damage) }
         ensures later { IsLater (space_of M.PageDevice T.PageDevice self.old) (space_of M.PageDevice T.PageDevice self.new) }
         ensures said { self.new.said ≡ self.old.said }
         ensures frames { frames_of self.new ≡ frames_of self.old }
     {
         reply.clear();
-        self.tables.select(&self.pool, table, reply);
+        self.tables.select(&self.pool, select, texts, reply);
     }
 
     /// POOL.
@@ -106,22 +107,6 @@ impl<M: PageDevice, T: PageDevice> Kept<M, T> {
         }
     }
 
-    /// SELECT of all rows of a table.
-    fn select_all(&mut self, select: &SelectAt, reply: &mut Reply)
-        requires idle { is_pending self.old ≡ false }
-        requires built { is_built (SelectRows (query_at select.now)) ≡ true }
-        ensures step { (texts : List ℕ) → EngineSteps M.PageDevice T.PageDevice self.old self.new reply.new
-            (BeginsSo (tells_of M.PageDevice T.PageDevice self.old) (SelectRows (query_at select.now)) texts) (λ now. no_damage) }
-        ensures later { IsLater (space_of M.PageDevice T.PageDevice self.old) (space_of M.PageDevice T.PageDevice self.new) }
-        ensures said { self.new.said ≡ self.old.said }
-        ensures frames { frames_of self.new ≡ frames_of self.old }
-    {
-        match select.tables.first() {
-            Some(from) => self.select(&from.table, reply),
-            None => unreachable!(),
-        }
-    }
-
     /// A command up to its first turn.
     fn begin(&mut self, asked: &Asked, reply: &mut Reply)
         requires idle { is_pending self.old ≡ false }
@@ -138,7 +123,7 @@ impl<M: PageDevice, T: PageDevice> Kept<M, T> {
         match asked.command {
             CommandAt::CreateTable(table) => self.create(&table, reply),
             CommandAt::Insert(insert) => self.insert(&insert, asked.texts, reply),
-            CommandAt::Select(select) => self.select_all(&select, reply),
+            CommandAt::Select(select) => self.select(&select, asked.texts, reply),
             CommandAt::Pool(frames) => self.resize(frames, reply),
             CommandAt::CreateIndex(_)
             | CommandAt::Update(_)
@@ -241,6 +226,6 @@ impl<M: PageDevice, T: PageDevice> Kept<M, T> {
         ensures said { self.new.said ≡ self.old.said }
         ensures frames { frames_of self.new ≡ frames_of self.old }
     {
-        self.tables.scan = None;
+        self.tables.is_open = false;
     }
 }

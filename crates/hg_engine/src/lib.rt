@@ -1,12 +1,13 @@
 //! The engine: tables of versions in a space of pages, the stamps of its changes, and the SELECT at work.
 //! It stands on tables (`hg_table`), what changes them (`hg_dml`), the catalog (`hg_catalog`), the binder
-//! (`hg_bind`), the pool of frames (`hg_pool`) and the seam to scripts (`hg_reply`).
+//! (`hg_bind`), plans and loops of SELECTs (`hg_plan`, `hg_exec`), the pool of frames (`hg_pool`) and the seam to
+//! scripts (`hg_reply`).
 //!
 //! ```text
 //! a command where it lies -- bound by the catalog --> a refusal
 //!                         -- CREATE TABLE --> one more table in the catalog
 //!                         -- INSERT       --> rows on pages, under a stamp
-//!                         -- SELECT       --> a scan at work; each turn looks for the next row that is seen
+//!                         -- SELECT       --> planned; loops at work, of which each turn gives the next row
 //!                         -- POOL         --> other frames in use
 //! ```
 //!
@@ -20,9 +21,8 @@ mod engine;
 mod first;
 mod insert;
 mod kept;
-mod next;
+mod open;
 mod say;
-mod scan;
 mod select;
 mod tables;
 

@@ -1,9 +1,9 @@
 -- Which commands there are by now. Any other line that the grammar reads as a command is a syntax error.
-use Rattle.std.specs.Prelude.{ℕ, Bool, true, false, List, [], ◌∷◌, Option, None, Some, not, ◌&&◌, ◌||◌, is_none}
+use Rattle.std.specs.Prelude.{ℕ, Bool, true, false, List, [], ◌∷◌, not, ◌&&◌, ◌||◌}
 use Rattle.std.specs.List.{list_all}
 use Rattle.hg_model.specs.Query.{Query}
+use Rattle.hg_model.specs.SelectMeaning.{is_grouped}
 use Rattle.hg_model.specs.Statements.{CommandTree, CreateTable, CreateIndex, InsertRows, UpdateRows, DeleteRows, Vacuum, SelectRows, OpenCursor, Start, Work, Fetch, Close, Pool, Mpl, ShowMemory}
-use Rattle.hg_model.specs.declared.trees.FromTable.{FromTable}
 use Rattle.hg_model.specs.declared.trees.NewColumn.{NewColumn}
 
 -- a column that is no key
@@ -14,17 +14,9 @@ abbrev pub is_nothing : {A : Type 0} → List A → Bool
 is_nothing [] = true
 is_nothing (x ∷ xs) = false
 
--- one table of FROM, without a condition of its own
-abbrev pub is_one_table : List FromTable → Bool
-is_one_table [] = false
-is_one_table (t ∷ []) = is_none t.on
-is_one_table (t ∷ u ∷ us) = false
-
--- `SELECT * FROM t`, and nothing else: a star has no outputs of its own, and without a condition there is no node
-abbrev pub is_whole_table : Query → Bool
-is_whole_table q =
-    q.star && not q.distinct && is_nothing q.outputs && is_one_table q.tables && is_none q.filter && is_nothing q.group && is_none q.having
-    && is_nothing q.order && is_nothing q.nodes
+-- a SELECT without groups, DISTINCT and ORDER BY: its rows come one by one, in any order
+abbrev pub is_plain_select : Query → Bool
+is_plain_select q = not q.distinct && is_nothing q.order && not (is_grouped q)
 
 abbrev pub is_built : CommandTree → Bool
 is_built (CreateTable t) = list_all is_plain_column t.columns
@@ -33,7 +25,7 @@ is_built (InsertRows i) = true
 is_built (UpdateRows u) = false
 is_built (DeleteRows d) = false
 is_built (Vacuum t) = false
-is_built (SelectRows q) = is_whole_table q
+is_built (SelectRows q) = is_plain_select q
 is_built (OpenCursor c q) = false
 is_built (Start c n) = false
 is_built (Work n) = false

@@ -98,4 +98,5 @@ pub enum CommandAt<'a> {
 pub struct Asked<'a> {
     pub command: CommandAt<'a>,
     pub texts: &'a str,
+    ghost short_texts: { length texts.now ≤ 4096 },
 }

@@ -1,11 +1,12 @@
 //! Which commands there are by now: the one place in the code that says so.
 ghost use Rattle.std.specs.Prelude.{◌≡◌};
-ghost use Rattle.std.specs.List.{list_all};
+ghost use Rattle.std.specs.List.{list_all, list_any};
 ghost use Rattle.hg_reply.specs.Asked.{command_in, query_at};
-ghost use Rattle.hg_reply.specs.Built.{is_built, is_one_table, is_plain_column, is_whole_table};
+ghost use Rattle.hg_model.specs.SelectMeaning.{is_aggregate, is_grouped};
+ghost use Rattle.hg_reply.specs.Built.{is_built, is_plain_column, is_plain_select};
 
 use crate::asked::{CommandAt, SelectAt};
-use hg_model::{FromTable, NewColumn};
+use hg_model::{NewColumn, Node};
 
 fn are_plain(columns: &[NewColumn]) -> bool
     ensures { result ≡ list_all is_plain_column columns.now }
@@ -13,27 +14,32 @@ fn are_plain(columns: &[NewColumn]) -> bool
     columns.iter().all(|c| !(c.primary || c.unique))
 }
 
-fn is_one_table(tables: &[FromTable]) -> bool
-    ensures { result ≡ is_one_table tables.now }
+fn is_aggregate(node: &Node) -> bool
+    ensures { result ≡ is_aggregate node.now }
 {
-    let Some((first, others)) = tables.split_first() else {
-        return false;
-    };
-    others.is_empty() && first.on.is_none()
+    match node {
+        Node::Aggregate(_, _) => true,
+        _ => false,
+    }
 }
 
-fn is_whole_table(select: &SelectAt) -> bool
-    ensures { result ≡ is_whole_table (query_at select.now) }
+fn has_aggregate(nodes: &[Node]) -> bool
+    ensures { result ≡ list_any is_aggregate nodes.now }
 {
-    select.star
-        && !select.distinct
-        && select.outputs.is_empty()
-        && is_one_table(select.tables)
-        && select.filter.is_none()
-        && select.group.is_empty()
-        && select.having.is_none()
-        && select.order.is_empty()
-        && select.nodes.is_empty()
+    nodes.iter().any(is_aggregate)
+}
+
+/// Whether a SELECT has a GROUP BY, a HAVING or an aggregate.
+fn is_grouped(select: &SelectAt) -> bool
+    ensures { result ≡ is_grouped (query_at select.now) }
+{
+    select.group.len() > 0 || select.having.is_some() || has_aggregate(select.nodes)
+}
+
+fn is_plain_select(select: &SelectAt) -> bool
+    ensures { result ≡ is_plain_select (query_at select.now) }
+{
+    !select.distinct && select.order.is_empty() && !is_grouped(select)
 }
 
 /// Whether it is a command that there is by now. Any other is a syntax error.
@@ -43,7 +49,7 @@ pub fn built(command: &CommandAt) -> bool
     match command {
         CommandAt::CreateTable(table) => are_plain(table.columns),
         CommandAt::Insert(_) | CommandAt::Pool(_) => true,
-        CommandAt::Select(select) => is_whole_table(select),
+        CommandAt::Select(select) => is_plain_select(select),
         CommandAt::CreateIndex(_)
         | CommandAt::Update(_)
         | CommandAt::Delete(_)

@@ -208,8 +208,8 @@ fn not_built(rt: HostRuntime) -> Result<(), Fail> {
     gives(
         &rt,
         alloc,
-        "CREATE TABLE t (a INTEGER PRIMARY KEY)\nCREATE TABLE t (a INTEGER UNIQUE)\nCREATE TABLE t (a INTEGER)\nCREATE INDEX i ON t (a)\nUPDATE t SET a = 1\nDELETE FROM t\nVACUUM t\nSELECT a FROM t\nSELECT DISTINCT * FROM t\nSELECT * FROM t, t u\nSELECT * FROM t WHERE a = 1\nSELECT * FROM t ORDER BY 1\nOPEN c FOR SELECT * FROM t\nSTART c 1\nWORK 1\nFETCH c 1\nCLOSE c\nMPL 2\nSHOW MEMORY\nSELECT * FROM t\n",
-        "error 1 syntax\nerror 1 syntax\ncreated\nerror 1 syntax\nerror 1 syntax\nerror 1 syntax\nerror 1 syntax\nerror 1 syntax\nerror 1 syntax\nerror 1 syntax\nerror 1 syntax\nerror 1 syntax\nerror 1 syntax\nerror 1 syntax\nerror 1 syntax\nerror 1 syntax\nerror 1 syntax\nerror 1 syntax\nerror 1 syntax\nend *\n",
+        "CREATE TABLE t (a INTEGER PRIMARY KEY)\nCREATE TABLE t (a INTEGER UNIQUE)\nCREATE TABLE t (a INTEGER)\nCREATE INDEX i ON t (a)\nUPDATE t SET a = 1\nDELETE FROM t\nVACUUM t\nSELECT DISTINCT * FROM t\nSELECT COUNT(*) FROM t\nSELECT a FROM t GROUP BY a\nSELECT * FROM t ORDER BY 1\nOPEN c FOR SELECT * FROM t\nSTART c 1\nWORK 1\nFETCH c 1\nCLOSE c\nMPL 2\nSHOW MEMORY\nSELECT * FROM t\n",
+        "error 1 syntax\nerror 1 syntax\ncreated\nerror 1 syntax\nerror 1 syntax\nerror 1 syntax\nerror 1 syntax\nerror 1 syntax\nerror 1 syntax\nerror 1 syntax\nerror 1 syntax\nerror 1 syntax\nerror 1 syntax\nerror 1 syntax\nerror 1 syntax\nerror 1 syntax\nerror 1 syntax\nerror 1 syntax\nend *\n",
         Status::Errors,
     )?;
     Ok(())
@@ -238,17 +238,17 @@ fn summed(alloc: Global, terms: usize) -> Result<Vec<u8>, AllocError> {
     Ok(script)
 }
 
-/// What the parser refuses comes before what is not there by now. `a = 1` has 3 nodes and each `+1` 2 more:
+/// What the parser refuses comes before what the binder refuses. `a = 1` has 3 nodes and each `+1` 2 more:
 /// 46 of these make 95, and 47 make 97.
 #[test]
 fn refusals_of_the_parser(rt: HostRuntime) -> Result<(), Fail> {
     let alloc = rt.alloc();
     let (_, sink) = through_engine(alloc, nested(alloc, 32)?, device(alloc))?;
-    assert_eq!(rt; sink.bytes(), b"error 1 syntax\n".as_slice());
+    assert_eq!(rt; sink.bytes(), b"error 3 unknown table t\n".as_slice());
     let (_, sink) = through_engine(alloc, nested(alloc, 33)?, device(alloc))?;
     assert_eq!(rt; sink.bytes(), b"error 1 syntax\n".as_slice());
     let (_, sink) = through_engine(alloc, summed(alloc, 46)?, device(alloc))?;
-    assert_eq!(rt; sink.bytes(), b"error 1 syntax\n".as_slice());
+    assert_eq!(rt; sink.bytes(), b"error 3 unknown table t\n".as_slice());
     let (_, sink) = through_engine(alloc, summed(alloc, 47)?, device(alloc))?;
     assert_eq!(rt; sink.bytes(), b"error 9 too many nodes 96\n".as_slice());
     Ok(())

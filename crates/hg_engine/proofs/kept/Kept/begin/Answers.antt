@@ -24,9 +24,9 @@ returns-in-Insert-clause-step g c =
 pub returns-in-Select-clause-step : goal.returns-in-Select-clause-step
 returns-in-Select-clause-step g c =
     let old = c.args.self.now in
-    let P : CommandAt → Type 0 = λ k. EngineSteps g.M.PageDevice g.T.PageDevice old c.select_all.new.self c.select_all.new.reply
+    let P : CommandAt → Type 0 = λ k. EngineSteps g.M.PageDevice g.T.PageDevice old c.select.new.self c.select.new.reply
     (BeginsSo (tells_of g.M.PageDevice g.T.PageDevice old) (command_in k) (texts_in c.args.asked.now)) (λ now. CommandFinds (space_of g.M.PageDevice g.T.PageDevice old) now (command_in k)) in
-    subst P (sym c.in-Select.is) (c.select_all.ensures.step (texts_in c.args.asked.now))
+    subst P (sym c.in-Select.is) c.select.ensures.step
 
 pub returns-in-Pool-clause-step : goal.returns-in-Pool-clause-step
 returns-in-Pool-clause-step g c =

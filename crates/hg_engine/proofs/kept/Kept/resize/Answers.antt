@@ -1,11 +1,10 @@
-use Rattle.std.proofs.Common.{None, [], ◌∷◌, ◌∙◌, ◌||◌, ap, sym, refl}
+use Rattle.std.proofs.Common.{[], ◌∷◌, ◌∙◌, ◌||◌, ap, sym, refl}
 use Rattle.hg_machine.specs.Plain.Replies.{pool_set}
 use Rattle.hg_pool.specs.Shown.{state_of}
 use Rattle.hg_table.specs.Calls.{none_mine}
 use Rattle.hg_engine.specs.Shown.{space_of}
 use Rattle.hg_engine.specs.Stepping.{line_of}
 use Rattle.hg_engine.proofs.EngineSteps.{is-later}
-use Rattle.hg_engine.proofs.Lookups.{no-one}
 use Rattle.hg_engine.proofs.PoolLaws.{pool-made, pool-failed, pool-cause, still, reserved, resized-same}
 use Rattle.hg_engine.proofs.Saying.{tells-one, counted-plain, look-counted, error-of-fault, sound-line, pin-sound, same-space}
 use Rattle.hg_engine.proofs.kept.Kept.resize.Goals as goal
@@ -22,7 +21,7 @@ returns-in-Ok-clause-step g c texts =
     let a = space_of g.M.PageDevice g.T.PageDevice c.args.self.now in
     let b = state_of g.M.PageDevice g.T.PageDevice c.resize.new.self in
     let line = pool_set c.args.frames in
-    let idle = no-one _ c.requires.idle in
+    let idle = c.requires.idle in
     let counts = counted-plain a b line c.resize.ensures.cause.later (record { main = refl; temp = refl; main_full = refl; temp_full = refl }) in
     record {
       lines = line ∷ [];
@@ -44,7 +43,7 @@ returns-in-Err-clause-step g c texts =
     let b = state_of g.M.PageDevice g.T.PageDevice c.resize.new.self in
     let f = c.in-Err.fault in
     let failed = c.in-Err.ensures {u = tt} in
-    let idle = no-one _ c.requires.idle in
+    let idle = c.requires.idle in
     let same = still a b c.requires.stands.1.pins failed.err c.resize.ensures.cause.later in
     let counts = look-counted a b f c.resize.ensures.cause.later (pool-cause a b f failed.fault failed.cause) in
     record {

@@ -1,4 +1,4 @@
-use Rattle.std.proofs.Common.{[], ◌∷◌, ◌++◌, ◌≤◌, length, map, refl, sym, subst, ap, ◌∙◌, rules}
+use Rattle.std.proofs.Common.{[], ◌∷◌, ◌++◌, ◌≤◌, length, refl, sym, subst, ap, ◌∙◌, rules}
 use Rattle.hg_base.specs.SteadyLaws.{Later_same}
 use Rattle.hg_bind.specs.Bound.{error_of}
 use Rattle.hg_catalog.specs.Contents.{IsNewTable, table_number}

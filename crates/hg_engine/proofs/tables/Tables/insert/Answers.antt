@@ -1,4 +1,4 @@
-use Rattle.std.proofs.Common.{◌≡◌, [], ◌∷◌, ◌++◌, ◌||◌, ◌∙◌, ◌<◌, ◌^◌, ℕ, Option, List, length, map, Some, refl, sym, ap, subst, arith, slice_get}
+use Rattle.std.proofs.Common.{◌≡◌, [], ◌∷◌, ◌||◌, ◌∙◌, ◌<◌, ◌^◌, ℕ, Option, List, Some, refl, sym, ap, subst, slice_get}
 use Rattle.hg_base.specs.SteadyLaws.{Later_same}
 use Rattle.hg_base.specs.declared.pages.PageFault.{PageFault}
 use Rattle.hg_bind.specs.Bound.{error_of}
@@ -6,7 +6,7 @@ use Rattle.hg_catalog.specs.Contents.{Contents, CatalogTable}
 use Rattle.hg_dml.specs.Inserting.{PutsAll, PutsPart, IsCause}
 use Rattle.hg_dml.specs.Rows.{Tells, rows_cause, rows_of_tuples}
 use Rattle.hg_machine.specs.Plain.Refused.{refusal_line}
-use Rattle.hg_machine.specs.Plain.Replies.{rows, line_text}
+use Rattle.hg_machine.specs.Plain.Replies.{rows}
 use Rattle.hg_model.specs.Refusal.{StampsUsedUp}
 use Rattle.hg_model.specs.declared.trees.Column.{Column}
 use Rattle.hg_reply.specs.Asked.{insert_at}
@@ -18,7 +18,7 @@ use Rattle.hg_engine.proofs.InsertLaws.{insert-misfit, insert-late, insert-done,
 use Rattle.hg_engine.proofs.Lookups.{mapped-some}
 use Rattle.hg_engine.proofs.NewTables.{some-mapped}
 use Rattle.hg_engine.proofs.StandLaws.{some-one}
-use Rattle.hg_engine.proofs.Saying.{tells-one, counted-plain, refusal-quiet, sound-refusal, sound-line, error-of-fault, same-here}
+use Rattle.hg_engine.proofs.Saying.{tells-one, counted-plain, refusal-quiet, sound-refusal, sound-line, error-of-fault}
 use Rattle.hg_engine.proofs.tables.Tables.insert.Goals as goal
 
 pub returns-in-Err-clause-step : goal.returns-in-Err-clause-step
@@ -30,7 +30,7 @@ returns-in-Err-clause-step g c =
       refusal_line r.0 ∷ [],
       tells-one c.args.reply.now c.say_refusal.new.reply (refusal_line r.0) c.requires.empty c.requires.no_error (c.say_refusal.ensures.text r.0 r.2) c.say_refusal.ensures.errors,
       counted-plain a a (refusal_line r.0) (Later_same a.counts) (refusal-quiet r.0),
-      insert-misfit a old c.place.new.self i c.args.texts.now c.requires.idle c.place.ensures.scan c.place.ensures.max c.place.ensures.mpl c.place.ensures.catalog r.0 r.1 c.place.ensures.stamps,
+      insert-misfit a old c.place.new.self i c.args.texts.now c.requires.idle c.place.ensures.open c.place.ensures.max c.place.ensures.mpl c.place.ensures.catalog r.0 r.1 c.place.ensures.stamps,
       sound-refusal _ r.0,
     )
 
@@ -45,7 +45,7 @@ returns-in_default-clause-step g c =
       refusal_line StampsUsedUp ∷ [],
       tells-one c.args.reply.now c.say.new.self (refusal_line StampsUsedUp) c.requires.empty c.requires.no_error c.say.ensures.text c.say.ensures.errors,
       counted-plain a a (refusal_line StampsUsedUp) (Later_same a.counts) (refusal-quiet StampsUsedUp),
-      insert-late a old c.draw.new.self i c.args.texts.now c.requires.idle (d.scan ∙ p.scan) (d.max ∙ p.max) (d.mpl ∙ p.mpl) (d.catalog ∙ p.catalog)
+      insert-late a old c.draw.new.self i c.args.texts.now c.requires.idle (d.open ∙ p.open) (d.max ∙ p.max) (d.mpl ∙ p.mpl) (d.catalog ∙ p.catalog)
           (c.in-Ok.ensures {u = tt}).stands (ap last (sym p.stamps) ∙ drawn.0) (drawn.1 ∙ p.stamps),
       sound-refusal _ StampsUsedUp,
     )
@@ -76,7 +76,7 @@ returns-in-Ok-insert_rows-clause-step g c =
     let puts = subst P (d.catalog ∙ p.catalog) done.ok in
     let line = rows c.in-Ok-insert_rows.count in
     let step = insert-done a b old (record c.draw.new.self { catalog = now; stamps = c.insert_rows.new.stamps; row = c.insert_rows.new.row }) i texts targets k s c.draw.new.self.stamps
-    c.requires.idle (d.scan ∙ p.scan) (d.max ∙ p.max) (d.mpl ∙ p.mpl) placed.number placed.inside placed.stands
+    c.requires.idle (d.open ∙ p.open) (d.max ∙ p.max) (d.mpl ∙ p.mpl) placed.number placed.inside placed.stands
     (c.as_slice.ensures.value ∙ ap (λ t. t.items) d.targets ∙ placed.targets)
     (subst (λ m. Draws m c.draw.new.self.stamps s) p.stamps drawn.0) (subst (λ m. last m < 2 ^ 20) p.stamps drawn.1) puts done.committed in (
       line ∷ [],
@@ -122,7 +122,7 @@ returns-in-Err-Fault-clause-step g c =
           (c.say_fault.ensures.errors ∙ ap (λ b. c.args.reply.now.has_error || b) (sym (error-of-fault f))),
       part-counted a b old now i texts targets k s c.requires.stands.0 c.requires.stands.1 placed.inside f puts,
       insert-faulted a b old (record c.draw.new.self { catalog = now; stamps = c.insert_rows.new.stamps; row = c.insert_rows.new.row }) i texts targets k s c.draw.new.self.stamps
-          c.requires.idle (d.scan ∙ p.scan) (d.max ∙ p.max) (d.mpl ∙ p.mpl) placed.number placed.inside placed.stands
+          c.requires.idle (d.open ∙ p.open) (d.max ∙ p.max) (d.mpl ∙ p.mpl) placed.number placed.inside placed.stands
           (c.as_slice.ensures.value ∙ ap (λ t. t.items) d.targets ∙ placed.targets)
           (subst (λ m. Draws m c.draw.new.self.stamps s) p.stamps drawn.0) (subst (λ m. last m < 2 ^ 20) p.stamps drawn.1) f puts failed.uncommitted,
       part-found a b old now i texts targets k s c.requires.stands.0 c.requires.stands.1 placed.inside f placed.number puts,
@@ -181,7 +181,7 @@ returns-in-Err-Refused-clause-step g c =
     let told = subst T (e.2 ∙ sym c.as_slice-in-Err-Refused.ensures.value) it.told in
     let r = it.refusal in
     let was = ap (λ (x : Contents). slice_get x.tables k) (sym (d.catalog ∙ p.catalog)) ∙ there in
-    let step = insert-against a old new i c.args.texts.now c.as_slice.result.now k s c.requires.idle (d.scan ∙ p.scan) (d.max ∙ p.max) (d.mpl ∙ p.mpl) (untouched.1 ∙ d.catalog ∙ p.catalog)
+    let step = insert-against a old new i c.args.texts.now c.as_slice.result.now k s c.requires.idle (d.open ∙ p.open) (d.max ∙ p.max) (d.mpl ∙ p.mpl) (untouched.1 ∙ d.catalog ∙ p.catalog)
     placed.number placed.inside placed.stands (c.as_slice.ensures.value ∙ ap (λ t. t.items) d.targets ∙ placed.targets)
     (subst (λ m. Draws old.stamps m s) (sym failed.uncommitted) (subst (λ m. Draws m c.draw.new.self.stamps s) p.stamps drawn.0)) (subst (λ m. last m < 2 ^ 20) p.stamps drawn.1) r
     (λ t ht. subst (λ (w : CatalogTable). rows_cause w.columns (rows_of_tuples c.args.texts.now w.columns c.as_slice.result.now c.args.insert.now.values.now c.args.insert.now.ends.now) ≡ Some r)

@@ -1,64 +1,52 @@
-use Rattle.std.proofs.Common.{[], ◌∷◌, ◌+◌, ◌*◌, ◌<◌, ◌≤◌, ◌≡◌, List, length, refl, sym, ap, subst, ◌∙◌, arith}
-use Rattle.std.proofs.lemmas.Option.{slice_get_within}
+use Rattle.std.proofs.Common.{Some, [], ◌∷◌, ◌≡◌, ◌∙◌, refl, ap, subst, sym}
 use Rattle.hg_base.specs.SteadyLaws.{Later_same}
-use Rattle.hg_catalog.specs.Contents.{CatalogTable}
+use Rattle.hg_bind.specs.Bound.{error_of, tables_of}
+use Rattle.hg_bind.specs.BoundSelect.{IsBoundSelect}
+use Rattle.hg_exec.specs.Planned.{IsReady}
 use Rattle.hg_machine.specs.Plain.Refused.{refusal_line}
-use Rattle.hg_model.specs.Refusal.{UnknownTable, RowTooLong}
-use Rattle.hg_model.specs.declared.trees.Column.{Column}
-use Rattle.hg_engine.specs.Stars.{declared}
-use Rattle.hg_engine.proofs.Lookups.{number-none, number-entry, mapped-some}
-use Rattle.hg_engine.proofs.ScanLaws.{select-refused, select-begun, star-unknown, star-there, too-long, not-long}
+use Rattle.hg_model.specs.Binding.{select_refusal}
+use Rattle.hg_model.specs.Query.{query_of}
+use Rattle.hg_reply.specs.Asked.{query_at}
+use Rattle.hg_engine.proofs.Lookups.{mapped-some}
 use Rattle.hg_engine.proofs.Saying.{tells-one, tells-none, counted-plain, counted-none, refusal-quiet, sound-refusal}
+use Rattle.hg_engine.specs.Work.{BeginsOwed, BeginsWork}
+use Rattle.hg_engine.specs.declared.open.OpenSelect.{OpenSelect}
+use Rattle.hg_engine.proofs.SelectLaws.{is-ready, read-apart, read-fits, select-begun, select-refused}
 use Rattle.hg_engine.proofs.tables.Tables.select.Goals as goal
 
-pub returns-in_default-clause-step : goal.returns-in_default-clause-step
-returns-in_default-clause-step g c =
+pub returns-in-Err-clause-step : goal.returns-in-Err-clause-step
+returns-in-Err-clause-step g c =
     let a = g.S.Pages.state c.args.space.now in
     let old = c.args.self.now in
-    let name = c.args.name.now in
-    let star = star-unknown old.catalog name (number-none old.catalog name (sym c.table.ensures.value ∙ c.in_default.is)) in (
-      refusal_line (UnknownTable name) ∷ [],
-      tells-one c.args.reply.now c.say.new.self (refusal_line (UnknownTable name)) c.requires.empty c.requires.no_error c.say.ensures.text c.say.ensures.errors,
-      counted-plain a a (refusal_line (UnknownTable name)) (Later_same a.counts) (refusal-quiet (UnknownTable name)),
-      (λ alias texts. select-refused a old name alias texts c.requires.idle (UnknownTable name) star.0 star.1),
-      sound-refusal _ (UnknownTable name),
-    )
-
-pub returns-then-declared_length-gt-ROW_BYTES-clause-step : goal.returns-then-declared_length-gt-ROW_BYTES-clause-step
-returns-then-declared_length-gt-ROW_BYTES-clause-step g c =
-    let a = g.S.Pages.state c.args.space.now in
-    let old = c.args.self.now in
-    let name = c.args.name.now in
-    let e = mapped-some (λ (x : CatalogTable). x.columns) _ _ c.columns.ensures.value in
-    let named = number-entry old.catalog name c.in-Some.table e.0 (sym c.table.ensures.value ∙ c.in-Some.is) e.1 in
-    let few = c.columns.ensures.fits.few_columns in
-    let star = star-there old.catalog name e.0 named (subst (λ (l : List Column). length l ≤ 16) (sym e.2) few) in
-    let long = c.if-declared_length-gt-ROW_BYTES.true in
-    let is : c.declared_length.result ≡ declared e.0.columns = c.declared_length.ensures ∙ ap declared c.as_slice.ensures.value ∙ ap declared (sym e.2) in (
-      refusal_line RowTooLong ∷ [],
-      tells-one c.args.reply.now c.say-then-declared_length-gt-ROW_BYTES.new.self (refusal_line RowTooLong) c.requires.empty c.requires.no_error
-          c.say-then-declared_length-gt-ROW_BYTES.ensures.text c.say-then-declared_length-gt-ROW_BYTES.ensures.errors,
-      counted-plain a a (refusal_line RowTooLong) (Later_same a.counts) (refusal-quiet RowTooLong),
-      (λ alias texts. select-refused a old name alias texts c.requires.idle RowTooLong star.0 (star.1 ∙ too-long (declared e.0.columns) (omega (arith, long, is)))),
-      sound-refusal _ RowTooLong,
+    let q = query_at c.args.select.now in
+    let r = mapped-some error_of _ _ (c.in-Err.ensures {u = tt}).err in
+    let cause : select_refusal (tables_of old.catalog) q ≡ Some r.0 = ap (select_refusal (tables_of old.catalog)) (sym c.hold.ensures.query) ∙ r.1 in (
+      refusal_line r.0 ∷ [],
+      tells-one c.args.reply.now c.say_refusal.new.reply (refusal_line r.0) c.requires.empty c.requires.no_error (c.say_refusal.ensures.text r.0 r.2) c.say_refusal.ensures.errors,
+      counted-plain a a (refusal_line r.0) (Later_same a.counts) (refusal-quiet r.0),
+      select-refused a old q c.args.texts.now c.requires.idle _ refl refl refl refl r.0 c.requires.idle cause,
+      sound-refusal _ r.0,
     )
 
 pub returns-clause-step : goal.returns-clause-step
 returns-clause-step g c =
     let a = g.S.Pages.state c.args.space.now in
     let old = c.args.self.now in
-    let name = c.args.name.now in
-    let e = mapped-some (λ (x : CatalogTable). x.columns) _ _ c.columns.ensures.value in
-    let number = sym c.table.ensures.value ∙ c.in-Some.is in
-    let named = number-entry old.catalog name c.in-Some.table e.0 number e.1 in
-    let few = c.columns.ensures.fits.few_columns in
-    let star = star-there old.catalog name e.0 named (subst (λ (l : List Column). length l ≤ 16) (sym e.2) few) in
-    let short = c.if-declared_length-gt-ROW_BYTES.false in
-    let is : c.declared_length.result ≡ declared e.0.columns = c.declared_length.ensures ∙ ap declared c.as_slice.ensures.value ∙ ap declared (sym e.2) in (
+    let texts = c.args.texts.now in
+    let q = query_at c.args.select.now in
+    let w = c.place.new.self in
+    let t = c.in_default.ensures {u = tt} in
+    let bound : IsBoundSelect (tables_of old.catalog) q (query_of w.select) w.tables.items w.places.items =
+    subst (λ x. IsBoundSelect (tables_of old.catalog) x (query_of w.select) w.tables.items w.places.items) c.hold.ensures.query t.ok in
+    let placed = is-ready old.catalog q (query_of w.select) texts w.tables.items w.places.items w.plan c.requires.plain
+    (read-fits c.read_selects_fit.ensures old.max q texts c.requires.read) (read-apart c.read_keys_stand_apart.ensures.alone old.max q texts c.requires.read) bound t.plan in
+    let ready = subst (λ (x : OpenSelect). IsReady old.catalog q (query_of x.select) texts x.tables.items x.places.items x.plan) (sym c.begin.ensures.rest) placed in (
       [],
       tells-none c.args.reply.now c.requires.empty c.requires.no_error,
       counted-none a,
-      (λ alias texts. select-begun a old name alias texts c.requires.idle _ c.in-Some.table (128 * c.taken.result + 1) number (slice_get_within old.catalog.tables c.in-Some.table e.0 e.1)
-          star.0 (star.1 ∙ not-long (declared e.0.columns) (omega (arith, short, is))) (let n = c.taken.ensures.count in omega (arith, n)) refl refl refl refl refl),
+      select-begun a old q texts c.requires.idle _ refl refl refl refl refl t.sound c.planned_may_run.ensures c.planned_means_the_same.ensures ready
+          (ap (λ (x : OpenSelect). x.texts.bytes) c.begin.ensures.rest ∙ ap (λ x. x.bytes) t.texts ∙ c.hold.ensures.texts)
+          (subst (λ n. BeginsOwed a n c.begin.new.self.loops) c.last.ensures.value c.begin.ensures.owed)
+          (subst (λ n. BeginsWork a n c.begin.new.self.loops) c.last.ensures.value c.begin.ensures.work),
       tt,
     )
