@@ -3,7 +3,7 @@ use Rattle.std.specs.Prelude.{◌≡◌, ℕ, Bool, true, false, List, Option}
 use Rattle.std.proofs.Common.{sym, ◌∙◌, ap, refl}
 use Rattle.std.proofs.lemmas.Bool.{false≢true}
 use Rattle.hg_base.specs.Space.{Space, key_in}
-use Rattle.hg_base.specs.Lines.{IsLine, has_page}
+use Rattle.hg_base.specs.Lines.{IsLine}
 use Rattle.hg_base.specs.LineLaws.{all_has}
 use Rattle.hg_base.specs.Steadiness.{Steady}
 use Rattle.hg_base.specs.declared.File.{File}

@@ -24,7 +24,7 @@ impl<'a> Lines<'a> {
     }
 
     /// The next line, without its line feed; an empty one where there is none.
-    fn next(&mut self) -> &'a [u8] {
+    pub fn next(&mut self) -> &'a [u8] {
         let Some(at) = memchr(b'\n', self.rest) else {
             return &[];
         };
