@@ -30,6 +30,7 @@ releases_none a run pages out c = record {
   gone = tt;
   steady = Steady_same (pages_mine pages) a out;
   counts = refl;
+  of_heap = refl;
   few = omega arith;
 }
 
@@ -117,6 +118,7 @@ releases_more a b pages x turns r =
       steady = Steady_then (pages_mine pages) a b (without_page b k) r.steady
           (released_steady b pages x r.steady.pins_after (subst (λ l. has_page l x ≡ true) (sym all) (has_behind r.done f.more x)));
       counts = r.counts;
+      of_heap = r.of_heap;
       few = let n = ap length f.is in let w = r.few in omega arith;
     }
   where
@@ -132,6 +134,7 @@ ends_with a b pages next turns r e = record {
   gone = subst (AllByRecursion (λ x. b.taken (key_in Temp x) ≡ false)) (sym (r.all ∙ ap (λ l. r.done ++ l) e ∙ append-none r.done)) r.gone;
   steady = r.steady;
   counts = r.counts;
+  of_heap = r.of_heap;
 }
 
 pub ends_none : (a b : Space) (pages : List ℕ) (turns : ℕ) → Releases a b pages None turns → Ends a b pages

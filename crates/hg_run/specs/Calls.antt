@@ -93,11 +93,13 @@ abbrev pub Reads : Bool → List ℕ → List (List ℕ) → RunPos → List (Li
 Reads true pages rs new done rest out = ReadsOne pages rs new done rest out
 Reads false pages rs new done rest out = rest ≡ []
 
--- The pages are not taken any more, and all else is as it was, counts too: no device was called.
+-- The pages are not taken any more, and all else is as it was, counts too: no device was called, and no page
+-- became one of a heap.
 pub record Ends (a b : Space) (pages : List ℕ) : Type 0 where
   pub gone : AllByRecursion (λ x. b.taken (key_in file.Temp x) ≡ false) pages
   pub steady : Steady (pages_mine pages) a b
   pub counts : b.counts ≡ a.counts
+  pub of_heap : b.of_heap ≡ a.of_heap
 
 -- What may be wrong with a page of a run.
 abbrev pub IsPageCheck : Check → Type 0

@@ -114,6 +114,7 @@ pub record Releases (a b : Space) (pages : List ℕ) (next : Option ℕ) (turns 
   pub gone : AllByRecursion (λ x. b.taken (key_in file.Temp x) ≡ false) done
   pub steady : Steady (pages_mine pages) a b
   pub counts : b.counts ≡ a.counts
+  pub of_heap : b.of_heap ≡ a.of_heap
   pub few : turns + length rest ≡ length pages
 
 -- What came of putting a record on the last page of a run, if there is one.
