@@ -33,14 +33,23 @@ here inner page level link es R at h p l =
     record { x = o.0; rest = o.1; is = o.2; reading = o.3 }
 
 -- the comparison at a place is that of the entry there
-pub order_here : (inner : Bool) (page : List ℕ) (at after key_end : ℕ) (x t : Entry) → Reads inner page at x → after ≡ at + 10 + number page at + width inner
-    → key_end ≡ after - width inner
+pub order_here : (inner : Bool) (page : List ℕ) (at key_end : ℕ) (x t : Entry) → Reads inner page at x → key_end ≡ at + 10 + number page at
     → order (take (key_end - (at + 10)) (drop (at + 10) page)) (place_at page (at + 2)) t.key t.place ≡ order x.key x.place t.key t.place
-order_here inner page at after key_end x t r a k =
+order_here inner page at key_end x t r k =
     let n : key_end - (at + 10) ≡ length x.key = (let s = r.size in omega arith) in
     ap (λ m. order (take m (drop (at + 10) page)) (place_at page (at + 2)) t.key t.place) n
     ∙ ap (λ l. order l (place_at page (at + 2)) t.key t.place) r.key
     ∙ ap (λ q. order x.key q t.key t.place) r.place
+
+-- an entry is whole
+pub no_overrun : (inner : Bool) (page : List ℕ) (level link : ℕ) (es : List Entry) (R : Entry → Type 0) (at : ℕ) → IsNode inner page level link es
+    → Passed inner es R at → at < number page 4 → at + 10 + number page at + width inner ≤ number page 4
+no_overrun inner page level link es R at h p l =
+    let o = here inner page level link es R at h p l in
+    let r = o.reading in
+    let s = r.size in
+    let i = r.inside in
+    omega arith
 
 pub after_is : (inner : Bool) (page : List ℕ) (at after : ℕ) (x : Entry) → Reads inner page at x → after ≡ at + 10 + number page at + width inner
     → after ≡ at + length (spelled inner x)

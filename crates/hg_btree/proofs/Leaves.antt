@@ -3,7 +3,7 @@ use Rattle.std.specs.Prelude.{◌≡◌, ◌≢◌, ℕ, ◌+◌, ◌≤◌, Boo
 use Rattle.std.specs.List.{AllByRecursion}
 use Rattle.std.proofs.Common.{sym, ◌∙◌, ap, subst, refl, arith, inl, inr}
 use Rattle.std.proofs.lemmas.Bool.{cases_eq, ne_eqb, eq-eqb}
-use Rattle.hg_base.specs.Space.{Space, key, key_in}
+use Rattle.hg_base.specs.Space.{Space, NoPins, key, key_in}
 use Rattle.hg_base.specs.Steadiness.{IsPlain}
 use Rattle.hg_base.specs.TakenLaws.{key_in-one}
 use Rattle.hg_base.specs.Lines.{IsLine, AreApart}
@@ -12,13 +12,16 @@ use Rattle.hg_base.specs.declared.File.{File}
 use Rattle.hg_base.specs.declared.PageId.{PageId}
 use Rattle.hg_btree.specs.Entries.{Entry, AllBy, Before, Ordered, NotBehind}
 use Rattle.hg_btree.specs.Nodes.{spelled, spelling, IsNode, IsSpot, IsThere}
-use Rattle.hg_btree.specs.Trees.{pages_of, first_page, AllBefore, IsLeafAt, Leaves, root, uses, uses_in, times, IsTree, Reached}
+use Rattle.hg_btree.specs.Trees.{pages_of, first_page, AllBefore, IsLeafAt, Leaves, root, uses, uses_in, times, IsTree, Reached, Along}
 use Rattle.hg_btree.specs.Steps.{Looks}
 use Rattle.hg_btree.specs.Leaf.{Removes, Misses, ChangesPage}
 use Rattle.hg_btree.proofs.Walking.{none_behind, uses-append, uses_in-append, uses_here, LeafHere}
 use Rattle.hg_btree.proofs.Changing.{Agree, AreChained, leaves_same, chained_same, chained_swap}
 use Rattle.hg_btree.proofs.Walking.{leaves_join}
-use Rattle.hg_btree.proofs.Seeking.{used_free, bytes_stay}
+use Rattle.hg_btree.specs.Looking.{SeeksOn}
+use Rattle.hg_btree.specs.declared.look.OnLeaf.{OnLeaf}
+use Rattle.hg_btree.specs.declared.look.OnLeaf.TheVariants as on
+use Rattle.hg_btree.proofs.Seeking.{used_free, bytes_stay, along_first, along_next, seen_before}
 
 -- ---- what stands at a spot
 
@@ -103,6 +106,35 @@ pub tree_stays-levels : (file : File) (a b : Space) (top : ℕ) (es : List Entry
     → (tree_stays file a b top es pages leaves l h).levels ≡ h.levels
 unfolding tree_stays
 tree_stays-levels file a b top es pages leaves l h = refl
+
+-- and so is a walk along its leaves where it was
+pub along_stays : (file : File) (a b : Space) (top : ℕ) (es : List Entry) (pages : List ℕ) (leaves leaf turns : ℕ) (t : Entry) → Looks a b
+    → IsTree file a top es pages leaves → Along (pages_of file a) es pages t leaf turns → Along (pages_of file b) es pages t leaf turns
+along_stays file a b top es pages leaves leaf turns t l h g = record {
+  passed = g.passed;
+  rest = g.rest;
+  x = g.x;
+  behind = g.behind;
+  page_is = g.page_is;
+  all = g.all;
+  below = g.below;
+  leaves = leaves_same (pages_of file a) (pages_of file b) (g.x ∷ g.behind) [] g.rest
+      (λ y u. let f = used_free file a top es pages leaves y l.steady.pins_before h (let k = g.are_pages y in omega arith) in bytes_stay a b (record { file = file; no = y }) l f)
+      g.leaves;
+  are_pages = g.are_pages;
+  few = g.few;
+}
+
+-- the walk from the second leaf on
+pub second_leaf : (file : File) (a b d : Space) (top leaf next : ℕ) (page : PageId) (t : Entry) (es : List Entry) (pages : List ℕ) (leaves : ℕ) (got : List ℕ) (found : OnLeaf)
+    → NoPins a → Looks a b → Looks a d → (h : IsTree file a top es pages leaves) → Reached top h.levels t 0 leaf → page ≡ record { file = file; no = leaf } → found ≡ on.Next next
+    → ((bytes : List ℕ) (link : ℕ) (own : List Entry) → b.bytes (key page) ≡ Some bytes → IsNode false bytes 0 link own → SeeksOn own link t got found)
+    → IsTree file d top es pages leaves × Along (pages_of file d) es pages t next 1
+second_leaf file a b d top leaf next page t es pages leaves got found out l k h r e is f =
+    let g = along_first file a top es pages leaves leaf t h r in
+    let n = along_next file a top es pages leaves leaf 0 next t got out h g
+    (seen_before file a b top leaf 0 page t es pages leaves got found (on.Next next) out l h g e is f) in
+    (tree_stays file a d top es pages leaves k h, along_stays file a d top es pages leaves next 1 t k h n)
 
 -- ---- the tree after a change of a leaf
 

@@ -1,4 +1,5 @@
 pub mod Orders
+pub mod Comparing
 pub mod Reading
 pub mod Finding
 pub mod Writing

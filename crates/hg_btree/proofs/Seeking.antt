@@ -13,6 +13,7 @@ use Rattle.hg_btree.specs.Entries.{Entry, AllBy, Before}
 use Rattle.hg_btree.specs.Nodes.{IsNode, IsFirst}
 use Rattle.hg_btree.specs.Trees.{pages_of, first_page, IsTree, HasTree, Reached, LedTo, Along, Leaves, uses, uses_in, times, width_of, IsLeafAt}
 use Rattle.hg_btree.specs.Looking.{IsTreePage, LeadsFrom, SeeksOn}
+use Rattle.hg_btree.specs.declared.look.OnLeaf.{OnLeaf}
 use Rattle.hg_btree.specs.declared.look.OnLeaf.TheVariants as on
 use Rattle.hg_btree.specs.Steps.{Looks, none_mine}
 use Rattle.hg_btree.proofs.Reading.{all_append}
@@ -309,3 +310,11 @@ told_along file a b top leaf turns page t es pages leaves out l h g e bytes told
 
 pub taken_same : (a b : Space) (file : File) → Looks a b → taken_in b file ≡ taken_in a file
 taken_same a b file l = ap (λ t. taken_below t file (b.limit file)) l.taken ∙ ap (λ (g : File → ℕ). taken_below a.taken file (g file)) l.steady.limit
+
+-- what a look at a leaf on the way tells, of the space as it was before
+pub seen_before : (file : File) (a b : Space) (top leaf turns : ℕ) (page : PageId) (t : Entry) (es : List Entry) (pages : List ℕ) (leaves : ℕ) (got : List ℕ) (found now : OnLeaf)
+    → NoPins a → Looks a b → IsTree file a top es pages leaves → Along (pages_of file a) es pages t leaf turns → page ≡ record { file = file; no = leaf } → found ≡ now
+    → ((bytes : List ℕ) (link : ℕ) (own : List Entry) → b.bytes (key page) ≡ Some bytes → IsNode false bytes 0 link own → SeeksOn own link t got found)
+    → (bytes : List ℕ) (link : ℕ) (own : List Entry) → a.bytes (key_in file leaf) ≡ Some bytes → IsNode false bytes 0 link own → SeeksOn own link t got now
+seen_before file a b top leaf turns page t es pages leaves got found now out l h g e is f bytes link own told node =
+    subst (SeeksOn own link t got) is (f bytes link own (told_along file a b top leaf turns page t es pages leaves out l h g e bytes told) node)

@@ -1,5 +1,5 @@
 -- What the parts of a page that is cut hold.
-use Rattle.std.specs.Prelude.{◌≡◌, ℕ, ◌+◌, ◌-◌, ◌^◌, ◌<◌, ◌≤◌, nat_lt, Bool, true, false, List, [], ◌∷◌, ◌++◌, length, take, drop, ◌⊎◌}
+use Rattle.std.specs.Prelude.{◌≡◌, ℕ, ◌+◌, ◌-◌, ◌^◌, ◌<◌, ◌≤◌, nat_lt, Bool, true, false, List, [], ◌∷◌, ◌++◌, length, take, drop, replicate, ◌⊎◌}
 use Rattle.std.specs.Int.{w16, w32, from_le_bytes, to_le_bytes}
 use Rattle.std.proofs.Common.{sym, ◌∙◌, ap, subst, refl, arith, append_assoc, length-append, inl, inr}
 use Rattle.std.proofs.lemmas.Bool.Decides.{nat_tests}
@@ -15,7 +15,9 @@ use Rattle.hg_btree.specs.Halving.{HalvesInner, HalvesLeaf, IsBoundIn}
 use Rattle.hg_btree.proofs.Orders.{same_not_behind, same_back, before_then, then_before, not_behind_trans, before_not_behind}
 use Rattle.hg_btree.proofs.Walking.{all_weaker, ordered_behind, none_behind}
 use Rattle.hg_btree.proofs.Reading.{front, reads, spelling-none, spelling-more, spelling-append, length-spelled, rest_of, end_is, all_front, all_behind}
-use Rattle.hg_btree.proofs.Writing.{keeps_then, keeps_head, byte-same, rebuilt}
+use Rattle.hg_btree.proofs.Writing.{keeps_then, keeps_head, byte-same, zero_end, zero-written, unused_apart, unused_few, rebuilt}
+use Rattle.std.proofs.lemmas.Bool.{cases_lt}
+use Rattle.std.proofs.lemmas.List.{length-replicate}
 
 -- ---- the cut
 
@@ -218,11 +220,14 @@ upper_taken inner source empty filled b sl sk level link from end free count k d
     (s.body 16 lb (omega arith) ∙ ap (λ r. take lb (drop 16 r)) w ∙ ap (λ q. take q (drop 16 (put_mid 16 k empty part))) (sym lt ∙ sym kf)
     ∙ within empty part 16 k (omega arith) lp ∙ is_todo)
     (all_behind IsProper done todo h.proper)
+    (λ m f t. s.body m 1 (omega arith) ∙ ap (λ r. take 1 (drop m r)) w ∙ above empty part 16 k m 1 (omega arith) (omega arith) lp
+    ∙ zero_end inner empty level link [] m n (let z = n.free in let e = ap length (spelling-none inner) in omega arith) t)
 
 pub lower_kept : (inner : Bool) (page cleared b zeros : List ℕ) (level link at end count k : ℕ) (done todo : List Entry)
-    → IsNode inner page level link (done ++ todo) → at ≡ 16 + length (spelling inner done) → end ≡ number page 4 → k ≡ end - at → length zeros ≡ k
+    → IsNode inner page level link (done ++ todo) → at ≡ 16 + length (spelling inner done) → end ≡ number page 4 → k ≡ end - at → zeros ≡ replicate k 0
     → cleared ≡ put_mid at k page zeros → count ≡ length done → SetsHead cleared b count at → IsNode inner b level link done
-lower_kept inner page cleared b zeros level link at end count k done todo h a e ks lz w c s =
+lower_kept inner page cleared b zeros level link at end count k done todo h a e ks zs w c s =
+    let lz : length zeros ≡ k = ap length zs ∙ length-replicate k 0 in
     let ends = end_is inner page level link done todo at h a in
     let whole = h.whole in
     let fits = h.fits in
@@ -238,6 +243,11 @@ lower_kept inner page cleared b zeros level link at end count k done todo h a e 
     (s.body 16 la (omega arith) ∙ ap (λ r. take la (drop 16 r)) w ∙ below page zeros at k 16 la (omega arith) (omega arith)
     ∙ front page (spelling inner done) (spelling inner todo) 16 (length (spelling inner (done ++ todo))) (h.text ∙ spelling-append inner done todo) (sym ld))
     (all_front IsProper done todo h.proper)
+    (λ m f t. s.body m 1 (omega arith) ∙ ap (λ r. take 1 (drop m r)) w
+    ∙ elim (cases_lt m end) [
+      | inl l ↦ ap (λ z. take 1 (drop m (put_mid at k page z))) zs ∙ zero-written page at k m (omega arith) (omega arith) (omega arith)
+      | inr l ↦ above page zeros at k m 1 (omega arith) (omega arith) lz ∙ zero_end inner page level link (done ++ todo) m h (omega arith) t
+    ])
 
 pub linked : (inner : Bool) (page : List ℕ) (level old link la : ℕ) (es : List Entry) → IsNode inner page level old es → la ≡ link_at inner → link < 2 ^ 32
     → IsNode inner (put_mid la 4 page (to_le_bytes w32 link)) level link es
@@ -260,6 +270,14 @@ linked inner page level old link la es h li small =
       fits = h.fits;
       text = above page x la 4 16 (length (spelling inner es)) (omega arith) (omega arith) refl ∙ h.text;
       proper = h.proper;
+      zeros = λ m u.
+          let q = unused_apart inner (16 + length (spelling inner es)) m (omega arith) u in
+          let few : m < 4096 = unused_few inner (16 + length (spelling inner es)) m u in
+          let same : take 1 (drop m (put_mid la 4 page x)) ≡ take 1 (drop m page) = elim (q.1) [
+            | inl f ↦ below page x la 4 m 1 (omega arith) (omega arith)
+            | inr f ↦ above page x la 4 m 1 (omega arith) (omega arith) refl
+          ] in
+          byte-same page (put_mid la 4 page x) m (omega arith) lw same ∙ h.zeros m u;
     }
   where
     two : (inner : Bool) (la : ℕ) → la ≡ link_at inner → (la ≡ 12) ⊎ (la ≡ 8)

@@ -1,15 +1,16 @@
 -- What the writes into a page do to its head and its entries.
-use Rattle.std.specs.Prelude.{◌≡◌, ℕ, ◌+◌, ◌-◌, ◌^◌, ◌<◌, ◌≤◌, min, Bool, true, false, List, [], ◌∷◌, ◌++◌, length, take, drop, slice_index, slice_set, ◌⊎◌}
+use Rattle.std.specs.Prelude.{◌≡◌, ℕ, ◌+◌, ◌-◌, ◌^◌, ◌<◌, ◌≤◌, min, zero, suc, Bool, true, false, List, [], ◌∷◌, ◌++◌, length, take, drop, replicate, slice_index, slice_set, ◌⊎◌}
 use Rattle.std.specs.Int.{w16, w32, w64, from_le_bytes, to_le_bytes}
 use Rattle.std.proofs.Common.{sym, ◌∙◌, ap, subst, refl, arith, append_assoc, length-append, length-drop, inl, inr, get_or-set_other, get_or-set_same}
 use Rattle.std.proofs.lemmas.List.{take_at, drop_at, drop-drop, drop_more, drop_all, take-append-drop}
 use Rattle.std.proofs.lemmas.Nat.{from_le_bytes-to_le_bytes_2, from_le_bytes-to_le_bytes_4}
-use Rattle.std.proofs.lemmas.List.{length-set}
+use Rattle.std.proofs.lemmas.Bool.{cases_lt}
+use Rattle.std.proofs.lemmas.List.{length-set, length-replicate, drop-replicate, get_or-replicate, drop-take, take-take}
 use Rattle.hg_base.specs.Parts.{below, above, within, parts, length-written}
 use borrow.Rule.Slice.PartMut.{put_mid}
 use lib.Seq.{paste}
 use Rattle.hg_btree.specs.Entries.{Entry, AllBy}
-use Rattle.hg_btree.specs.Nodes.{number, page_number, width, child_bytes, kind_of, link_at, spelled, spelling, IsProper, IsNode}
+use Rattle.hg_btree.specs.Nodes.{number, page_number, width, child_bytes, kind_of, link_at, unused_at, spelled, spelling, IsProper, IsUnused, IsNode}
 use Rattle.hg_btree.specs.Writing.{KeepsHead, SetsHead}
 use Rattle.hg_btree.proofs.Reading.{front, back, spelling-none, spelling-more, spelling-append, length-spelled, rest_of, end_is, all_front, all_behind, all_append}
 
@@ -134,11 +135,55 @@ count_few inner (e ∷ es) =
     let r = count_few inner es in
     omega arith
 
+-- ---- bytes without a meaning
+pub zero_from : (b : List ℕ) (m : ℕ) → m < length b → take 1 (drop m b) ≡ 0 ∷ [] → slice_index b m ≡ 0
+zero_from b m l e = let f : slice_index b m ∷ [] ≡ 0 ∷ [] = sym (byte_of b m l) ∙ e in cc
+
+zero_there : (b : List ℕ) (m : ℕ) → m < length b → slice_index b m ≡ 0 → take 1 (drop m b) ≡ 0 ∷ []
+zero_there b m l e = byte_of b m l ∙ ap (λ y. y ∷ []) e
+
+-- at the end of a page
+pub zero_end : (inner : Bool) (page : List ℕ) (level link : ℕ) (es : List Entry) (m : ℕ) → IsNode inner page level link es → number page 4 ≤ m → m < 4096 → take 1 (drop m page) ≡ 0 ∷ []
+zero_end inner page level link es m h f t = zero_there page m (let w = h.whole in omega arith) (h.zeros m (inr (inr (let e = h.free in omega arith, t))))
+
+pub byte-written : (b x : List ℕ) (at k m : ℕ) → at ≤ m → m < at + k → at ≤ length b → length x ≡ k → take 1 (drop m (put_mid at k b x)) ≡ take 1 (drop (m - at) x)
+byte-written b x at k m f t l e =
+    let there : at + (m - at) ≡ m = omega arith in
+    ap (λ j. take 1 (drop j (put_mid at k b x))) (sym there)
+    ∙ ap (take 1) (sym (drop-drop (m - at) at (put_mid at k b x)))
+    ∙ sym (drop-take (m - at) 1 (drop at (put_mid at k b x)))
+    ∙ ap (drop (m - at)) (sym (take-take (m - at + 1) k (drop at (put_mid at k b x)) (omega arith)) ∙ ap (take (m - at + 1)) (within b x at k l e))
+    ∙ drop-take (m - at) 1 x
+
+pub zero-written : (b : List ℕ) (at k m : ℕ) → at ≤ m → m < at + k → at ≤ length b → take 1 (drop m (put_mid at k b (replicate k 0))) ≡ 0 ∷ []
+zero-written b at k m f t l =
+    byte-written b (replicate k 0) at k m f t l (length-replicate k 0)
+    ∙ ap (take {A = ℕ} 1) (drop-replicate (m - at) k 0) ∙ one (k - (m - at)) (omega arith)
+  where
+    one : (j : ℕ) → 0 < j → take {A = ℕ} 1 (replicate j 0) ≡ 0 ∷ []
+    one zero h = absurd (omega arith)
+    one (suc j) h = refl
+
+-- in the head these stand behind the two numbers that are set, and away from the link
+unused_head : (inner : Bool) (m : ℕ) → unused_at inner ≤ m → m < unused_at inner + 4 → (6 ≤ m) × (m + 1 ≤ 16)
+unused_head true m f t = (omega arith, omega arith)
+unused_head false m f t = (omega arith, omega arith)
+
+pub unused_apart : (inner : Bool) (end m : ℕ) → 16 ≤ end → IsUnused inner end m → (6 ≤ m) × ((m + 1 ≤ link_at inner) ⊎ (link_at inner + 4 ≤ m))
+unused_apart true end m h u = elim u [ inl g ↦ (omega arith, inl (omega arith)) | inr v ↦ elim v [ inl w ↦ (omega arith, inl (omega arith)) | inr e ↦ (omega arith, inr (omega arith)) ] ]
+unused_apart false end m h u = elim u [ inl g ↦ (omega arith, inl (omega arith)) | inr v ↦ elim v [ inl w ↦ (omega arith, inr (omega arith)) | inr e ↦ (omega arith, inr (omega arith)) ] ]
+
+pub unused_few : (inner : Bool) (end m : ℕ) → IsUnused inner end m → m < 4096
+unused_few true end m u = elim u [ inl g ↦ omega arith | inr v ↦ elim v [ inl w ↦ omega arith | inr e ↦ e.1 ] ]
+unused_few false end m u = elim u [ inl g ↦ omega arith | inr v ↦ elim v [ inl w ↦ omega arith | inr e ↦ e.1 ] ]
+
 -- a page with a changed head and these entries
 pub rebuilt : (inner : Bool) (a b : List ℕ) (level link : ℕ) (old new : List Entry) → IsNode inner a level link old → KeepsHead a b
     → number b 2 ≡ length new → number b 4 ≡ 16 + length (spelling inner new) → 16 + length (spelling inner new) ≤ 4096
-    → take (length (spelling inner new)) (drop 16 b) ≡ spelling inner new → AllBy IsProper new → IsNode inner b level link new
-rebuilt inner a b level link old new h k c f l t p = record {
+    → take (length (spelling inner new)) (drop 16 b) ≡ spelling inner new → AllBy IsProper new
+    → ((m : ℕ) → 16 + length (spelling inner new) ≤ m → m < 4096 → take 1 (drop m b) ≡ 0 ∷ [])
+    → IsNode inner b level link new
+rebuilt inner a b level link old new h k c f l t p z = record {
   whole = k.same_length ∙ h.whole;
   kind = kind-kept a b h.whole k ∙ h.kind;
   level_is = level-kept a b h.whole k ∙ h.level_is;
@@ -148,6 +193,16 @@ rebuilt inner a b level link old new h k c f l t p = record {
   fits = l;
   text = t;
   proper = p;
+  zeros = λ m u.
+      let w = h.whole in
+      let n = k.same_length in
+      elim u [
+        | inl g ↦ byte-same a b m (omega arith) k.same_length (k.back m 1 (omega arith) (omega arith)) ∙ h.zeros m (inl g)
+        | inr v ↦ elim v [
+          | inl g ↦ (let q = unused_head inner m g.0 g.1 in byte-same a b m (omega arith) k.same_length (k.back m 1 q.0 q.1) ∙ h.zeros m (inr (inl g)))
+          | inr e ↦ zero_from b m (omega arith) (z m e.0 e.1)
+        ]
+      ];
 }
 
 -- an entry was put in: the bytes behind it were moved, it was written, and the head was set
@@ -208,15 +263,22 @@ inserted inner page moved wrote b level link done todo x at n end count h a p ns
     (omega arith)
     (ap (λ q. take q (drop 16 b)) ls ∙ text ∙ sym sp)
     (all_append IsProper done (x ∷ todo) (all_front IsProper done todo h.proper) (p, all_behind IsProper done todo h.proper))
+    (λ m f t.
+    let f2 = h.free in
+    s.body m 1 (omega arith)
+    ∙ ap (λ r. take 1 (drop m r)) w ∙ above moved (spelled inner x) at n m 1 (omega arith) (omega arith) (sym ns)
+    ∙ ap (λ r. take 1 (drop m r)) moved_is ∙ above page part (at + n) (end - at) m 1 (omega arith) (omega arith) lp
+    ∙ zero_end inner page level link (done ++ todo) m h (omega arith) t)
 
 -- an entry was taken away: the bytes behind it were moved, the end was cleared, and the head was set
 pub removed : (inner : Bool) (page moved wrote b zeros : List ℕ) (level link : ℕ) (done : List Entry) (x : Entry) (todo : List Entry) (at after end count free k : ℕ)
     → IsNode inner page level link (done ++ x ∷ todo) → at ≡ 16 + length (spelling inner done) → after ≡ at + length (spelled inner x)
     → end ≡ number page 4
-    → moved ≡ paste page at (drop after page) (end - after) → free ≡ end - (after - at) → k ≡ end - free → length zeros ≡ k → wrote ≡ put_mid free k moved zeros
+    → moved ≡ paste page at (drop after page) (end - after) → free ≡ end - (after - at) → k ≡ end - free → zeros ≡ replicate k 0 → wrote ≡ put_mid free k moved zeros
     → count ≡ number page 2 - 1 → SetsHead wrote b count free
     → IsNode inner b level link (done ++ todo)
-removed inner page moved wrote b zeros level link done x todo at after end count free k h a f e m fr kz lz w cs s =
+removed inner page moved wrote b zeros level link done x todo at after end count free k h a f e m fr kz zs w cs s =
+    let lz : length zeros ≡ k = ap length zs ∙ length-replicate k 0 in
     let ns = length-spelled inner x in
     let sp : spelling inner (done ++ x ∷ todo) ≡ spelling inner done ++ (spelled inner x ++ spelling inner todo) =
     spelling-append inner done (x ∷ todo) ∙ ap (λ r. spelling inner done ++ r) (spelling-more inner x todo) in
@@ -267,12 +329,20 @@ removed inner page moved wrote b zeros level link done x todo at after end count
     (ap (λ q. take q (drop 16 b)) ls ∙ parts b 16 la lb ∙ ap (λ r. r ++ take lb (drop (16 + la) b)) t1 ∙ ap (λ r. spelling inner done ++ take lb (drop r b)) at_is
     ∙ ap (λ r. spelling inner done ++ r) t2 ∙ sym (spelling-append inner done todo))
     (all_append IsProper done todo (all_front IsProper done (x ∷ todo) h.proper) pr.1)
+    (λ j g t. s.body j 1 (omega arith) ∙ ap (λ r. take 1 (drop j r)) w
+    ∙ elim (cases_lt j end) [
+      | inl l ↦ ap (λ z. take 1 (drop j (put_mid free k moved z))) zs ∙ zero-written moved free k j (omega arith) (omega arith) (omega arith)
+      | inr l ↦ above moved zeros free k j 1 (omega arith) (omega arith) lz
+          ∙ ap (λ r. take 1 (drop j r)) moved_is ∙ above page part at (end - after) j 1 (omega arith) (omega arith) lp
+          ∙ zero_end inner page level link (done ++ x ∷ todo) j h (omega arith) t
+    ])
 
 -- a page with no entries
-pub started : (inner : Bool) (a b c d e : List ℕ) (kind level link la : ℕ) → length a ≡ 4096 → b ≡ slice_set a 0 kind → c ≡ slice_set b 1 level → kind ≡ kind_of inner
+pub started : (inner : Bool) (a b c d e : List ℕ) (kind level link la : ℕ) → a ≡ replicate 4096 0 → b ≡ slice_set a 0 kind → c ≡ slice_set b 1 level → kind ≡ kind_of inner
     → la ≡ link_at inner → link < 2 ^ 32 → d ≡ put_mid la 4 c (to_le_bytes w32 link) → SetsHead d e 0 16 → IsNode inner e level link []
 unfolding page_number
-started inner a b c d e kind level link la l be ce k li small de s =
+started inner a b c d e kind level link la az be ce k li small de s =
+    let l : length a ≡ 4096 = ap length az ∙ length-replicate {A = ℕ} 4096 0 in
     let lb : length b ≡ 4096 = ap length be ∙ length-set {A = ℕ} a 0 kind ∙ l in
     let lc : length c ≡ 4096 = ap length ce ∙ length-set {A = ℕ} b 1 level ∙ lb in
     let places : (la ≡ 12) ⊎ (la ≡ 8) = two inner la li in
@@ -296,6 +366,18 @@ started inner a b c d e kind level link la l be ce k li small de s =
       fits = omega arith;
       text = ap (λ n. take n (drop 16 e)) none ∙ sym (spelling-none inner);
       proper = tt;
+      zeros = λ m u.
+          let q = unused_apart inner (16 + length (spelling inner [])) m (omega arith) u in
+          let few : m < 4096 = unused_few inner (16 + length (spelling inner [])) m u in
+          let le = s.head.same_length in
+          let at_link : take 1 (drop m d) ≡ take 1 (drop m c) = ap (λ r. take 1 (drop m r)) de
+          ∙ elim (q.1) [
+            | inl f ↦ below c (to_le_bytes w32 link) la 4 m 1 (omega arith) (omega arith)
+            | inr f ↦ above c (to_le_bytes w32 link) la 4 m 1 (omega arith) (omega arith) refl
+          ] in
+          byte-same c e m (omega arith) (le ∙ ld ∙ sym lc) (s.body m 1 (q.0) ∙ at_link)
+          ∙ ap (λ r. slice_index r m) ce ∙ get_or-set_other b 1 m level 0 (omega arith) ∙ ap (λ r. slice_index r m) be ∙ get_or-set_other a 0 m kind 0 (omega arith)
+          ∙ ap (λ r. slice_index r m) az ∙ get_or-replicate 4096 m 0 0 few;
     }
   where
     two : (inner : Bool) (la : ℕ) → la ≡ link_at inner → (la ≡ 12) ⊎ (la ≡ 8)

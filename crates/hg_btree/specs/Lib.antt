@@ -1,4 +1,5 @@
 pub mod Entries
+pub mod Keys
 pub mod Nodes
 pub mod Writing
 pub mod Trees

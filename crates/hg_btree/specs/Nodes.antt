@@ -8,7 +8,7 @@
 --   from 16 on   the entries one behind the other: two bytes length of the key, eight bytes place, the
 --                key, and in an inner page four bytes number of the child
 -- All numbers have their least byte first. All other bytes are zero.
-use Rattle.std.specs.Prelude.{◌≡◌, ℕ, ◌+◌, ◌^◌, ◌<◌, ◌≤◌, nat_lt, Bool, true, false, List, [], ◌∷◌, ◌++◌, length, take, drop, slice_index, Option, Some, None, ⊤}
+use Rattle.std.specs.Prelude.{◌≡◌, ℕ, ◌+◌, ◌^◌, ◌<◌, ◌≤◌, nat_lt, Bool, true, false, List, [], ◌∷◌, ◌++◌, length, take, drop, slice_index, Option, Some, None, ⊤, ◌⊎◌}
 use Rattle.std.specs.Int.{w16, w32, w64, from_le_bytes, to_le_bytes}
 use Rattle.hg_btree.specs.Entries.{Entry, AllBy, Before, NotBehind, IsSame}
 
@@ -54,6 +54,15 @@ abbrev pub link_at : Bool → ℕ
 link_at true = 12
 link_at false = 8
 
+-- the place of the four bytes that only the other kind of page uses
+abbrev pub unused_at : Bool → ℕ
+unused_at true = 8
+unused_at false = 12
+
+-- A byte of a page that has no meaning, where the entries end at `end`.
+abbrev pub IsUnused : Bool → ℕ → ℕ → Type 0
+IsUnused inner end m = ((6 ≤ m) × (m < 8)) ⊎ (((unused_at inner ≤ m) × (m < unused_at inner + 4)) ⊎ ((end ≤ m) × (m < 4096)))
+
 -- Which bytes are a page with these entries. Its link is the next leaf, or the first child.
 pub record IsNode (inner : Bool) (page : List ℕ) (level link : ℕ) (es : List Entry) : Type 0 where
   pub whole : length page ≡ 4096
@@ -65,6 +74,7 @@ pub record IsNode (inner : Bool) (page : List ℕ) (level link : ℕ) (es : List
   pub fits : 16 + length (spelling inner es) ≤ 4096
   pub text : take (length (spelling inner es)) (drop 16 page) ≡ spelling inner es
   pub proper : AllBy IsProper es
+  pub zeros : (m : ℕ) → IsUnused inner (16 + length (spelling inner es)) m → slice_index page m ≡ 0
 
 -- fewer bytes are free on a page than the longest entry takes
 abbrev pub crowded_page : List ℕ → Bool

@@ -2,8 +2,10 @@
 ghost use Rattle.std.specs.Prelude.{◌≡◌, ℕ, ◌+◌, ◌-◌, ◌*◌, ◌≤◌, ◌<◌, ◌^◌, Bool, true, false, List, length, take, drop, Some, None, IsOk, IfOk, Ok, IfErr, OnErr, slice_index, ◌⊎◌};
 ghost use Rattle.std.specs.Ordering.{is_gt};
 ghost use Rattle.hg_btree.specs.Entries.{Entry, order};
+ghost use Rattle.hg_btree.specs.Keys.{word_of};
 ghost use Rattle.hg_btree.specs.Nodes.{number, page_number, place_at, width, IsNode, Reads, Passed, IsSpot, IsWay, IsFirst, kind_of, crowded_page};
 
+use crate::keys::{compare_rest, first_word, first_word_in};
 use arrayvec::ArrayVec;
 use hg_base::{Check, get_u16, get_u32, get_u64};
 use std::cmp::Ordering;
@@ -127,18 +129,33 @@ pub fn entry_end(page: &[u8], inner: bool, at: usize, end: usize) -> Result<usiz
     Ok(after)
 }
 
-/// How the entry that begins at `at` and whose key ends at `key_end` compares.
-pub fn compare_at(page: &[u8], at: usize, key_end: usize, key: &[u8], place: u64) -> Ordering
+/// How the entry that begins at `at` and whose key ends at `key_end` compares. `first` is the first word
+/// of the other key: mostly that decides.
+fn compare_at(
+    page: &[u8],
+    at: usize,
+    key_end: usize,
+    first: u64,
+    key: &[u8],
+    place: u64,
+) -> Ordering
     requires from { at + 10 ≤ key_end }
     requires to { key_end ≤ length page.now }
+    requires first { first ≡ word_of key.now }
     ensures { result ≡ order (take (key_end - (at + 10)) (drop (at + 10) page.now)) (place_at page.now (at + 2)) key.now place }
 {
-    compare(
-        &page[at + BEFORE_KEY..key_end],
-        place_of(page, at + 2),
-        key,
-        place,
-    )
+    let own = first_word_in(page, at + BEFORE_KEY, key_end);
+    if own < first {
+        return Ordering::Less;
+    }
+    if own > first {
+        return Ordering::Greater;
+    }
+    match compare_rest(&page[at + BEFORE_KEY..key_end], key) {
+        Ordering::Less => Ordering::Less,
+        Ordering::Equal => place_of(page, at + 2).cmp(&place),
+        Ordering::Greater => Ordering::Greater,
+    }
 }
 
 /// Where an entry stands on a page whose bytes may be any.
@@ -151,10 +168,15 @@ pub fn find(page: &[u8], inner: bool, key: &[u8], place: u64) -> Result<Spot, Ch
     ensures wrong { IfErr result (λ c. c ≡ Check.Size) }
 {
     let end = end_of(page)?;
+    let first = first_word(key);
     let mut at = HEAD;
-    while at < end {
-        let after = entry_end(page, inner, at, end)?;
-        match compare_at(page, at, after - tail(inner), key, place) {
+    while at + BEFORE_KEY <= end {
+        let key_end = at + BEFORE_KEY + number_at(page, at);
+        let after = key_end + tail(inner);
+        if after > end {
+            return Err(Check::Size);
+        }
+        match compare_at(page, at, key_end, first, key, place) {
             Ordering::Less => at = after,
             Ordering::Equal => {
                 return Ok(Spot {
@@ -172,6 +194,9 @@ pub fn find(page: &[u8], inner: bool, key: &[u8], place: u64) -> Result<Spot, Ch
             }
         }
     }
+    if at < end {
+        return Err(Check::Size);
+    }
     Ok(Spot {
         at,
         after: at,
@@ -188,12 +213,13 @@ pub struct Onward {
 }
 
 /// Whether the entry that begins at `at` and whose key ends at `key_end` is behind another.
-fn is_behind(page: &[u8], at: usize, key_end: usize, key: &[u8], place: u64) -> bool
+fn is_behind(page: &[u8], at: usize, key_end: usize, first: u64, key: &[u8], place: u64) -> bool
     requires from { at + 10 ≤ key_end }
     requires to { key_end ≤ length page.now }
+    requires first { first ≡ word_of key.now }
     ensures { result ≡ is_gt (order (take (key_end - (at + 10)) (drop (at + 10) page.now)) (place_at page.now (at + 2)) key.now place) }
 {
-    match compare_at(page, at, key_end, key, place) {
+    match compare_at(page, at, key_end, first, key, place) {
         Ordering::Less => false,
         Ordering::Equal => false,
         Ordering::Greater => true,
@@ -210,16 +236,24 @@ pub fn way(page: &[u8], key: &[u8], place: u64) -> Result<Onward, Check>
     ensures wrong { IfErr result (λ c. c ≡ Check.Size) }
 {
     let end = end_of(page)?;
+    let first = first_word(key);
     let mut at = HEAD;
-    while at < end {
-        let after = entry_end(page, true, at, end)?;
-        if is_behind(page, at, after - 4, key, place) {
+    while at + BEFORE_KEY <= end {
+        let key_end = at + BEFORE_KEY + number_at(page, at);
+        let after = key_end + 4;
+        if after > end {
+            return Err(Check::Size);
+        }
+        if is_behind(page, at, key_end, first, key, place) {
             return Ok(Onward {
                 at,
                 child: page_number_at(page, at - 4),
             });
         }
         at = after;
+    }
+    if at < end {
+        return Err(Check::Size);
     }
     Ok(Onward {
         at,

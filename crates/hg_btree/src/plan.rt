@@ -1,5 +1,5 @@
 //! What a split is to write: it is put together in copies of the pages, before any page is changed.
-ghost use Rattle.std.specs.Prelude.{◌≡◌, ℕ, ◌+◌, ◌≤◌, ◌<◌, true, List, length, IfOk, IfErr, OnErr, IsOk, Some};
+ghost use Rattle.std.specs.Prelude.{◌≡◌, ℕ, ◌+◌, ◌≤◌, ◌<◌, true, List, [], length, replicate, IfOk, IfErr, OnErr, IsOk, Some};
 ghost use Rattle.hg_base.specs.Space.{NoPins, IsFree, key as page_key};
 ghost use Rattle.hg_base.specs.Causes.{HasCause, fault_of};
 ghost use Rattle.hg_btree.specs.Entries.{Entry};
@@ -28,7 +28,12 @@ pub struct Sheets {
 
 impl Sheets {
     /// Sheets with nothing on them.
-    pub fn new() -> Sheets {
+    pub fn new() -> Sheets
+        ensures above { result.above ≡ replicate 4096 0 }
+        ensures lower { result.lower ≡ replicate 4096 0 }
+        ensures upper { result.upper ≡ replicate 4096 0 }
+        ensures key { result.key.items ≡ [] }
+    {
         Sheets {
             above: [0; PAGE],
             lower: [0; PAGE],

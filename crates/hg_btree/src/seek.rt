@@ -5,7 +5,7 @@ ghost use Rattle.hg_base.specs.Causes.{HasCause, fault_of};
 ghost use Rattle.hg_base.specs.declared.PageId.{PageId as PageIdOf};
 ghost use Rattle.hg_btree.specs.Entries.{Entry};
 ghost use Rattle.hg_btree.specs.Nodes.{IsFirst};
-ghost use Rattle.hg_btree.specs.Trees.{IsTree, HasTree, Reached};
+ghost use Rattle.hg_btree.specs.Trees.{IsTree, HasTree, Reached, Along, pages_of};
 ghost use Rattle.hg_btree.specs.Steps.{Looks, LookFault};
 
 use crate::look::{OnLeaf, look, look_along};
@@ -52,6 +52,41 @@ pub fn leaf_of<S: Pages>(
     Ok(found.child)
 }
 
+/// The place of the first entry that is not before the one given, where all before this leaf, the second
+/// on the way along them, are. Its key is put into `out`. It ends by the number of pages taken.
+fn seek_on<S: Pages>(
+    tree: Tree,
+    space: &mut S,
+    second: u32,
+    key: &[u8],
+    place: u64,
+    out: &mut ArrayVec<u8, 512>,
+) -> Result<Option<u64>, PageFault>
+    requires no_pins { NoPins (S.state space.old) }
+    requires there { (S.state space.old).told ≡ true → (es : List Entry) × (pages : List ℕ) × (leaves : ℕ) × IsTree tree.file (S.state space.old) tree.top es pages leaves
+        × Along (pages_of tree.file (S.state space.old)) es pages (record { key = key.now; place = place; child = 0 }) second 1 }
+    ensures first { IfOk result (λ found. (es : List Entry) (pages : List ℕ) (leaves : ℕ) → IsTree tree.file (S.state space.old) tree.top es pages leaves
+        → Along (pages_of tree.file (S.state space.old)) es pages (record { key = key.now; place = place; child = 0 }) second 1
+        → IsFirst es (record { key = key.now; place = place; child = 0 }) found out.new.items) }
+    ensures looks { Looks (S.state space.old) (S.state space.new) }
+    ensures cause { HasCause (S.state space.old) (S.state space.new) (fault_of result) }
+    ensures fault { IfErr result (LookFault tree.file) }
+{
+    let mut leaf = second;
+    for _turn in 1..space.taken(tree.file) {
+        let on = look_along(space, page_in(tree.file, leaf), key, place, out)?;
+        match on {
+            OnLeaf::Entry(place) => return Ok(Some(place)),
+            OnLeaf::End => return Ok(None),
+            OnLeaf::Next(next) => leaf = next,
+        }
+    }
+    Err(PageFault::Damaged {
+        page: page_in(tree.file, leaf),
+        check: Check::Order,
+    })
+}
+
 /// The place of the first entry of a tree that is not before the one given. Its key is put into `out`.
 pub fn seek<S: Pages>(
     tree: Tree,
@@ -68,17 +103,11 @@ pub fn seek<S: Pages>(
     ensures cause { HasCause (S.state space.old) (S.state space.new) (fault_of result) }
     ensures fault { IfErr result (LookFault tree.file) }
 {
-    let mut leaf = leaf_of(tree, space, key, place)?;
-    for _turn in 0..space.taken(tree.file) {
-        let on = look_along(space, page_in(tree.file, leaf), key, place, out)?;
-        match on {
-            OnLeaf::Entry(place) => return Ok(Some(place)),
-            OnLeaf::End => return Ok(None),
-            OnLeaf::Next(next) => leaf = next,
-        }
+    let leaf = leaf_of(tree, space, key, place)?;
+    let on = look_along(space, page_in(tree.file, leaf), key, place, out)?;
+    match on {
+        OnLeaf::Entry(place) => Ok(Some(place)),
+        OnLeaf::End => Ok(None),
+        OnLeaf::Next(next) => seek_on(tree, space, next, key, place, out),
     }
-    Err(PageFault::Damaged {
-        page: page_in(tree.file, leaf),
-        check: Check::Order,
-    })
 }

@@ -1,5 +1,5 @@
 //! Changes of the pages of an ordered tree, in place.
-ghost use Rattle.std.specs.Prelude.{◌≡◌, ℕ, ◌+◌, ◌-◌, ◌≤◌, ◌<◌, ◌^◌, Bool, true, false, List, [], ◌∷◌, ◌++◌, length, take, drop, slice_index};
+ghost use Rattle.std.specs.Prelude.{◌≡◌, ℕ, ◌+◌, ◌-◌, ◌≤◌, ◌<◌, ◌^◌, Bool, true, false, List, [], ◌∷◌, ◌++◌, length, take, drop, replicate, slice_index};
 ghost use borrow.Rule.Slice.PartMut.{put_mid};
 ghost use Rattle.hg_btree.specs.Entries.{Entry};
 ghost use Rattle.hg_btree.specs.Nodes.{number, width, child_bytes, kind_of, link_at, spelled, spelling, IsNode};
@@ -44,7 +44,7 @@ pub fn write_entry(bytes: &mut [u8], inner: bool, key: &[u8], place: u64, child:
 
 /// Makes all bytes zero.
 pub fn clear(bytes: &mut [u8])
-    ensures { length bytes.new ≡ length bytes.old }
+    ensures { bytes.new ≡ replicate (length bytes.old) 0 }
 {
     bytes.fill(0);
 }

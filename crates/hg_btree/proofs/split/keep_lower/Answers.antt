@@ -1,5 +1,5 @@
-use Rattle.std.specs.Prelude.{ℕ, ◌-◌, List, drop}
-use Rattle.std.proofs.Common.{◌∙◌, refl, arith, length-take, length-drop}
+use Rattle.std.specs.Prelude.{ℕ, ◌-◌, List, replicate, drop}
+use Rattle.std.proofs.Common.{◌∙◌, ap, refl, arith, length-take, length-drop}
 use borrow.Rule.Slice.PartMut.{put_mid}
 use Rattle.hg_btree.proofs.Splitting.{lower_kept}
 use Rattle.hg_btree.proofs.split.keep_lower.Goals as goal
@@ -14,4 +14,4 @@ returns c = λ inner level link done todo h a k.
     let w = c.requires.whole in
     let o = c.requires.ends in
     lower_kept inner p (put_mid at (end - at) p c.clear.new.bytes) c.set_head.new.page c.clear.new.bytes level link at end c.args.count (end - at) done todo h a e refl
-    (c.clear.ensures ∙ length-take (end - at) (drop at p) ∙ (let d = length-drop at p in omega arith)) refl k c.set_head.ensures
+    (c.clear.ensures ∙ ap (λ n. replicate n 0) (length-take (end - at) (drop at p) ∙ (let d = length-drop at p in omega arith))) refl k c.set_head.ensures

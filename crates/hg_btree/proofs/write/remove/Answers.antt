@@ -1,5 +1,5 @@
-use Rattle.std.specs.Prelude.{ℕ, ◌-◌, List, drop}
-use Rattle.std.proofs.Common.{◌∙◌, refl, arith, length-take, length-drop}
+use Rattle.std.specs.Prelude.{ℕ, ◌-◌, List, replicate, drop}
+use Rattle.std.proofs.Common.{◌∙◌, ap, refl, arith, length-take, length-drop}
 use borrow.Rule.Slice.PartMut.{put_mid}
 use Rattle.hg_btree.proofs.Writing.{removed}
 use Rattle.hg_btree.proofs.write.remove.Goals as goal
@@ -16,11 +16,10 @@ returns c = λ inner level link done x todo h a f.
     let inside = c.requires.inside in
     let whole = c.requires.whole in
     let lm = c.copy_within.ensures.len in
-    let lc = c.clear.ensures in
     removed inner c.args.page.now moved (put_mid free (end - free) moved c.clear.new.bytes) c.set_head.new.page c.clear.new.bytes level link done x todo
     at c.args.after end c.saturating_sub.result free (end - free)
     h a f e c.copy_within.ensures.after refl refl
-    (lc ∙ length-take (end - free) (drop free moved) ∙ (let d = length-drop free moved in omega arith))
+    (c.clear.ensures ∙ ap (λ n. replicate n 0) (length-take (end - free) (drop free moved) ∙ (let d = length-drop free moved in omega arith)))
     refl
     (let s = c.saturating_sub.ensures in let v = c.number_at-count.ensures.value in omega arith)
     c.set_head.ensures
