@@ -1,0 +1,7 @@
+mod Orders
+mod Walking
+mod Looking
+mod Keys
+mod Telling
+mod Changing
+mod Trying

@@ -1,0 +1,12 @@
+pub mod Bags
+pub mod Entering
+pub mod Agreeing
+pub mod Finding
+pub mod Walks
+pub mod Calls
+pub mod TreeLaws
+pub mod IndexLaws
+pub mod AgreeLaws
+pub mod RowLaws
+pub mod BuildLaws
+pub mod CountLaws
