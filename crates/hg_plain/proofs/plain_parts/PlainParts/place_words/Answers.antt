@@ -1,0 +1,39 @@
+use Rattle.std.proofs.Common.{◌≡◌, ◌∙◌, ap, sym, subst, refl, arith, ℕ, ◌+◌, ◌<◌, ◌≤◌, List, Option, Some, None, IsSome, IsOk, option_map, length}
+use Rattle.std.specs.Vec.{with_item}
+use Rattle.hg_base.specs.Content.{Object, Objects, row_object, directory, placed, object_size}
+use Rattle.hg_base.specs.HeapContent.{with_object, with_link, no_links, link_of, changed_at, changed_by, named_by, room_left}
+use Rattle.hg_base.specs.HeapFacts.{AreWellPlaced, LeadsBelow}
+use Rattle.hg_base.specs.HeapStates.{HasWord}
+use Rattle.hg_plain.specs.Plain.{heap_at}
+use Rattle.hg_plain.specs.PlainObjects.{objects_in, frames_in}
+use Rattle.hg_plain.specs.PlainSpaces.{state_of, IsWhole}
+use Rattle.hg_plain.specs.declared.plain_heap.PlainHeap.{PlainHeap}
+use Rattle.hg_plain.specs.declared.plain_objects.HeapObjects.{HeapObjects}
+use Rattle.hg_plain.specs.declared.plain_parts.PlainParts.{PlainParts}
+use Rattle.hg_plain.specs.PlainChanges.{LockedAt, Found, locked-at, words-locked, found-locked, state-objects, whole-objects, on-ok, on-both}
+use Rattle.hg_plain.specs.PlainWell.{well-object, well-root, well-changed, link-below, link-alike, none-lead, length-last, length-changed_in}
+use Rattle.hg_plain.proofs.plain_parts.PlainParts.place_words.Goals as goal
+
+pub returns-clause-ok : goal.returns-clause-ok
+returns-clause-ok c =
+    let s : PlainParts = c.args.self.now in
+    let h : ℕ = c.args.h.0 in
+    let x : PlainHeap = c.in-Some.heap in
+    let o : HeapObjects = c.place_words.new.self in
+    let f : Found s h x = found-locked s h c.index_mut.result.now x (locked-at s h c.requires.locked) c.index_mut.ensures.value c.in-Some.is in
+    on-ok c.place_words.result (λ e. state-objects s h x o (λ a frames. with_object a (directory (no_links c.args.n))) f.is f.locked e c.place_words.ensures.frames
+    (ap (λ (z : Objects). length z.layout) e ∙ length-last x.objects.layout.items (directory (no_links c.args.n)))) c.place_words.ensures.ok
+
+pub returns-clause-whole : goal.returns-clause-whole
+returns-clause-whole c =
+    let s : PlainParts = c.args.self.now in
+    let h : ℕ = c.args.h.0 in
+    let x : PlainHeap = c.in-Some.heap in
+    let o : HeapObjects = c.place_words.new.self in
+    let f : Found s h x = found-locked s h c.index_mut.result.now x (locked-at s h c.requires.locked) c.index_mut.ensures.value c.in-Some.is in
+    let r : Object = directory (no_links c.args.n) in
+    on-both c.place_words.result c.place_words.ensures.ok c.place_words.ensures.err
+    (λ k e. whole-objects s h x o c.requires.whole f.is f.locked (ap (λ (z : Objects). length z.layout) e ∙ length-last x.objects.layout.items r)
+    (subst (λ z. AreWellPlaced z) (sym e) (well-object x.objects.layout.items x.objects.roots r (f.well c.requires.whole)
+    (none-lead (length (placed (objects_in x.objects)) + 1) c.args.n) (c.place_words.ensures.room.0 k))))
+    (λ e. whole-objects s h x o c.requires.whole f.is f.locked (ap (λ (z : HeapObjects). length z.layout.items) e) (subst (λ z. AreWellPlaced (objects_in z)) (sym e) (f.well c.requires.whole)))
