@@ -1,17 +1,18 @@
 -- What snapshots see of versions some of which were deleted under one stamp.
 use Rattle.std.specs.Prelude.{◌≡◌, ℕ, ◌+◌, ◌<◌, ◌≤◌, ◌&&◌, ◌||◌, not, nat_lt, nat_le, Bool, true, false, List, [], ◌∷◌, ◌++◌, length, map, Option, Some, None, MatchOption, ⊤, if◌then◌else◌}
-use Rattle.std.specs.List.{AllByRecursion, filter, count_by, sum_by}
+use Rattle.std.specs.List.{AllByRecursion, filter}
 use Rattle.std.specs.Cmp.{first_so, second_so}
 use Rattle.std.proofs.Common.{sym, ◌∙◌, ap, subst, refl, arith, inl, inr, append_assoc, length-append}
 use Rattle.std.proofs.lemmas.Bool.{false≢true, cases_Bool}
 use Rattle.std.proofs.lemmas.List.{append-nil, map-append, length-map}
-use Rattle.std.proofs.lemmas.List.Sums.{sum_by-append, sum_by_push}
+use Rattle.std.proofs.lemmas.List.Elements.{filter-append}
+use Rattle.std.proofs.lemmas.List.Sums.{length-filter}
 use Rattle.hg_model.specs.Visible.{is_alive}
 use Rattle.hg_model.specs.declared.values.Value.{Value}
 use Rattle.hg_table.specs.Sightings.{IsUnseen}
 use Rattle.hg_table.specs.Versions.{Placed}
-use Rattle.hg_dml.specs.Deleting.{dead, is_going, deleted_at, deleted, AgreeUpTo, Misses, IsHidden, IsDeleted}
-use Rattle.hg_dml.specs.Seen.{is_seen, row_of, seen_rows, IsPast}
+use Rattle.hg_dml.specs.Deleting.{dead, is_going, deleted_at, deleted, AgreeUpTo, IsHidden, IsDeleted}
+use Rattle.hg_dml.specs.Seen.{is_seen, row_of, seen_rows, IsPast, Misses}
 use Rattle.hg_dml.specs.SeenLaws.{lt-no, lt-yes, seen-later, seen_rows-cons, seen_rows-append}
 
 either-first : (a b : Bool) → (a || b) ≡ true → b ≡ false → a ≡ true
@@ -158,7 +159,7 @@ all-last : {X : Type 0} (P : X → Type 0) (xs ys : List X) → AllByRecursion P
 all-last P [] ys h = h
 all-last P (x ∷ xs) ys h = all-last P xs ys h.1
 
-all-append : {X : Type 0} (P : X → Type 0) (xs ys : List X) → AllByRecursion P xs → AllByRecursion P ys → AllByRecursion P (xs ++ ys)
+pub all-append : {X : Type 0} (P : X → Type 0) (xs ys : List X) → AllByRecursion P xs → AllByRecursion P ys → AllByRecursion P (xs ++ ys)
 all-append P [] ys p q = q
 all-append P (x ∷ xs) ys p q = (p.0, all-append P xs ys p.1 q)
 
@@ -182,28 +183,28 @@ module _ (c : ℕ → Bool) (s stamp : ℕ) (goes : List Value → Bool) where
   none-seen [] h = refl
   none-seen (v ∷ vs) h = seen_rows-cons c s v vs ∙ ap (λ b. if b then row_of v ∷ seen_rows c s vs else seen_rows c s vs) h.0 ∙ none-seen vs h.1
 
-  -- the count does not grow by versions that are not seen
-  pub count-unseen : (done left : List Placed) → AllByRecursion (IsUnseen c s) left
-      → count_by goes (seen_rows c s (done ++ left)) ≡ count_by goes (seen_rows c s done)
-  count-unseen done left none =
-      ap (count_by goes) (seen_rows-append c s done left ∙ ap (λ rs. seen_rows c s done ++ rs) (none-seen left none) ∙ append-nil (seen_rows c s done))
+  -- the rows that go do not grow by versions that are not seen
+  pub going-unseen : (done left : List Placed) → AllByRecursion (IsUnseen c s) left
+      → filter goes (seen_rows c s (done ++ left)) ≡ filter goes (seen_rows c s done)
+  going-unseen done left none =
+      ap (filter goes) (seen_rows-append c s done left ∙ ap (λ rs. seen_rows c s done ++ rs) (none-seen left none) ∙ append-nil (seen_rows c s done))
 
   -- one version more that is seen, behind others that are not
-  pub count-next : (done before : List Placed) (v : Placed) → AllByRecursion (IsUnseen c s) before → is_seen c s v ≡ true
-      → count_by goes (seen_rows c s ((done ++ before) ++ v ∷ [])) ≡ count_by goes (seen_rows c s done) + (if goes (row_of v) then 1 else 0)
-  count-next done before v none seen =
+  pub going-next : (done before : List Placed) (v : Placed) → AllByRecursion (IsUnseen c s) before → is_seen c s v ≡ true
+      → filter goes (seen_rows c s ((done ++ before) ++ v ∷ [])) ≡ filter goes (seen_rows c s done) ++ (if goes (row_of v) then row_of v ∷ [] else [])
+  going-next done before v none seen =
       let one : seen_rows c s (v ∷ []) ≡ row_of v ∷ [] = seen_rows-cons c s v [] ∙ ap (λ b. if b then row_of v ∷ [] else []) seen in
-      ap (count_by goes) (seen_rows-append c s (done ++ before) (v ∷ []) ∙ ap (λ rs. seen_rows c s (done ++ before) ++ rs) one)
-      ∙ sum_by_push (λ row. if goes row then 1 else 0) (seen_rows c s (done ++ before)) (row_of v)
-      ∙ ap (λ n. n + (if goes (row_of v) then 1 else 0)) (count-unseen done before none)
+      ap (filter goes) (seen_rows-append c s (done ++ before) (v ∷ []) ∙ ap (λ rs. seen_rows c s (done ++ before) ++ rs) one)
+      ∙ filter-append goes (seen_rows c s (done ++ before)) (row_of v ∷ [])
+      ∙ ap (λ l. l ++ (if goes (row_of v) then row_of v ∷ [] else [])) (going-unseen done before none)
 
   -- all were deleted where none of those that are left is seen
-  pub deleted-all : (done left : List Placed) (n : ℕ) → s < stamp → AllByRecursion (IsUnseen c s) left → n ≡ count_by goes (seen_rows c s done)
+  pub deleted-all : (done left : List Placed) (n : ℕ) → s < stamp → AllByRecursion (IsUnseen c s) left → n ≡ length (filter goes (seen_rows c s (done ++ left)))
       → IsDeleted c s stamp goes (done ++ left) (gone done ++ left) n
   deleted-all done left n before none count = record {
     hidden = hidden-first done left;
     seen = λ marks later agree shown behind past.
         let whole : gone (done ++ left) ≡ gone done ++ left = deleted-append c s stamp goes done left ∙ ap (λ l. gone done ++ l) (none-deleted c s stamp goes left none) in
         ap (seen_rows marks later) (sym whole) ∙ seen-all c s stamp goes marks later before agree shown behind (done ++ left) past;
-    number = count ∙ sym (count-unseen done left none);
+    number = count ∙ length-filter goes (seen_rows c s (done ++ left));
   }

@@ -5,4 +5,12 @@ pub mod Fits
 pub mod Told
 pub mod DeletedLaws
 pub mod WalkLaws
+pub mod DeleteLaws
+pub mod MakingLaws
+pub mod AsideLaws
+pub mod ChangeLaws
+pub mod StoreLaws
+pub mod UpdatedLaws
+pub mod UpdateLaws
+pub mod EndingLaws
 pub mod FilterLaws

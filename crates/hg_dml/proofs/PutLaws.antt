@@ -10,8 +10,8 @@ use Rattle.std.proofs.lemmas.Option.{none-some}
 use Rattle.hg_base.specs.Space.{Space, Counts, NoPins, at, key_in, taken_in, taken_below}
 use Rattle.hg_base.specs.Lines.{NoneMine, has_page, last_of}
 use Rattle.hg_base.specs.Steadiness.{Mine, Steady}
-use Rattle.hg_base.specs.SteadyLaws.{Steady_same, Steady_then, Steady_wider, main_failed, temp_failed}
-use Rattle.hg_base.specs.TakenLaws.{AreDistinctPages, taken_below-new, taken_below-other, key_in-apart}
+use Rattle.hg_base.specs.SteadyLaws.{Later_same, Steady_same, Steady_then, Steady_wider, HasCause_behind, main_failed, temp_failed}
+use Rattle.hg_base.specs.TakenLaws.{AreDistinctPages, taken_below-new, taken_below-other, key_in-one, key_in-apart}
 use Rattle.hg_base.specs.declared.File.TheVariants.{Main, Temp}
 use Rattle.hg_base.specs.declared.Place.{Place}
 use Rattle.hg_base.specs.declared.Table.{Table}
@@ -72,11 +72,11 @@ among-taken taken n (y ∷ ys) x d h = elim (eqb_tells y x) [
 ]
 
 -- a page that is not taken now was not taken before
-not-before : (a b : Space) (q : ℕ) → ((p : ℕ) → a.taken p ≡ true → b.taken p ≡ true) → b.taken q ≡ false → a.taken q ≡ false
+pub not-before : (a b : Space) (q : ℕ) → ((p : ℕ) → a.taken p ≡ true → b.taken p ≡ true) → b.taken q ≡ false → a.taken q ≡ false
 not-before a b q stays none = false_from_ne_true (a.taken q) (λ yes. false≢true (sym none ∙ stays q yes))
 
 -- a page that is among the first ones is among all
-has_page-before : (xs ys : List ℕ) (x : ℕ) → has_page xs x ≡ true → has_page (xs ++ ys) x ≡ true
+pub has_page-before : (xs ys : List ℕ) (x : ℕ) → has_page xs x ≡ true → has_page (xs ++ ys) x ≡ true
 has_page-before [] ys x h = absurd (false≢true h)
 has_page-before (z ∷ zs) ys x h = elim (eqb_tells z x) [
   | inl e ↦ ap (λ b. b || has_page (zs ++ ys) x) e.0
@@ -84,7 +84,7 @@ has_page-before (z ∷ zs) ys x h = elim (eqb_tells z x) [
 ]
 
 -- the pages of a line are of no heap
-among-no-heap : (s : Space) (xs : List ℕ) (x : ℕ) → AllByRecursion (λ y. s.of_heap (key_in Main y) ≡ false) xs → has_page xs x ≡ true
+pub among-no-heap : (s : Space) (xs : List ℕ) (x : ℕ) → AllByRecursion (λ y. s.of_heap (key_in Main y) ≡ false) xs → has_page xs x ≡ true
     → s.of_heap (key_in Main x) ≡ false
 among-no-heap s [] x all h = absurd (false≢true h)
 among-no-heap s (y ∷ ys) x all h = elim (eqb_tells y x) [
@@ -176,13 +176,28 @@ module _ (a b c : Space) (mid new : Table) (pages now : List ℕ) (m n stamp : �
     | inr k ↦ last-among put.now place.page (sym put.chain.last ∙ k.last)
   ]
 
+  -- the pages of the table as it stands stay its pages
+  stays-among : (x : ℕ) → has_page now x ≡ true → has_page put.now x ≡ true
+  stays-among x among = elim put.grown [
+    | inl same ↦ subst (λ l. has_page l x ≡ true) (sym same) among
+    | inr more ↦ subst (λ l. has_page l x ≡ true) (sym more) (has_page-before now (place.page ∷ []) x among)
+  ]
+
   last-among-now : (x : ℕ) → mid.last ≡ Some x → has_page put.now x ≡ true
-  last-among-now x e =
-      let among : has_page now x ≡ true = last-among now x (sym g.chain.last ∙ e) in
-      elim put.grown [
-        | inl same ↦ subst (λ l. has_page l x ≡ true) (sym same) among
-        | inr more ↦ subst (λ l. has_page l x ≡ true) (sym more) (has_page-before now (place.page ∷ []) x among)
-      ]
+  last-among-now x e = stays-among x (last-among now x (sym g.chain.last ∙ e))
+
+  owned-before : (x : ℕ) → b.taken (key_in Main x) ≡ true → (a.taken (key_in Main x) ≡ true) ⊎ (has_page put.now x ≡ true)
+  owned-before x h = elim (g.owned x h) [ inl was ↦ inl was | inr on ↦ inr (stays-among x on) ]
+
+  -- a page that is taken newly is one of the table
+  step-owned : (x : ℕ) → c.taken (key_in Main x) ≡ true → (a.taken (key_in Main x) ≡ true) ⊎ (has_page put.now x ≡ true)
+  step-owned x h = elim o.pages [
+    | inl k ↦ owned-before x (subst (λ f. f (key_in Main x) ≡ true) k.taken h)
+    | inr k ↦ elim (eqb_tells (key_in Main x) key) [
+      | inl e ↦ inr (subst (λ p. has_page put.now p ≡ true) (sym (key_in-one Main x place.page e.1)) place-among)
+      | inr apart ↦ owned-before x (sym (ap (λ t. if t then true else b.taken (key_in Main x)) apart.0) ∙ subst (λ f. f (key_in Main x) ≡ true) k.taken h)
+    ]
+  ]
 
   -- the last page of the table is of no heap
   last-no-heap : (l : Option ℕ) (q : ℕ) → mid.last ≡ l → IsNamed l q → c.of_heap q ≡ false
@@ -215,6 +230,7 @@ module _ (a b c : Space) (mid new : Table) (pages now : List ℕ) (m n stamp : �
     none_lent = step-none-lent;
     more = let up = g.more in let more = one-more.0 in omega arith;
     few = let up = g.few in let more = one-more.1 in omega arith;
+    owned = step-owned;
     temp = step-temp ∙ g.temp;
   }
 
@@ -230,6 +246,7 @@ puts-none a t pages stamp columns pins chain = record {
     none_lent = λ none. none;
     more = omega arith;
     few = omega arith;
+    owned = λ x h. inl h;
     temp = refl;
   };
   joined = λ versions table. (versions, table, joined-none stamp versions);
@@ -269,6 +286,7 @@ puts-still a b c old new pages stamp columns rows p steady taken =
         none_lent = λ none. none-lent-after none_mine b c steady (λ q no. absurd no) (g.none_lent none);
         more = let up = g.more in omega arith;
         few = let up = g.few in omega arith;
+        owned = λ x h. g.owned x (sym (ap (λ f. f (key_in Main x)) taken) ∙ h);
         temp = (λ i. taken_below (taken i) Temp (c.limit Temp)) ∙ ap (λ l. taken_below b.taken Temp (l Temp)) steady.limit ∙ g.temp;
       };
       joined = λ versions table.
@@ -320,6 +338,7 @@ puts-failed a b c old mid pages stamp columns done rows f p less steady taken h 
 -- Where a loop over rows stands: the first of them were put.
 pub record PutSoFar (a b : Space) (old now : Table) (stamp : ℕ) (rows done : List (List Value)) : Type 0 where
   pub pins : NoPins b
+  pub cause : HasCause a b None
   pub chain : (pages : List ℕ) × IsChain b now pages
   pub whole : b.told ≡ true → HasTable b now
   pub puts : (pages : List ℕ) (columns : List Column) → IsChain a old pages → FitRows columns rows → Puts a b old now pages stamp columns done
@@ -327,17 +346,22 @@ pub record PutSoFar (a b : Space) (old now : Table) (stamp : ℕ) (rows done : L
 pub put-begins : (a : Space) (t : Table) (stamp : ℕ) (rows : List (List Value)) → NoPins a → CanPut a t rows → PutSoFar a a t t stamp rows []
 put-begins a t stamp rows pins can = record {
   pins = pins;
+  cause = record { later = Later_same a.counts; counts = refl; damage = tt };
   chain = (can.pages, can.chain);
   whole = λ told. let w = can.whole told in record { columns = length can.columns; pages = can.pages; versions = w.0; table = w.1.table };
   puts = λ pages columns chain fit. puts-none a t pages stamp columns pins chain;
 }
 
+pub put-told : (a b : Space) (old now : Table) (stamp : ℕ) (rows done : List (List Value)) → CanPut a old rows → PutSoFar a b old now stamp rows done → b.told ≡ a.told
+put-told a b old now stamp rows done can s = (s.puts can.pages can.columns can.chain can.fit).grows.steady.told
+
 -- one row more was put
 pub put-next : (a b c : Space) (old mid new : Table) (stamp n : ℕ) (rows done : List (List Value)) (row : List Value) (place : Place)
     → CanPut a old rows → ((columns : List Column) → FitRows columns rows → fits_columns columns row ≡ true)
-    → PutSoFar a b old mid stamp rows done → OneMore b c mid new place stamp n row → PutSoFar a c old new stamp rows (done ++ row ∷ [])
-put-next a b c old mid new stamp n rows done row place can fits s o = record {
+    → PutSoFar a b old mid stamp rows done → OneMore b c mid new place stamp n row → HasCause b c None → PutSoFar a c old new stamp rows (done ++ row ∷ [])
+put-next a b c old mid new stamp n rows done row place can fits s o cause = record {
   pins = o.steady.pins_after;
+  cause = HasCause_behind a b c None (put-told a b old mid stamp rows done can s) s.cause cause;
   chain = (next.now, next.grows.chain);
   whole = λ told.
       let w = can.whole (sym next.grows.steady.told ∙ told) in

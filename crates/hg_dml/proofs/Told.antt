@@ -2,6 +2,7 @@
 use Rattle.std.specs.Prelude.{◌≡◌, ℕ, List, length, map, Option, Some, None, option_map, unwrap_or, slice_get}
 use Rattle.std.proofs.Common.{sym, ◌∙◌, ap, subst, refl}
 use Rattle.std.proofs.lemmas.Option.{none-some}
+use Rattle.hg_base.specs.Causes.{HasCause}
 use Rattle.hg_base.specs.Space.{Space}
 use Rattle.hg_base.specs.declared.Table.{Table}
 use Rattle.hg_base.specs.declared.pages.PageFault.{PageFault}
@@ -46,19 +47,21 @@ module _ (texts targets : List ℕ) (values : List Literal) (ends : List ℕ) (s
   module _ (a b : Space) (old new : Contents) (table stamp : ℕ) (t : CatalogTable) (after : Table)
       (s : sources ≡ sources_of targets (length t.columns)) (ready : AreReady t.columns (rows_from texts sources values ends)) (moves : MovesEnds old new table after) where
     pub all-told : ((pages : List ℕ) → IsChain a t.pages pages → Puts a b t.pages after pages stamp t.columns (rows_from texts sources values ends))
-        → PutsAll a b old new table stamp texts targets values ends t
-    all-told puts = record {
+        → HasCause a b None → PutsAll a b old new table stamp texts targets values ends t
+    all-told puts cause = record {
       no_cause = subst (λ rs. rows_cause t.columns rs ≡ None) (same t s) ready.no_cause;
       after = after;
       moves = moves;
       puts = λ pages chain. subst (λ rs. Puts a b t.pages after pages stamp t.columns rs) (same t s) (puts pages chain);
+      counts = cause.counts;
     }
 
     pub part-told : (f : PageFault) → ((pages : List ℕ) → IsChain a t.pages pages → PutsSome a b t.pages after pages stamp t.columns (rows_from texts sources values ends) f)
-        → PutsPart a b old new table stamp texts targets values ends f t
-    part-told f puts = record {
+        → HasCause a b (Some f) → PutsPart a b old new table stamp texts targets values ends f t
+    part-told f puts cause = record {
       no_cause = subst (λ rs. rows_cause t.columns rs ≡ None) (same t s) ready.no_cause;
       after = after;
       moves = moves;
       puts = λ pages chain. subst (λ rs. PutsSome a b t.pages after pages stamp t.columns rs f) (same t s) (puts pages chain);
+      counts = cause.counts;
     }

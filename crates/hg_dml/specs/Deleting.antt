@@ -2,12 +2,13 @@
 use Rattle.std.specs.Prelude.{◌≡◌, ℕ, ◌<◌, ◌≤◌, ◌⊎◌, ◌&&◌, not, Bool, true, false, List, Option, Some, map, length, slice_get, if◌then◌else◌}
 use Rattle.std.specs.List.{AllByRecursion, filter, count_by}
 use Rattle.hg_base.specs.Space.{Space}
-use Rattle.hg_base.specs.Causes.{MainFailed, TempFailed}
+use Rattle.hg_base.specs.Causes.{MainFailed, TempFailed, counts_after}
 use Rattle.hg_base.specs.Steadiness.{Mine, Steady, these_pages}
 use Rattle.hg_base.specs.declared.Table.{Table}
 use Rattle.hg_base.specs.declared.pages.PageFault.{PageFault}
 use Rattle.hg_base.specs.declared.pages.PageFault.TheVariants as fault
 use Rattle.hg_catalog.specs.Contents.{Contents, CatalogTable}
+use Rattle.hg_model.specs.Tables.{fits_columns}
 use Rattle.hg_model.specs.declared.trees.Column.{Column}
 use Rattle.hg_model.specs.declared.values.Value.{Value}
 use Rattle.hg_table.specs.Agreement.{IsTableOver}
@@ -15,7 +16,7 @@ use Rattle.hg_table.specs.Calls.{LookFault, IsVersionCheck, NamesOneOf}
 use Rattle.hg_table.specs.Chains.{IsChain}
 use Rattle.hg_table.specs.Versions.{Placed}
 use Rattle.hg_dml.specs.Putting.{IsOneOf}
-use Rattle.hg_dml.specs.Seen.{is_seen, row_of, seen_rows, IsPast}
+use Rattle.hg_dml.specs.Seen.{is_seen, row_of, seen_rows, IsPast, Misses}
 
 -- ---- versions
 
@@ -40,10 +41,6 @@ deleted committed snapshot stamp goes versions = map (deleted_at committed snaps
 abbrev pub AgreeUpTo : ℕ → (ℕ → Bool) → (ℕ → Bool) → Type 0
 AgreeUpTo last marks committed = (k : ℕ) → k ≤ last → marks k ≡ committed k
 
--- a snapshot that does not see a stamp: it is not committed, or later
-abbrev pub Misses : (ℕ → Bool) → ℕ → ℕ → Type 0
-Misses marks snapshot stamp = (marks stamp ≡ false) ⊎ (snapshot < stamp)
-
 -- Versions were killed under a stamp by a change that looked at the table by a snapshot: who does not see
 -- the stamp sees what it saw.
 pub record IsHidden (committed : ℕ → Bool) (snapshot stamp : ℕ) (old new : List Placed) : Type 0 where
@@ -60,6 +57,19 @@ pub record IsDeleted (committed : ℕ → Bool) (snapshot stamp : ℕ) (goes : L
       → seen_rows marks later new ≡ filter (λ row. not (goes row)) (seen_rows committed snapshot old)
   pub number : n ≡ count_by goes (seen_rows committed snapshot old)
 
+-- ---- the rows that a change concerns
+
+-- a row that a change concerns: it is one of a table with these columns, and it goes
+pub record Concerns (columns : List Column) (goes : List Value → Bool) (row : List Value) : Type 0 where
+  pub fits : fits_columns columns row ≡ true
+  pub passes : goes row ≡ true
+
+-- Rows that were read from a table and that a change concerns: where the space tells, all that a snapshot
+-- sees, in their order.
+pub record AreConcerned (a : Space) (t : Table) (pages : List ℕ) (columns : List Column) (committed : ℕ → Bool) (snapshot : ℕ) (goes : List Value → Bool) (gone : List (List Value)) : Type 0 where
+  pub each : AllByRecursion (Concerns columns goes) gone
+  pub all : (versions : List Placed) → IsTableOver a t columns pages versions → gone ≡ filter goes (seen_rows committed snapshot versions)
+
 -- ---- the table and its space
 
 abbrev pub pages_mine : List ℕ → Mine
@@ -75,6 +85,9 @@ pub record WritesWithin (a b : Space) (t : Table) (pages : List ℕ) : Type 0 wh
 
 -- the rows that go were deleted from the table, n of them, and no fault was counted
 pub record Deletes (a b : Space) (t : Table) (pages : List ℕ) (columns : List Column) (committed : ℕ → Bool) (snapshot stamp : ℕ) (goes : List Value → Bool) (n : ℕ) : Type 0 where
+  pub gone : List (List Value)
+  pub concerned : AreConcerned a t pages columns committed snapshot goes gone
+  pub many : n ≡ length gone
   pub within : WritesWithin a b t pages
   pub counts : b.counts ≡ a.counts
   pub deleted : (versions : List Placed) → IsTableOver a t columns pages versions
@@ -95,5 +108,6 @@ pub record DeletesSome (a b : Space) (t : Table) (pages : List ℕ) (columns : L
   pub hidden : (versions : List Placed) → IsTableOver a t columns pages versions
       → (now : List Placed) × IsTableOver b t columns pages now × IsHidden committed snapshot stamp versions now
   pub cause : WalkFault a b f
+  pub counts : b.counts ≡ counts_after a.counts (Some f)
   pub found : LookFault IsVersionCheck f
   pub page : NamesOneOf pages f

@@ -1,6 +1,7 @@
 -- What an INSERT asks and does. Our own rule.
 use Rattle.std.specs.Prelude.{◌≡◌, ℕ, true, List, Option, Some, None, slice_get, ⊤}
 use Rattle.hg_base.specs.Space.{Space}
+use Rattle.hg_base.specs.Causes.{counts_after}
 use Rattle.hg_base.specs.declared.Table.{Table}
 use Rattle.hg_base.specs.declared.pages.PageFault.{PageFault}
 use Rattle.hg_catalog.specs.Contents.{Contents, CatalogTable, with_pages}
@@ -29,21 +30,23 @@ StandsAt s c table = (t : CatalogTable) → slice_get c.tables table ≡ Some t 
 pub record MovesEnds (old new : Contents) (table : ℕ) (ends : Table) : Type 0 where
   pub tables : new ≡ record old { tables = with_pages old.tables table ends }
 
--- all rows of the INSERT were put into the table
+-- all rows of the INSERT were put into the table, and no fault was counted
 pub record PutsAll (a b : Space) (old new : Contents) (table stamp : ℕ) (texts targets : List ℕ) (values : List Literal) (ends : List ℕ) (t : CatalogTable) : Type 0 where
   pub no_cause : rows_cause t.columns (rows_of_tuples texts t.columns targets values ends) ≡ None
   pub after : Table
   pub moves : MovesEnds old new table after
   pub puts : (pages : List ℕ) → IsChain a t.pages pages
       → Puts a b t.pages after pages stamp t.columns (rows_of_tuples texts t.columns targets values ends)
+  pub counts : b.counts ≡ a.counts
 
--- nothing stood against the rows, but a fault came before all were put
+-- nothing stood against the rows, but a fault came before all were put; it was counted, and no other
 pub record PutsPart (a b : Space) (old new : Contents) (table stamp : ℕ) (texts targets : List ℕ) (values : List Literal) (ends : List ℕ) (f : PageFault) (t : CatalogTable) : Type 0 where
   pub no_cause : rows_cause t.columns (rows_of_tuples texts t.columns targets values ends) ≡ None
   pub after : Table
   pub moves : MovesEnds old new table after
   pub puts : (pages : List ℕ) → IsChain a t.pages pages
       → PutsSome a b t.pages after pages stamp t.columns (rows_of_tuples texts t.columns targets values ends) f
+  pub counts : b.counts ≡ counts_after a.counts (Some f)
 
 -- what stands against the rows, and that it is told
 pub record IsCause (texts targets : List ℕ) (values : List Literal) (ends : List ℕ) (code : ℕ) (column : Option ℕ) (t : CatalogTable) : Type 0 where

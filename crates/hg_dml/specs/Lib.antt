@@ -10,3 +10,7 @@ pub mod Fitting
 pub mod Filtering
 pub mod Deleting
 pub mod DeleteSteps
+pub mod Updating
+pub mod Making
+pub mod Walks
+pub mod UpdateSteps

@@ -19,12 +19,12 @@ use Rattle.hg_table.specs.Calls.{NamesGiven, IsPageCheck}
 use Rattle.hg_table.specs.Chains.{IsChain}
 use Rattle.hg_table.specs.Versions.{Placed}
 use Rattle.hg_dml.specs.Lent.{NoneLent}
-use Rattle.hg_dml.specs.Seen.{seen_rows, IsPast}
+use Rattle.hg_dml.specs.Seen.{seen_rows, IsPast, Misses}
 
--- Rows joined the versions of a table, born under one stamp: who sees the stamp sees them too, and
--- nobody else sees a change.
+-- Rows joined the versions of a table, born under one stamp: who sees the stamp sees them too, and who
+-- misses it sees no change.
 pub record Joined (stamp : ℕ) (old new : List Placed) (rows : List (List Value)) : Type 0 where
-  pub unseen : (committed : ℕ → Bool) (snapshot : ℕ) → committed stamp ≡ false
+  pub unseen : (committed : ℕ → Bool) (snapshot : ℕ) → Misses committed snapshot stamp
       → seen_rows committed snapshot new ≡ seen_rows committed snapshot old
   pub seen : (committed : ℕ → Bool) (snapshot : ℕ) → committed stamp ≡ true → stamp ≤ snapshot
       → IsPermutation (seen_rows committed snapshot new) (seen_rows committed snapshot old ++ rows)
@@ -42,7 +42,7 @@ abbrev pub table_mine : Space → List ℕ → Mine
 table_mine a pages = these_pages (λ q. IsOneOf pages q ⊎ (a.taken q ≡ false))
 
 -- a table with other pages, of which the new ones were not taken before; n pages of the main file more
--- at most; no page was lent
+-- at most, each of them one of the table's; no page was lent
 pub record Grows (a b : Space) (new : Table) (pages now : List ℕ) (n : ℕ) : Type 0 where
   pub chain : IsChain b new now
   pub from : (x : ℕ) → has_page now x ≡ true → (has_page pages x ≡ true) ⊎ (a.taken (key_in Main x) ≡ false)
@@ -51,6 +51,7 @@ pub record Grows (a b : Space) (new : Table) (pages now : List ℕ) (n : ℕ) : 
   pub none_lent : NoneLent a → NoneLent b
   pub more : taken_in a Main ≤ taken_in b Main
   pub few : taken_in b Main ≤ taken_in a Main + n
+  pub owned : (x : ℕ) → b.taken (key_in Main x) ≡ true → (a.taken (key_in Main x) ≡ true) ⊎ (has_page now x ≡ true)
   pub temp : taken_in b Temp ≡ taken_in a Temp
 
 -- these rows were put into the table

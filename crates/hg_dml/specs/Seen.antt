@@ -1,5 +1,5 @@
 -- What a table shows of its versions: the rows of those that a snapshot sees. Our own rule.
-use Rattle.std.specs.Prelude.{ℕ, ◌≤◌, Bool, List, map, MatchOption, ⊤}
+use Rattle.std.specs.Prelude.{◌≡◌, ℕ, ◌<◌, ◌≤◌, ◌⊎◌, Bool, false, List, map, MatchOption, ⊤}
 use Rattle.std.specs.List.{filter}
 use Rattle.hg_model.specs.Visible.{is_visible}
 use Rattle.hg_model.specs.declared.values.Value.{Value}
@@ -19,3 +19,7 @@ seen_rows committed snapshot versions = map row_of (filter (is_seen committed sn
 pub record IsPast (last : ℕ) (v : Placed) : Type 0 where
   pub born : v.version.born ≤ last
   pub died : MatchOption v.version.died ⊤ (λ d. d ≤ last)
+
+-- a snapshot that does not see a stamp: it is not committed, or later
+abbrev pub Misses : (ℕ → Bool) → ℕ → ℕ → Type 0
+Misses marks snapshot stamp = (marks stamp ≡ false) ⊎ (snapshot < stamp)

@@ -1,8 +1,8 @@
 -- Laws of the rows that a snapshot sees.
-use Rattle.std.specs.Prelude.{◌≡◌, ℕ, ◌<◌, ◌≤◌, nat_lt, nat_le, Bool, true, false, List, [], ◌∷◌, ◌++◌, Option, Some, None, MatchOption, ⊤, map, if◌then◌else◌}
+use Rattle.std.specs.Prelude.{◌≡◌, ℕ, ◌<◌, ◌≤◌, ◌&&◌, nat_lt, nat_le, Bool, true, false, List, [], ◌∷◌, ◌++◌, Option, Some, None, MatchOption, ⊤, map, if◌then◌else◌}
 use Rattle.std.specs.List.{filter, AllByRecursion}
 use Rattle.std.specs.List.Sorted.{IsPermutation}
-use Rattle.std.proofs.Common.{sym, ◌∙◌, ap, subst, refl, arith, append_assoc, length-append}
+use Rattle.std.proofs.Common.{sym, ◌∙◌, ap, subst, refl, arith, inl, inr, append_assoc, length-append}
 use Rattle.std.proofs.lemmas.Bool.Decides.{nat_tests}
 use Rattle.std.proofs.lemmas.List.{append-nil, map-append}
 use Rattle.std.proofs.lemmas.List.Elements.{filter-append}
@@ -12,7 +12,7 @@ use Rattle.hg_model.specs.Visible.{is_alive}
 use Rattle.hg_model.specs.declared.values.Value.{Value}
 use Rattle.hg_table.specs.Versions.{Placed}
 use Rattle.hg_table.specs.Calls.{PutsIn, newborn}
-use Rattle.hg_dml.specs.Seen.{is_seen, row_of, seen_rows, IsPast}
+use Rattle.hg_dml.specs.Seen.{is_seen, row_of, seen_rows, IsPast, Misses}
 use Rattle.hg_dml.specs.Putting.{Joined}
 
 pub lt-yes : (a b : ℕ) → a < b → nat_lt a b ≡ true
@@ -75,12 +75,22 @@ past-middle : (n : ℕ) (xs : List Placed) (v : Placed) (ys : List Placed) → I
 past-middle n [] v ys here past = (here, past)
 past-middle n (x ∷ xs) v ys here past = (past.0, past-middle n xs v ys here past.1)
 
--- who does not see the stamp sees no change
-newborn-unseen : (c : ℕ → Bool) (n stamp : ℕ) (row : List Value) (p : Place) (xs ys : List Placed) → c stamp ≡ false
+le-no : (a b : ℕ) → b < a → nat_le a b ≡ false
+le-no a b h = grind (arith, nat_tests)
+
+and-none : (a b : Bool) → b ≡ false → (a && b) ≡ false
+and-none true b h = h
+and-none false b h = refl
+
+-- who misses the stamp sees no change
+newborn-unseen : (c : ℕ → Bool) (n stamp : ℕ) (row : List Value) (p : Place) (xs ys : List Placed) → Misses c n stamp
     → seen_rows c n (xs ++ newborn row stamp p ∷ ys) ≡ seen_rows c n (xs ++ ys)
-newborn-unseen c n stamp row p xs ys hidden =
+newborn-unseen c n stamp row p xs ys missed =
     let v : Placed = newborn row stamp p in
-    let none : is_seen c n v ≡ false = rw hidden refl in
+    let none : is_seen c n v ≡ false = elim missed [
+      | inl hidden ↦ rw hidden refl
+      | inr earlier ↦ and-none (c stamp) (nat_le stamp n && true) (rw (le-no stamp n earlier) refl)
+    ] in
     seen_rows-append c n xs (v ∷ ys)
     ∙ ap (λ rs. seen_rows c n xs ++ rs) (seen_rows-cons c n v ys ∙ ap (λ b. if b then row_of v ∷ seen_rows c n ys else seen_rows c n ys) none)
     ∙ sym (seen_rows-append c n xs ys)
@@ -103,7 +113,7 @@ newborn-seen c n stamp row p xs ys shown later =
 
 pub joined-none : (stamp : ℕ) (vs : List Placed) → Joined stamp vs vs []
 joined-none stamp vs = record {
-  unseen = λ c n hidden. refl;
+  unseen = λ c n missed. refl;
   seen = λ c n shown later. subst (λ rs. IsPermutation (seen_rows c n vs) rs) (sym (append-nil (seen_rows c n vs))) (IsPermutation-refl (seen_rows c n vs));
   past = λ n later past. past;
   count = omega arith;
@@ -111,7 +121,7 @@ joined-none stamp vs = record {
 
 joined-here : (stamp : ℕ) (row : List Value) (p : Place) (xs ys : List Placed) → Joined stamp (xs ++ ys) (xs ++ newborn row stamp p ∷ ys) (row ∷ [])
 joined-here stamp row p xs ys = record {
-  unseen = λ c n hidden. newborn-unseen c n stamp row p xs ys hidden;
+  unseen = λ c n missed. newborn-unseen c n stamp row p xs ys missed;
   seen = λ c n shown later. newborn-seen c n stamp row p xs ys shown later;
   past = λ n later past. past-middle n xs (newborn row stamp p) ys (record { born = later; died = tt }) past;
   count = omega (arith, length-append xs ys, length-append xs (newborn row stamp p ∷ ys));
@@ -125,7 +135,7 @@ joined-one stamp row p old new puts =
 -- rows that joined in two steps
 pub joined-then : (stamp : ℕ) (a b c : List Placed) (xs ys : List (List Value)) → Joined stamp a b xs → Joined stamp b c ys → Joined stamp a c (xs ++ ys)
 joined-then stamp a b c xs ys p q = record {
-  unseen = λ m n hidden. q.unseen m n hidden ∙ p.unseen m n hidden;
+  unseen = λ m n missed. q.unseen m n missed ∙ p.unseen m n missed;
   seen = λ m n shown later.
       let one : IsPermutation (seen_rows m n c) (seen_rows m n b ++ ys) = q.seen m n shown later in
       let two : IsPermutation (seen_rows m n b ++ ys) ((seen_rows m n a ++ xs) ++ ys) =

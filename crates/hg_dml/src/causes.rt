@@ -15,7 +15,7 @@ use crate::tuples::{fits, is_null, look, row_length, tuple_between};
 use hg_model::{Column, Literal};
 
 /// The most bytes that a row of a table has.
-const MOST_BYTES: usize = 1000;
+pub const MOST_BYTES: usize = 1000;
 
 /// Whether any row has NULL at a place.
 fn any_null(source: Option<usize>, values: &[Literal], ends: &[u16], texts: &[u8]) -> bool

@@ -21,7 +21,7 @@ use hg_table::{Stamps, TableCalls};
 use hg_value::Row;
 
 /// The most versions that a page holds.
-const MOST_ON_PAGE: u64 = 128;
+pub const MOST_ON_PAGE: u64 = 128;
 
 /// Kills the version at a place, whose row was read, where the row passes the condition, and tells whether
 /// it does.
@@ -42,6 +42,7 @@ fn delete_one<S: Pages>(
     requires fits { (S.state space.old).told ≡ true → fits_columns columns.now row.now ≡ true }
     ensures ok { IfOk result (λ gone. Removes (S.state space.old) (S.state space.new) table place stamp.0 gone) }
     ensures gone { IfOk result (λ gone. gone ≡ row_passes filter.now.texts.now filter.now.columns.now filter.now.nodes.now filter.now.condition row.now) }
+    ensures fits { OnOk result (fits_columns columns.now row.now ≡ true) }
     ensures takes_none { TakesNone (S.state space.old) (S.state space.new) }
     ensures err_steady { OnErr result (Steady none_mine (S.state space.old) (S.state space.new)) }
     ensures cause { HasCause (S.state space.old) (S.state space.new) (fault_of result) }
@@ -68,7 +69,7 @@ fn delete_one<S: Pages>(
 }
 
 /// One more where a row goes.
-fn counted(count: u64, gone: bool) -> u64
+pub fn counted(count: u64, gone: bool) -> u64
     requires { count + 1 < 2 ^ 64 }
     ensures { result ≡ count + (if gone then 1 else 0) }
 {

@@ -1,6 +1,7 @@
 //! INSERT.
 ghost use Rattle.std.specs.Prelude.{◌≡◌, ◌<◌, ℕ, [], List, length, IsTrue, IfOk, OnOk, IfErr, OnErr, MatchResult, slice_get, Some};
 ghost use Rattle.std.specs.List.{list_all};
+ghost use Rattle.hg_base.specs.Causes.{HasCause, fault_of};
 ghost use Rattle.hg_base.specs.Space.{NoPins};
 ghost use Rattle.hg_catalog.specs.Contents.{CatalogTable, IsSound};
 ghost use Rattle.hg_model.specs.Value.{is_printable};
@@ -104,6 +105,7 @@ fn put<S: Pages>(
         → MatchResult result
         (λ u. Puts (S.state space.old) (S.state space.new) t.pages after pages stamp.0 t.columns (rows_from texts.now sources.now values.now ends.now))
         (λ f. PutsSome (S.state space.old) (S.state space.new) t.pages after pages stamp.0 t.columns (rows_from texts.now sources.now values.now ends.now) f)) }
+    ensures cause { HasCause (S.state space.old) (S.state space.new) (fault_of result) }
     ensures sound { IsSound catalog.new }
 {
     let mut data = catalog.table_data(table);

@@ -24,12 +24,18 @@
 #![tactic(auto)]
 
 mod causes;
+mod changing;
 mod delete;
+mod ending;
 mod filter;
 mod insert;
+mod making;
 mod putting;
+mod storing;
 mod tuples;
+mod update;
 
 pub use delete::delete_rows;
 pub use filter::Filter;
 pub use insert::{ChangeError, insert_rows};
+pub use update::{ChangeRoom, Sets, update_rows};

@@ -22,7 +22,7 @@ use hg_value::{Look, Row};
 
 /// Puts a value behind the others of a row.
 #[inline]
-fn push(row: &mut Row, value: &Look)
+pub fn push(row: &mut Row, value: &Look)
     requires held { IsHeld (value_of value.now) }
     requires room { HasRoom row.old (value_of value.now) }
     ensures { row.new ≡ row.old ++ value_of value.now ∷ [] }
@@ -42,7 +42,7 @@ fn fill(row: &mut Row, tuple: &[Literal], sources: &[Option<usize>], texts: &[u8
 }
 
 /// Puts one row into a table, born under a stamp.
-fn put_one<S: Pages, D: TableCalls>(
+pub fn put_one<S: Pages, D: TableCalls>(
     space: &mut S,
     table: &mut D,
     row: &Row,
@@ -86,6 +86,7 @@ pub fn put_rows<S: Pages, D: TableCalls>(
     ensures err { IfErr result (λ f. (pages : List ℕ) (columns : List Column) → IsChain (S.state space.old) (D.ends table.old) pages
         → FitRows columns (rows_from texts.now sources.now values.now ends.now)
         → PutsSome (S.state space.old) (S.state space.new) (D.ends table.old) (D.ends table.new) pages stamp.0 columns (rows_from texts.now sources.now values.now ends.now) f) }
+    ensures cause { HasCause (S.state space.old) (S.state space.new) (fault_of result) }
 {
     let mut from = 0;
     for end in ends {

@@ -130,7 +130,7 @@ pub fn fits(column: &Column, value: &Look) -> bool
 
 /// How many bytes the value has.
 #[inline]
-fn coded_length(value: &Look) -> usize
+pub fn coded_length(value: &Look) -> usize
     requires { value_length (value_of value.now) ≤ 70000 }
     ensures { result ≡ value_length (value_of value.now) }
 {

@@ -25,6 +25,7 @@ use Rattle.hg_reply.specs.Steps.{BeginsSo}
 use Rattle.hg_table.specs.TableLaws.{no_pages}
 use Rattle.hg_engine.specs.Standing.{Stands, nothing_left, state_of}
 use Rattle.hg_engine.specs.Stepping.{TablesAre, StepsTo, work_in}
+use Rattle.hg_engine.specs.Steps.{MaySee}
 use Rattle.hg_engine.specs.declared.open.OpenSelect.{OpenSelect}
 use Rattle.hg_engine.specs.declared.tables.Tables.{Tables}
 use Rattle.hg_engine.proofs.Lookups.{some-same, tables_in}
@@ -37,11 +38,17 @@ pub begins-same : (told : Bool) (c : CommandTree) (texts : List ℕ) (old new : 
 begins-same true c texts old new lines took = took
 begins-same false c texts old new lines took = with_any_rows old refl took
 
-pub begins-damaged : (told : Bool) (c : CommandTree) (texts : List ℕ) (old new : State) (file : File) (page : PageId) (check : Check) (more : List ReplyLine)
-    → told ≡ false → looks_at_pages c ≡ true → BeginsCommand old c texts (device_fault file ∷ more) new
+-- the same of whoever sees other rows
+pub begins-seen : (told : Bool) (c : CommandTree) (texts : List ℕ) (old seen new : State) (lines : List ReplyLine) → MaySee told old seen
+    → BeginsCommand seen c texts lines new → BeginsSo told c texts old lines new
+begins-seen true c texts old seen new lines see took = subst (λ s. BeginsCommand s c texts lines new) (see.itself refl) took
+begins-seen false c texts old seen new lines see took = with_any_rows seen see.alike took
+
+pub begins-damaged-seen : (told : Bool) (c : CommandTree) (texts : List ℕ) (old seen new : State) (file : File) (page : PageId) (check : Check) (more : List ReplyLine)
+    → told ≡ false → looks_at_pages c ≡ true → MaySee told old seen → BeginsCommand seen c texts (device_fault file ∷ more) new
     → BeginsSo told c texts old (damaged page check ∷ more) new
-begins-damaged true c texts old new file page check more untold looks took = absurd (false≢true (sym untold))
-begins-damaged false c texts old new file page check more untold looks took = finds_damage old file page check more looks refl took refl
+begins-damaged-seen true c texts old seen new file page check more untold looks see took = absurd (false≢true (sym untold))
+begins-damaged-seen false c texts old seen new file page check more untold looks see took = finds_damage seen file page check more looks see.alike took refl
 
 -- the refusal is that of the catalog's tables
 create-same : (c : Contents) (tables : List TableState) (t : TableTree) → map Rattle.hg_engine.specs.Standing.rowless tables ≡ map table_of c.tables → c.indexes ≡ []
@@ -141,6 +148,7 @@ module _ (s : Space) (old : Tables) (t : TableTree) (texts : List ℕ) where
           none_lent = st.none_lent;
           most = st.most;
           some_may = st.some_may;
+          few_temp = st.few_temp;
           no_indexes = st.no_indexes;
           tables = more;
           pages = λ k. if k == length old.catalog.tables then [] else st.pages k;

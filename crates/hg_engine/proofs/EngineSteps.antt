@@ -5,13 +5,15 @@ use Rattle.hg_base.specs.declared.File.TheVariants.{Main, Temp}
 use Rattle.hg_base.specs.Space.{Space}
 use Rattle.hg_machine.specs.Plain.Replies.{ReplyLine}
 use Rattle.hg_machine.specs.Plain.State.{State}
+use Rattle.hg_model.specs.Statements.{CommandTree, CreateTable, CreateIndex, InsertRows, UpdateRows, DeleteRows, Vacuum, SelectRows, OpenCursor, Start, Work, Fetch, Close, Pool, Mpl, ShowMemory}
+use Rattle.hg_pool.specs.Shown.{state_of, main_device, temp_device}
 use Rattle.hg_reply.specs.Steps.{Findings}
 use Rattle.hg_reply.specs.declared.reply.Reply.{Reply}
 use Rattle.hg_io.specs.declared.device.PageDevice.{Ghosts}
 use Rattle.hg_engine.specs.declared.kept.Kept.{Kept}
 use Rattle.hg_engine.specs.declared.tables.Tables.{Tables}
-use Rattle.hg_engine.specs.Shown.{IsLater, EngineSteps}
-use Rattle.hg_engine.specs.Stepping.{IsSameSpace}
+use Rattle.hg_engine.specs.Shown.{IsLater, IsStill, EngineSteps}
+use Rattle.hg_engine.specs.Stepping.{IsSameSpace, StillWhere}
 
 pub is-later : (a b : Space) → IsSameSpace a b → IsLater a b
 is-later a b same = record {
@@ -38,3 +40,24 @@ counted-steps {M = M} {T = T} m t old mid new reply Step found steps tables pool
       moves = record { to = λ before st. let there = steps.moves.to before st in (there.0, there.1, there.2) };
       damage = steps.damage;
     })
+
+-- the same pool is the same space over the same devices
+pub is-still : {M T : Type 0} (m : Ghosts M) (t : Ghosts T) (old new : Kept M T) → new.pool ≡ old.pool → IsStill m t old new
+is-still m t old new same = record { space = ap (state_of m t) same; main = ap (λ p. main_device p) same; temp = ap (λ p. temp_device p) same }
+
+pub still-where : (c : CommandTree) (P Q : Type 0) → (P → Q) → StillWhere c P → StillWhere c Q
+still-where (CreateTable t) P Q f h = f h
+still-where (CreateIndex i) P Q f h = tt
+still-where (InsertRows i) P Q f h = tt
+still-where (UpdateRows u) P Q f h = tt
+still-where (DeleteRows d) P Q f h = tt
+still-where (Vacuum t) P Q f h = tt
+still-where (SelectRows q) P Q f h = f h
+still-where (OpenCursor n q) P Q f h = tt
+still-where (Start n k) P Q f h = tt
+still-where (Work k) P Q f h = tt
+still-where (Fetch n k) P Q f h = tt
+still-where (Close n) P Q f h = tt
+still-where (Pool k) P Q f h = tt
+still-where (Mpl k) P Q f h = tt
+still-where ShowMemory P Q f h = tt

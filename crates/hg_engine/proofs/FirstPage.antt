@@ -1,5 +1,5 @@
 -- The first page.
-use Rattle.std.specs.Prelude.{◌≡◌, ℕ, zero, suc, ◌<◌, ◌≤◌, ◌+◌, ◌-◌, ◌==◌, Bool, true, false, [], None, if◌then◌else◌}
+use Rattle.std.specs.Prelude.{◌≡◌, ℕ, zero, suc, ◌<◌, ◌≤◌, ◌+◌, ◌-◌, ◌^◌, ◌==◌, Bool, true, false, [], None, if◌then◌else◌}
 use Rattle.std.proofs.Common.{sym, ◌∙◌, ap, subst, refl, arith, inl, inr}
 use Rattle.std.proofs.lemmas.Bool.Decides.{nat_tests, eqb_tells}
 use Rattle.hg_base.specs.Space.{Space, NoPins, IsMade, key, at, key_in, without_pin, taken_in, taken_below}
@@ -63,9 +63,9 @@ none-taken taken file (suc n) none =
     ap (λ b. (if b then 1 else 0) + taken_below taken file n) (none (key_in file n)) ∙ ap (λ k. 0 + k) (none-taken taken file n none)
 
 -- an engine of no table stands for the first state
-pub opened : (a b : Space) (x : Tables) (c : Config) (d : Disks) → TakesFirst a b → a ≡ new_space c d → 1 ≤ c.mpl → 0 < c.main_pages
+pub opened : (a b : Space) (x : Tables) (c : Config) (d : Disks) → TakesFirst a b → a ≡ new_space c d → 1 ≤ c.mpl → 0 < c.main_pages → c.temp_pages ≤ 2 ^ 32
     → x.catalog ≡ record { tables = []; indexes = [] } → x.stamps ≡ [] → x.is_open ≡ false → x.max ≡ c.max → x.mpl ≡ c.mpl → TablesAre b x (first_state (sizes_of c))
-opened a b x c d first new mpl some catalog stamps idle max_is mpl_is =
+opened a b x c d first new mpl some few catalog stamps idle max_is mpl_is =
     let none : (q : ℕ) → a.taken q ≡ false = λ q. ap (λ (s : Space). s.taken q) new in
     let none_main : taken_in a Main ≡ 0 = none-taken a.taken Main (a.limit Main) none in
     let none_temp : taken_in a Temp ≡ 0 = none-taken a.taken Temp (a.limit Temp) none in
@@ -76,6 +76,7 @@ opened a b x c d first new mpl some catalog stamps idle max_is mpl_is =
       none_lent = first.none_lent (λ q. ap (λ (s : Space). s.of_heap q) new);
       most = ap (λ (h : Heaps). h.most) first.heaps ∙ ap (λ (s : Space). s.heaps.most) new;
       some_may = mpl;
+      few_temp = subst (λ n. n ≤ 2 ^ 32) (sym (ap (λ l. l Temp) first.limit ∙ ap (λ (s : Space). s.limit Temp) new)) few;
       no_indexes = refl;
       tables = [];
       pages = λ k. [];

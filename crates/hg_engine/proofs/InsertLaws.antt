@@ -1,25 +1,19 @@
 -- An INSERT is a step of the plain machine.
-use Rattle.std.specs.Prelude.{◌≡◌, ℕ, zero, suc, ◌+◌, ◌*◌, ◌^◌, ◌≤◌, ◌<◌, ◌==◌, nat_le, Bool, true, false, List, [], ◌∷◌, ◌++◌, length, map, Option, Some, None, is_some, not, slice_get, slice_set, if◌then◌else◌}
-use Rattle.std.specs.List.{list_all, range_with_len}
+use Rattle.std.specs.Prelude.{◌≡◌, ℕ, suc, ◌+◌, ◌*◌, ◌^◌, ◌≤◌, ◌<◌, Bool, true, false, List, [], ◌∷◌, ◌++◌, length, map, Some, None, is_some, not, slice_get}
+use Rattle.std.specs.List.{list_all}
 use Rattle.std.specs.List.Sorted.{IsPermutation}
-use Rattle.std.proofs.Common.{sym, ◌∙◌, ap, subst, refl, arith}
-use Rattle.std.proofs.lemmas.Bool.{false≢true}
-use Rattle.std.proofs.lemmas.Bool.Decides.{nat_tests}
+use Rattle.std.proofs.Common.{sym, ◌∙◌, ap, subst, refl, arith, inl}
 use Rattle.std.proofs.lemmas.List.Sorted.{IsPermutation-trans, IsPermutation-sym, IsPermutation-append_left}
-use Rattle.std.proofs.lemmas.Option.{slice_get_within}
-use Rattle.hg_base.specs.Space.{Space, taken_in}
-use Rattle.hg_base.specs.TakenLaws.{taken_below-le}
+use Rattle.hg_base.specs.Space.{Space}
 use Rattle.hg_base.specs.declared.File.{File}
 use Rattle.hg_base.specs.declared.File.TheVariants.{Main, Temp}
 use Rattle.hg_base.specs.declared.Table.{Table as Ends}
 use Rattle.hg_base.specs.declared.pages.PageFault.{PageFault}
 use Rattle.hg_base.specs.declared.pages.PageFault.TheVariants as fault
 use Rattle.hg_bind.specs.Bound.{table_of, tables_of}
-use Rattle.hg_catalog.specs.Contents.{Contents, CatalogTable, table_number, with_pages}
-use Rattle.hg_dml.specs.declared.insert.ChangeError.{ChangeError}
-use Rattle.hg_dml.specs.declared.insert.ChangeError.TheVariants as change
-use Rattle.hg_dml.specs.Inserting.{StandsAt, PutsAll, PutsPart, OnFault, OnRefused}
-use Rattle.hg_dml.specs.Putting.{Grows, Puts, PutFault, FindsLast, table_mine}
+use Rattle.hg_catalog.specs.Contents.{Contents, CatalogTable, table_number}
+use Rattle.hg_dml.specs.Inserting.{PutsAll, PutsPart}
+use Rattle.hg_dml.specs.Putting.{Puts, PutFault, FindsLast, table_mine}
 use Rattle.hg_dml.specs.Rows.{rows_of_tuples, rows_cause}
 use Rattle.hg_dml.specs.Seen.{seen_rows}
 use Rattle.hg_machine.specs.Plain.Changes.{refused_before, made, refused, failed, done_allowance, ended_allowance}
@@ -27,7 +21,7 @@ use Rattle.hg_machine.specs.Plain.Insert.{Inserts, insertion}
 use Rattle.hg_machine.specs.Plain.Licences.{device_failed, main_is_full, both_files, Spends}
 use Rattle.hg_machine.specs.Plain.Refused.{refusal_line}
 use Rattle.hg_machine.specs.Plain.Replies.{rows, device_fault, file_full}
-use Rattle.hg_machine.specs.Plain.State.{State, TableState, tables_of as tables_seen, is_table, versions_in, with_rows, has_rows}
+use Rattle.hg_machine.specs.Plain.State.{State, TableState, tables_of as tables_seen, is_table, with_rows, has_rows}
 use Rattle.hg_model.specs.ChangeBinding.{insert_refusal, insert_targets, columns_cause, tuple_fits}
 use Rattle.hg_model.specs.ChangeMeaning.{insert_cause, insert_meaning, insert_count, stamp_cause, change_of}
 use Rattle.hg_model.specs.Changes.{Made, unless, insert_change, new_row, tuples_from}
@@ -42,115 +36,50 @@ use Rattle.hg_model.specs.declared.trees.Literal.{Literal}
 use Rattle.hg_model.specs.declared.values.Value.{Value}
 use Rattle.hg_reply.specs.Steps.{BeginsSo, TellOnlyFound}
 use Rattle.hg_table.specs.Marks.{last, committed, Draws, Commits}
-use Rattle.hg_engine.specs.Standing.{Left, Stands, TableStands, TablesStand, HasRows, nothing_left, state_of, rowless}
-use Rattle.hg_engine.specs.Stepping.{TablesAre, StepsTo, CountedIn, IsSameSpace, InsertFinds, line_of, work_in}
+use Rattle.hg_engine.specs.Standing.{TableStands, HasRows, nothing_left, state_of, rowless}
+use Rattle.hg_engine.specs.Stepping.{TablesAre, StepsTo, CountedIn, IsSameSpace, InsertFinds, line_of}
+use Rattle.hg_engine.specs.Steps.{MaySee}
 use Rattle.hg_engine.specs.declared.tables.Tables.{Tables}
-use Rattle.hg_engine.proofs.Lookups.{FirstAt, tables_in, columns-same, some-same, rows-set, versions-set, versions-in, first-set, first-is, set-set, get-set-here, pages-set, named-first, number-first, position-first, first-holds}
+use Rattle.hg_engine.proofs.Lookups.{FirstAt, tables_in, columns-same, some-same, get-set-here, pages-set, named-first, number-first, position-first, first-holds}
 use Rattle.hg_engine.proofs.StandLaws.{IsLater, FoundAt, found-at, with_ends, rows-later, pages_with, tables-then, same-count}
-use Rattle.hg_engine.proofs.CreateLaws.{begins-same, begins-damaged, kept, no-work}
+use Rattle.hg_engine.proofs.CreateLaws.{begins-same, begins-seen, begins-damaged-seen, kept, no-work}
+use Rattle.hg_engine.proofs.ChangeLaws.{ShowsNow, later-drawn, later-committed, hidden-drawn, one-more, one-more-committed, stamps-left, stamps-gone, length-mapped, spends, shape-at, set-same, stands-with, there, seen, sees, named-seen, shape-seen, columns-there, after, stands-after, spent-made, spent-kept, unmoved, resting-here}
 use Rattle.hg_engine.proofs.Saying.{same-space, put-counted, sound-line}
 
--- ---- marks
-
--- a stamp that was drawn
-pub later-drawn : (old new : List Bool) (s : ℕ) → Draws old new s → IsLater old new
-later-drawn old new s d = record { last = let n = d.next in let e = d.drawn in omega arith; same = λ k h. d.committed k }
-
--- a stamp that was drawn and committed
-pub later-committed : (old mid new : List Bool) (s : ℕ) → Draws old mid s → Commits mid new s → IsLater old new
-later-committed old mid new s d c = record {
-  last = let n = d.next in let e = d.drawn in let l = c.last in omega arith;
-  same = λ k h. c.others k (λ e. let n = d.next in absurd (omega arith)) ∙ d.committed k;
-}
-
-hidden-drawn : (old new : List Bool) (s : ℕ) → Draws old new s → committed new s ≡ false
-hidden-drawn old new s d = d.committed s ∙ not-drawn old s (let n = d.next in omega arith)
-  where
-    beyond : (marks : List Bool) (n : ℕ) → length marks ≤ n → Rattle.std.specs.Prelude.slice_index_or marks n false ≡ false
-    beyond [] n h = refl
-    beyond (b ∷ bs) zero h = absurd (omega arith)
-    beyond (b ∷ bs) (suc n) h = beyond bs n (omega arith)
-
-    not-drawn : (marks : List Bool) (n : ℕ) → last marks < n → committed marks n ≡ false
-    not-drawn marks zero h = refl
-    not-drawn marks (suc n) h = beyond marks n (omega arith)
-
--- ---- the table with its new rows
-
-abbrev pub with_more : TableState → List (List Value) → ℕ → TableState
-with_more t all n = record { table = record { name = t.table.name; columns = t.table.columns; rows = all }; versions = n }
-
--- it stands with these rows and with so many versions, at most so many more
-pub record StandsWith (b : Space) (marks : List Bool) (c : CatalogTable) (t : TableState) (all : List (List Value)) (pages : List ℕ) (most : ℕ) : Type 0 where
-  pub versions : ℕ
-  pub more : t.versions ≤ versions
-  pub few : versions ≤ t.versions + most
-  pub stands : TableStands b marks c (with_more t all versions) pages
+-- ---- what the table shows
 
 module _ (a b : Space) (old new : List Bool) (c : CatalogTable) (t : TableState) (mine : List ℕ) (ends : Ends) (stamp : ℕ) (added : List (List Value))
     (later : IsLater old new) (drawn : stamp ≤ last new) (p : Puts a b c.pages ends mine stamp c.columns added) (stands : TableStands a old c t mine) where
-  -- once the stamp is committed
-  pub committed-stands : committed new stamp ≡ true → StandsWith b new (with_ends c ends) t (t.table.rows ++ added) p.now (length added)
-  committed-stands shown = by a.told refl
-    where
-      by : (told : Bool) → a.told ≡ told → StandsWith b new (with_ends c ends) t (t.table.rows ++ added) p.now (length added)
-      by false untold = record {
-        versions = t.versions;
-        more = omega arith;
-        few = omega arith;
-        stands = record { chain = p.grows.chain; rows = λ told. absurd (false≢true (sym untold ∙ sym p.grows.steady.told ∙ told)) };
+  -- once the stamp is committed: the rows that were put, too
+  pub shows-put : committed new stamp ≡ true → b.told ≡ true → ShowsNow b new ends c.columns p.now (t.table.rows ++ added) t.versions (length added)
+  shows-put shown told =
+      let h : HasRows a new c t mine = rows-later a old new c t mine later (stands.rows (sym p.grows.steady.told ∙ told)) in
+      let grown = p.joined h.versions h.table in
+      let before : List (List Value) = seen_rows (committed new) (last new) h.versions in
+      let now : List (List Value) = seen_rows (committed new) (last new) grown.0 in
+      record {
+        versions = grown.0;
+        table = grown.1;
+        past = grown.2.past (last new) drawn h.past;
+        seen = IsPermutation-trans (t.table.rows ++ added) (before ++ added) now (IsPermutation-append_left added t.table.rows before h.seen)
+            (IsPermutation-sym now (before ++ added) (grown.2.seen (committed new) (last new) shown drawn));
+        more = let k = grown.2.count in let z = h.count in omega arith;
+        few = let k = grown.2.count in let z = h.count in omega arith;
       }
-      by true told =
-          let h : HasRows a new c t mine = rows-later a old new c t mine later (stands.rows told) in
-          let grown = p.joined h.versions h.table in
-          let before : List (List Value) = seen_rows (committed new) (last new) h.versions in
-          let after : List (List Value) = seen_rows (committed new) (last new) grown.0 in
-          record {
-            versions = length grown.0;
-            more = let k = grown.2.count in let z = h.count in omega arith;
-            few = let k = grown.2.count in let z = h.count in omega arith;
-            stands = record {
-              chain = p.grows.chain;
-              rows = λ t'. record {
-                versions = grown.0;
-                table = grown.1;
-                past = grown.2.past (last new) drawn h.past;
-                seen = IsPermutation-trans (t.table.rows ++ added) (before ++ added) after (IsPermutation-append_left added t.table.rows before h.seen)
-                    (IsPermutation-sym after (before ++ added) (grown.2.seen (committed new) (last new) shown drawn));
-                count = refl;
-              };
-            };
-          }
 
   -- where it is not
-  pub uncommitted-stands : committed new stamp ≡ false → StandsWith b new (with_ends c ends) t t.table.rows p.now (length added)
-  uncommitted-stands hidden = by a.told refl
-    where
-      by : (told : Bool) → a.told ≡ told → StandsWith b new (with_ends c ends) t t.table.rows p.now (length added)
-      by false untold = record {
-        versions = t.versions;
-        more = omega arith;
-        few = omega arith;
-        stands = record { chain = p.grows.chain; rows = λ told. absurd (false≢true (sym untold ∙ sym p.grows.steady.told ∙ told)) };
+  pub shows-some-put : committed new stamp ≡ false → b.told ≡ true → ShowsNow b new ends c.columns p.now t.table.rows t.versions (length added)
+  shows-some-put hidden told =
+      let h : HasRows a new c t mine = rows-later a old new c t mine later (stands.rows (sym p.grows.steady.told ∙ told)) in
+      let grown = p.joined h.versions h.table in
+      record {
+        versions = grown.0;
+        table = grown.1;
+        past = grown.2.past (last new) drawn h.past;
+        seen = subst (IsPermutation t.table.rows) (sym (grown.2.unseen (committed new) (last new) (inl hidden))) h.seen;
+        more = let k = grown.2.count in let z = h.count in omega arith;
+        few = let k = grown.2.count in let z = h.count in omega arith;
       }
-      by true told =
-          let h : HasRows a new c t mine = rows-later a old new c t mine later (stands.rows told) in
-          let grown = p.joined h.versions h.table in
-          record {
-            versions = length grown.0;
-            more = let k = grown.2.count in let z = h.count in omega arith;
-            few = let k = grown.2.count in let z = h.count in omega arith;
-            stands = record {
-              chain = p.grows.chain;
-              rows = λ t'. record {
-                versions = grown.0;
-                table = grown.1;
-                past = grown.2.past (last new) drawn h.past;
-                seen = subst (IsPermutation t.table.rows) (sym (grown.2.unseen (committed new) (last new) hidden)) h.seen;
-                count = refl;
-              };
-            };
-          }
 
 -- ---- what stands against an INSERT
 
@@ -166,12 +95,6 @@ refusal-same c tables i shape =
     ∷ first_cause (columns_cause (cols j) [] i.columns)
     ∷ Rattle.hg_model.specs.Binding.cause_if (not (list_all (tuple_fits (cols j) (insert_targets (cols j) i.columns)) (tuples_from 0 i.ends i.values))) TypeMismatch
     ∷ [])
-
-stamps-left : (given : ℕ) → given < 2 ^ 20 → stamp_cause given ≡ None
-stamps-left given few = let off : nat_le (2 ^ 20) given ≡ false = grind (arith, nat_tests) in ap (λ b. Rattle.hg_model.specs.Binding.cause_if b StampsUsedUp) off
-
-stamps-gone : (given : ℕ) → given ≡ 2 ^ 20 → stamp_cause given ≡ Some StampsUsedUp
-stamps-gone given all = let on : nat_le (2 ^ 20) given ≡ true = grind (arith, nat_tests) in ap (λ b. Rattle.hg_model.specs.Binding.cause_if b StampsUsedUp) on
 
 pub cause-of-refusal : (given : ℕ) (tables : List Table) (i : InsertTree) (r : Refusal) → insert_refusal tables i ≡ Some r → insert_cause given tables i ≡ Some r
 unfolding first_cause
@@ -190,10 +113,6 @@ cause-none given tables i e few = λ j. first_cause (e j ∷ stamps-left given f
 length-tuples : (from : ℕ) (ends : List ℕ) (values : List Literal) → length (tuples_from from ends values) ≡ length ends
 length-tuples from [] values = refl
 length-tuples from (e ∷ es) values = ap suc (length-tuples e es values)
-
-length-mapped : {X Y : Type 0} (f : X → Y) (xs : List X) → length (map f xs) ≡ length xs
-length-mapped f [] = refl
-length-mapped f (x ∷ xs) = ap suc (length-mapped f xs)
 
 pub count-rows : (texts : List ℕ) (columns : List Column) (targets : List ℕ) (values : List Literal) (ends : List ℕ)
     → length (rows_of_tuples texts columns targets values ends) ≡ length ends
@@ -273,48 +192,7 @@ pub inserts-unmade : (state : State) (texts : List ℕ) (i : InsertTree) (r : Re
 unfolding insertion
 inserts-unmade state texts i r cause = refused_before r cause refl refl
 
--- ---- what it spends
-
-taken-fits : (s : Space) (file : File) → taken_in s file ≤ s.limit file
-taken-fits s file = taken_below-le s.taken file (s.limit file)
-
-module _ (a b : Space) (max mpl : ℕ) (old new : List Bool) (listed : List TableState) (left : Left) (k : ℕ) (u : TableState) (name : List ℕ) (n : ℕ)
-    (first : FirstAt (is_table name) listed k) (at : slice_get listed k ≡ Some u) (limit : b.limit ≡ a.limit) (current : b.heaps.current ≡ a.heaps.current)
-    (temp_same : taken_in b Temp ≡ taken_in a Temp) (one_more : last new ≡ last old + 1) where
-  abbrev grown : List TableState
-  grown = slice_set listed k (record { table = u.table; versions = n })
-
-  pub spends : (main temp versions : ℕ) → taken_in a Main ≤ taken_in b Main → taken_in b Main ≤ taken_in a Main + main → u.versions ≤ n → n ≤ u.versions + versions
-      → Spends (record { main = main; temp = temp; versions = versions; stamps = 1; lowers = false }) name
-      (state_of a max mpl old None listed left) (state_of b max mpl new None grown nothing_left)
-  spends main temp versions more few rows_more rows_few =
-      let same : versions_in listed name ≡ u.versions = versions-in listed name k u first at in record {
-        used = taken_in b Main;
-        over = taken_in b Temp;
-        versions = n;
-        main = record { not_less = λ h. more; few = few };
-        temp = record { not_less = λ h. omega (arith, temp_same); few = omega (arith, temp_same) };
-        rows = record { not_less = λ h. omega (arith, same, rows_more); few = omega (arith, same, rows_few) };
-        main_fits = λ h. let f = taken-fits b Main in let l = ap (λ g. g Main) limit in omega (arith, f, l);
-        temp_fits = λ h. let f = taken-fits b Temp in let l = ap (λ g. g Temp) limit in omega (arith, f, l);
-        after = λ i. record (state_of b max mpl new None grown nothing_left) {
-          tables = sym (versions-set listed name k u n first at) i;
-          current = current i;
-          stamps = one_more i;
-          main_limit = limit i Main;
-          temp_limit = limit i Temp;
-        };
-      }
-
 -- ---- the step
-
-pub shape-at : (catalog : List CatalogTable) (tables : List TableState) (k : ℕ) (c : CatalogTable) (t : TableState) → map rowless tables ≡ map table_of catalog
-    → slice_get catalog k ≡ Some c → slice_get tables k ≡ Some t → rowless t ≡ table_of c
-shape-at catalog tables k c t shape hc ht =
-    let mapped : ◌≡◌ {A = Option Table} (Some (rowless t)) (Some (table_of c)) =
-    ap (Rattle.std.specs.Prelude.option_map rowless) (sym ht) ∙ sym (Rattle.std.proofs.lemmas.Option.slice_get-map rowless tables k) ∙ ap (λ l. slice_get l k) shape
-    ∙ Rattle.std.proofs.lemmas.Option.slice_get-map table_of catalog k ∙ ap (Rattle.std.specs.Prelude.option_map table_of) hc in
-    Rattle.hg_engine.proofs.StandLaws.some-one (rowless t) (table_of c) mapped
 
 module _ (a b : Space) (old new : Tables) (i : InsertTree) (texts targets : List ℕ) (k stamp : ℕ) (mid : List Bool)
     (idle : old.is_open ≡ false) (still : new.is_open ≡ old.is_open) (max : new.max ≡ old.max) (mpl : new.mpl ≡ old.mpl)
@@ -324,140 +202,76 @@ module _ (a b : Space) (old new : Tables) (i : InsertTree) (texts targets : List
     (draws : Draws old.stamps mid stamp) (room : last old.stamps < 2 ^ 20) where
   -- what is known of the state before
   module _ (before : State) (st : TablesAre a old before) where
-    abbrev now : State
-    now = state_of a old.max old.mpl old.stamps None st.tables st.left
+    abbrev e : FoundAt a old.stamps old.catalog.tables st.tables st.pages k
+    e = there a b old new i.table k idle still max mpl number inside before st
 
-    now-is : before ≡ now
-    now-is = st.is ∙ ap (λ c. state_of a old.max old.mpl old.stamps c st.tables st.left) (no-work old.is_open old.open idle)
+    abbrev own : List (List Value)
+    own = e.table.table.rows
 
-    pub at-k : FoundAt a old.stamps old.catalog.tables st.tables st.pages k
-    at-k = found-at a old.stamps old.catalog.tables st.tables st.pages k st.stand inside
+    abbrev here : State
+    here = seen a b old new i.table k idle still max mpl number inside before st own
 
-    first : FirstAt (is_table i.table) st.tables k
-    first = number-first old.catalog st.tables i.table k st.stand.shape number
+    abbrev t : Table
+    t = (has_rows own e.table).table
 
-    abbrev entry : CatalogTable
-    entry = at-k.entry
+    sees-own : MaySee a.told before here
+    sees-own = sees a b old new i.table k idle still max mpl number inside before st own (λ told. refl)
 
-    abbrev t : TableState
-    t = at-k.table
+    shape : map rowless here.tables ≡ map table_of old.catalog.tables
+    shape = shape-seen a b old new i.table k idle still max mpl number inside before st own
 
-    named : table_named (tables_in st.tables) i.table ≡ Some t.table
-    named = named-first st.tables i.table k t first at-k.at_table
+    named : table_named (tables_seen here) i.table ≡ Some t
+    named = named-seen a b old new i.table k idle still max mpl number inside before st own
 
-    unrefused-here : insert_refusal (tables_in st.tables) i ≡ None
-    unrefused-here = refusal-same old.catalog st.tables i st.stand.shape ∙ unrefused
+    unrefused-here : insert_refusal (tables_seen here) i ≡ None
+    unrefused-here = refusal-same old.catalog here.tables i shape ∙ unrefused
 
-    same-columns : entry.columns ≡ t.table.columns
-    same-columns = sym (ap (λ (w : Table). w.columns) (shape-at old.catalog.tables st.tables k entry t st.stand.shape at-k.at_entry at-k.at_table))
+    same-columns : e.entry.columns ≡ t.columns
+    same-columns = columns-there a b old new i.table k idle still max mpl number inside before st
 
-    same-targets : targets ≡ insert_targets t.table.columns i.columns
-    same-targets = targets_are ∙ ap (λ cs. insert_targets cs i.columns) (sym (columns-same old.catalog st.tables st.stand.shape i.table) ∙ ap columns_of named)
+    same-targets : targets ≡ insert_targets t.columns i.columns
+    same-targets = targets_are ∙ ap (λ cs. insert_targets cs i.columns) (sym (columns-same old.catalog here.tables shape i.table) ∙ ap columns_of named)
 
     abbrev added : List (List Value)
-    added = rows_of_tuples texts entry.columns targets i.values i.ends
+    added = rows_of_tuples texts e.entry.columns targets i.values i.ends
 
-    same-rows : added ≡ rows_of_tuples texts t.table.columns (insert_targets t.table.columns i.columns) i.values i.ends
+    same-rows : added ≡ rows_of_tuples texts t.columns (insert_targets t.columns i.columns) i.values i.ends
     same-rows = λ j. rows_of_tuples texts (same-columns j) (same-targets j) i.values i.ends
 
     count-added : length added ≡ length i.ends
-    count-added = count-rows texts entry.columns targets i.values i.ends
-
-    -- what stands behind rows that were put into the table, and what was spent for them
-    module _ (ends : Ends) (w_rows : List (List Value)) (g_now : List ℕ) (marks : List Bool) (n : ℕ)
-        (g : Grows a b ends (st.pages k) g_now n) (later : IsLater old.stamps marks) (one_more : last marks ≡ last old.stamps + 1)
-        (some : n ≤ length i.ends) (w : StandsWith b marks (with_ends entry ends) t w_rows g_now n)
-        (moved : new.catalog ≡ record old.catalog { tables = with_pages old.catalog.tables k ends }) (stamped : new.stamps ≡ marks) where
-      abbrev more : List TableState
-      more = slice_set st.tables k (with_more t w_rows w.versions)
-
-      abbrev after : State
-      after = state_of b old.max old.mpl marks None more nothing_left
-
-      same-shape : rowless (with_more t w_rows w.versions) ≡ rowless t
-      same-shape = refl
-
-      standing : Stands b old.max old.mpl (record old.catalog { tables = with_pages old.catalog.tables k ends }) marks None after
-      standing = record {
-        pins = g.steady.pins_after;
-        none_lent = g.none_lent st.none_lent;
-        most = g.steady.most ∙ st.most;
-        some_may = st.some_may;
-        no_indexes = st.no_indexes;
-        tables = more;
-        pages = pages_with st.pages k g_now;
-        stand = subst (λ l. TablesStand b marks l more (pages_with st.pages k g_now)) (sym (pages-set old.catalog.tables k entry ends at-k.at_entry))
-            (tables-then a b old.stamps marks old.catalog.tables st.tables st.pages k entry t (with_more t w_rows w.versions) ends g_now n later st.stand at-k.at_entry at-k.at_table g refl w.stands);
-        left = nothing_left;
-        stands = tt;
-        is = refl;
-      }
-
-      pub stands-after : TablesAre b new after
-      stands-after = kept b new None after old.max old.mpl (record old.catalog { tables = with_pages old.catalog.tables k ends }) marks moved stamped (no-work new.is_open new.open (still ∙ idle)) max mpl standing
-
-      -- a change that was made: the rows are those of the table now
-      pub spent-made : (main temp versions : ℕ) → n ≤ main → n ≤ versions
-          → Spends (record { main = main; temp = temp; versions = versions; stamps = 1; lowers = false }) i.table (with_rows now i.table w_rows) after
-      spent-made main temp versions em ev =
-          let u : TableState = has_rows w_rows t in
-          let listed : List TableState = slice_set st.tables k u in
-          let is_t : is_table i.table t ≡ true = first-is st.tables i.table k t first at-k.at_table in
-          let there : FirstAt (is_table i.table) listed k = first-set st.tables i.table k u first is_t in
-          let inside_t : k < length st.tables = slice_get_within st.tables k t at-k.at_table in
-          let P : List TableState → Type 0 = λ l. Spends (record { main = main; temp = temp; versions = versions; stamps = 1; lowers = false }) i.table
-          (state_of a old.max old.mpl old.stamps None listed st.left) (state_of b old.max old.mpl marks None l nothing_left) in
-          let Q : List TableState → Type 0 = λ l. Spends (record { main = main; temp = temp; versions = versions; stamps = 1; lowers = false }) i.table
-          (state_of a old.max old.mpl old.stamps None l st.left) after in
-          let one : P more = subst P (set-set st.tables k u (with_more t w_rows w.versions))
-          (spends a b old.max old.mpl old.stamps marks listed st.left k u i.table w.versions there (get-set-here st.tables k u inside_t) g.steady.limit g.steady.current g.temp one_more
-          main temp versions g.more (let f = g.few in omega (arith, f, em)) w.more (let f = w.few in omega (arith, f, ev))) in
-          subst Q (sym (rows-set st.tables i.table k t w_rows first at-k.at_table)) one
-
-      -- a change that was refused or ended: the rows are as before
-      pub spent-kept : (main temp versions : ℕ) → n ≤ main → n ≤ versions → w_rows ≡ t.table.rows
-          → Spends (record { main = main; temp = temp; versions = versions; stamps = 1; lowers = false }) i.table now after
-      spent-kept main temp versions em ev same =
-          let P : List (List Value) → Type 0 = λ rows'. Spends (record { main = main; temp = temp; versions = versions; stamps = 1; lowers = false }) i.table now
-          (state_of b old.max old.mpl marks None (slice_set st.tables k (with_more t rows' w.versions)) nothing_left) in
-          subst P (sym same)
-          (spends a b old.max old.mpl old.stamps marks st.tables st.left k t i.table w.versions first at-k.at_table g.steady.limit g.steady.current g.temp one_more
-          main temp versions g.more (let f = g.few in omega (arith, f, em)) w.more (let f = w.few in omega (arith, f, ev)))
-
-  given-few : (before : State) (st : TablesAre a old before) → (now before st).stamps < 2 ^ 20
-  given-few before st = room
+    count-added = count-rows texts e.entry.columns targets i.values i.ends
 
   -- all rows were put
   pub insert-done : ((c : CatalogTable) → slice_get old.catalog.tables k ≡ Some c → PutsAll a b old.catalog new.catalog k stamp texts targets i.values i.ends c)
       → Commits mid new.stamps stamp → StepsTo a b old new (BeginsSo a.told (InsertRows i) texts) (rows (length i.ends) ∷ [])
   insert-done puts commits = record {
     to = λ before st.
-        let f = at-k before st in
+        let f = e before st in
         let all = puts f.entry f.at_entry in
         let p = all.puts (st.pages k) f.stands.chain in
-        let later : IsLater old.stamps new.stamps = later-committed old.stamps mid new.stamps stamp draws commits in
-        let drawn : stamp ≤ last new.stamps = let e = draws.drawn in let l = commits.last in omega arith in
-        let one : last new.stamps ≡ last old.stamps + 1 = let x = draws.next in let e = draws.drawn in let l = commits.last in omega arith in
+        let later = later-committed old.stamps mid new.stamps stamp draws commits in
+        let drawn : stamp ≤ last new.stamps = let x = draws.drawn in let l = commits.last in omega arith in
+        let one = one-more-committed old.stamps mid new.stamps stamp draws commits in
         let count = count-added before st in
-        let w = committed-stands a b old.stamps new.stamps f.entry f.table (st.pages k) all.after stamp (added before st) later drawn p f.stands commits.here in
-        let few : length (added before st) ≤ length i.ends = omega (arith, count) in
-        let here : State = now before st in
-        let t : Table = f.table.table in
-        let to : State = after before st all.after (t.rows ++ added before st) p.now new.stamps (length (added before st)) p.grows later one few w all.moves.tables refl in
-        let made' = inserts-made here texts i t refl (named before st) room (unrefused-here before st)
-        to
-        (subst (λ l. rows_cause t.columns l ≡ None) (same-rows before st) (subst (λ cs. rows_cause cs (added before st) ≡ None) (same-columns before st) all.no_cause))
-        (subst (λ l. Spends (done_allowance (insertion here texts i)) i.table (with_rows here i.table (t.rows ++ l))
-        to) (same-rows before st)
-        (spent-made before st all.after (t.rows ++ added before st) p.now new.stamps (length (added before st)) p.grows later one few w all.moves.tables refl
-        (insertion here texts i).need.main 0 (insertion here texts i).versions
-        (let e = needs-enough here texts i t refl (named before st) in omega (arith, e, few))
-        (let e = versions-is here texts i t refl (named before st) in omega (arith, e, few)))) in
-        let counted : length (rows_of_tuples texts t.columns (insert_targets t.columns i.columns) i.values i.ends) ≡ length i.ends = count-rows texts t.columns (insert_targets t.columns i.columns) i.values i.ends in (
+        let more : List (List Value) = added before st in
+        let n = length more in
+        let joined : List (List Value) = own before st ++ more in
+        let w = stands-with b new.stamps f.entry all.after f.table joined p.now n p.grows.chain (shows-put a b old.stamps new.stamps f.entry f.table (st.pages k) all.after stamp more later drawn p f.stands commits.here) in
+        let was : State = here before st in
+        let table : Table = t before st in
+        let to : State = after a b old new i.table k idle still max mpl number inside before st all.after joined p.now new.stamps n n p.grows later one w all.moves.tables refl in
+        let made' = inserts-made was texts i table refl (named before st) room (unrefused-here before st) to
+        (subst (λ l. rows_cause table.columns l ≡ None) (same-rows before st) (subst (λ cs. rows_cause cs more ≡ None) (same-columns before st) all.no_cause))
+        (subst (λ l. Spends (done_allowance (insertion was texts i)) i.table (with_rows was i.table (table.rows ++ l)) to) (same-rows before st)
+        (spent-made a b old new i.table k idle still max mpl number inside before st all.after joined p.now new.stamps n n p.grows later one w all.moves.tables refl
+        (own before st) (insertion was texts i).need.main 0 (insertion was texts i).versions
+        (let x = needs-enough was texts i table refl (named before st) in omega (arith, x, count))
+        (let x = versions-is was texts i table refl (named before st) in omega (arith, x, count)))) in
+        let counted : length (rows_of_tuples texts table.columns (insert_targets table.columns i.columns) i.values i.ends) ≡ length i.ends =
+        count-rows texts table.columns (insert_targets table.columns i.columns) i.values i.ends in (
           to,
-          stands-after before st all.after (t.rows ++ added before st) p.now new.stamps (length (added before st)) p.grows later one few w all.moves.tables refl,
-          begins-same a.told (InsertRows i) texts before to (rows (length i.ends) ∷ [])
-              (subst (λ s. Inserts s texts i (rows (length i.ends) ∷ []) to) (sym (now-is before st)) (subst (λ n. Inserts here texts i (rows n ∷ []) to) counted made')),
+          stands-after a b old new i.table k idle still max mpl number inside before st all.after joined p.now new.stamps n n p.grows later one w all.moves.tables refl,
+          begins-seen a.told (InsertRows i) texts before was to (rows (length i.ends) ∷ []) (sees-own before st) (subst (λ m. Inserts was texts i (rows m ∷ []) to) counted made'),
         );
   }
 
@@ -466,90 +280,70 @@ module _ (a b : Space) (old new : Tables) (i : InsertTree) (texts targets : List
       → new.stamps ≡ mid → StepsTo a b old new (BeginsSo a.told (InsertRows i) texts) (line_of f ∷ [])
   insert-faulted f puts uncommitted = record {
     to = λ before st.
-        let e = at-k before st in
-        let some = puts e.entry e.at_entry in
-        let p = some.puts (st.pages k) e.stands.chain in
-        let later : IsLater old.stamps mid = later-drawn old.stamps mid stamp draws in
+        let x = e before st in
+        let some = puts x.entry x.at_entry in
+        let p = some.puts (st.pages k) x.stands.chain in
+        let later = later-drawn old.stamps mid stamp draws in
         let drawn : stamp ≤ last mid = let d = draws.drawn in omega arith in
-        let one : last mid ≡ last old.stamps + 1 = let x = draws.next in let d = draws.drawn in omega arith in
+        let one = one-more old.stamps mid stamp draws in
         let count = count-added before st in
-        let w = uncommitted-stands a b old.stamps mid e.entry e.table (st.pages k) some.after stamp p.done later drawn p.puts e.stands (hidden-drawn old.stamps mid stamp draws) in
-        let less = p.few in
-        let few : length p.done ≤ length i.ends = omega (arith, count, less) in
-        let here : State = now before st in
-        let to : State = after before st some.after e.table.table.rows p.puts.now mid (length p.done) p.puts.grows later one few w some.moves.tables uncommitted in
-        let spent : Spends (ended_allowance (insertion here texts i)) i.table here to =
-        spent-kept before st some.after e.table.table.rows p.puts.now mid (length p.done) p.puts.grows later one few w some.moves.tables uncommitted
-        (insertion here texts i).need.main (insertion here texts i).need.temp (insertion here texts i).versions
-        (let m = needs-enough here texts i e.table.table refl (named before st) in omega (arith, m, few))
-        (let m = versions-is here texts i e.table.table refl (named before st) in omega (arith, m, few)) refl in (
+        let n = length p.done in
+        let w = stands-with b mid x.entry some.after x.table (own before st) p.puts.now n p.puts.grows.chain
+        (shows-some-put a b old.stamps mid x.entry x.table (st.pages k) some.after stamp p.done later drawn p.puts x.stands (hidden-drawn old.stamps mid stamp draws)) in
+        let few : n ≤ length i.ends = let less = p.few in omega (arith, count, less) in
+        let was : State = here before st in
+        let to : State = after a b old new i.table k idle still max mpl number inside before st some.after (own before st) p.puts.now mid n n p.puts.grows later one w some.moves.tables uncommitted in
+        let spent : Spends (ended_allowance (insertion was texts i)) i.table was to =
+        spent-kept a b old new i.table k idle still max mpl number inside before st some.after (own before st) p.puts.now mid n n p.puts.grows later one w some.moves.tables uncommitted
+        (insertion was texts i).need.main (insertion was texts i).need.temp (insertion was texts i).versions
+        (let m = needs-enough was texts i (t before st) refl (named before st) in omega (arith, m, few))
+        (let m = versions-is was texts i (t before st) refl (named before st) in omega (arith, m, few)) in (
           to,
-          stands-after before st some.after e.table.table.rows p.puts.now mid (length p.done) p.puts.grows later one few w some.moves.tables uncommitted,
-          subst (λ s. BeginsSo a.told (InsertRows i) texts s (line_of f ∷ []) to) (sym (now-is before st)) (by-cause f before st to (length (added before st)) count p.cause spent),
+          stands-after a b old new i.table k idle still max mpl number inside before st some.after (own before st) p.puts.now mid n n p.puts.grows later one w some.moves.tables uncommitted,
+          by-cause f before st to (length (added before st)) count p.cause spent,
         );
   }
     where
       by-cause : (f : PageFault) (before : State) (st : TablesAre a old before) (to : State) (n : ℕ) → n ≡ length i.ends → PutFault a b n f
-          → Spends (ended_allowance (insertion (now before st) texts i)) i.table (now before st) to → BeginsSo a.told (InsertRows i) texts (now before st) (line_of f ∷ []) to
+          → Spends (ended_allowance (insertion (here before st) texts i)) i.table (here before st) to → BeginsSo a.told (InsertRows i) texts before (line_of f ∷ []) to
       by-cause fault.MainFault before st to n same cause spent =
-          begins-same a.told (InsertRows i) texts (now before st) to (device_fault Main ∷ [])
-          (inserts-failed (now before st) texts i (at-k before st).table.table refl (named before st) room (unrefused-here before st) to Main spent)
+          begins-seen a.told (InsertRows i) texts before (here before st) to (device_fault Main ∷ []) (sees-own before st)
+          (inserts-failed (here before st) texts i (t before st) refl (named before st) room (unrefused-here before st) to Main spent)
       by-cause fault.TempFault before st to n same cause spent =
-          begins-same a.told (InsertRows i) texts (now before st) to (device_fault Temp ∷ [])
-          (inserts-failed (now before st) texts i (at-k before st).table.table refl (named before st) room (unrefused-here before st) to Temp spent)
+          begins-seen a.told (InsertRows i) texts before (here before st) to (device_fault Temp ∷ []) (sees-own before st)
+          (inserts-failed (here before st) texts i (t before st) refl (named before st) room (unrefused-here before st) to Temp spent)
       by-cause fault.MainFull before st to n same cause spent =
-          begins-same a.told (InsertRows i) texts (now before st) to (file_full Main ∷ [])
-          (inserts-full (now before st) texts i (at-k before st).table.table refl (named before st) room (unrefused-here before st) to
+          begins-seen a.told (InsertRows i) texts before (here before st) to (file_full Main ∷ []) (sees-own before st)
+          (inserts-full (here before st) texts i (t before st) refl (named before st) room (unrefused-here before st) to
           (let full = cause.0 in omega (arith, full, same)) spent)
       by-cause fault.TempFull before st to n same cause spent = absurd cause
       by-cause (fault.Damaged page check) before st to n same cause spent =
-          begins-damaged a.told (InsertRows i) texts (now before st) to Main page check [] cause refl
-          (inserts-failed (now before st) texts i (at-k before st).table.table refl (named before st) room (unrefused-here before st) to Main spent)
+          begins-damaged-seen a.told (InsertRows i) texts before (here before st) to Main page check [] cause refl (sees-own before st)
+          (inserts-failed (here before st) texts i (t before st) refl (named before st) room (unrefused-here before st) to Main spent)
 
 -- ---- an INSERT that writes nothing
 
 module _ (s : Space) (old new : Tables) (i : InsertTree) (texts : List ℕ) (idle : old.is_open ≡ false) (still : new.is_open ≡ old.is_open) (max : new.max ≡ old.max) (mpl : new.mpl ≡ old.mpl)
-    (catalog : new.catalog ≡ old.catalog) where
-  unmoved : (before : State) (st : TablesAre s old before) → new.stamps ≡ old.stamps → TablesAre s new before
-  unmoved before st stamps = kept s new (work_in old.is_open old.open) before old.max old.mpl old.catalog old.stamps catalog stamps
-      (no-work new.is_open new.open (still ∙ idle) ∙ sym (no-work old.is_open old.open idle)) max mpl st
-
-  resting-here : (before : State) (st : TablesAre s old before) → before ≡ state_of s old.max old.mpl old.stamps None st.tables st.left
-  resting-here before st = st.is ∙ ap (λ c. state_of s old.max old.mpl old.stamps c st.tables st.left) (no-work old.is_open old.open idle)
-
-  unmade-step : (before : State) (st : TablesAre s old before) (r : Refusal)
-      → insert_cause (last old.stamps) (tables_in st.tables) i ≡ Some r → BeginsSo s.told (InsertRows i) texts before (refusal_line r ∷ []) before
-  unmade-step before st r cause =
+    (catalog : new.catalog ≡ old.catalog) (stamps : new.stamps ≡ old.stamps) where
+  unmade : (r : Refusal) → ((tables : List TableState) → map rowless tables ≡ map table_of old.catalog.tables → insert_cause (last old.stamps) (tables_in tables) i ≡ Some r)
+      → StepsTo s s old new (BeginsSo s.told (InsertRows i) texts) (refusal_line r ∷ [])
+  unmade r cause = record {
+    to = λ before st. (
+      before,
+      unmoved s old new idle still max mpl catalog stamps before st,
       begins-same s.told (InsertRows i) texts before before (refusal_line r ∷ [])
-      (subst (λ b. Inserts b texts i (refusal_line r ∷ []) b) (sym (resting-here before st))
-      (inserts-unmade (state_of s old.max old.mpl old.stamps None st.tables st.left) texts i r cause))
+          (subst (λ b. Inserts b texts i (refusal_line r ∷ []) b) (sym (resting-here s old idle before st)) (inserts-unmade _ texts i r (cause st.tables st.stand.shape))),
+    );
+  }
 
   -- its statement was refused
-  pub insert-misfit : (r : Refusal) → insert_refusal (tables_of old.catalog) i ≡ Some r → new.stamps ≡ old.stamps
-      → StepsTo s s old new (BeginsSo s.told (InsertRows i) texts) (refusal_line r ∷ [])
-  insert-misfit r why stamps = record {
-    to = λ before st. (
-      before,
-      unmoved before st stamps,
-      unmade-step before st r (cause-of-refusal (last old.stamps) (tables_in st.tables) i r (refusal-same old.catalog st.tables i st.stand.shape ∙ why)),
-    );
-  }
+  pub insert-misfit : (r : Refusal) → insert_refusal (tables_of old.catalog) i ≡ Some r → StepsTo s s old new (BeginsSo s.told (InsertRows i) texts) (refusal_line r ∷ [])
+  insert-misfit r why = unmade r (λ tables shape. cause-of-refusal (last old.stamps) (tables_in tables) i r (refusal-same old.catalog tables i shape ∙ why))
 
   -- no stamp was left
-  pub insert-late : insert_refusal (tables_of old.catalog) i ≡ None → last old.stamps ≡ 2 ^ 20 → new.stamps ≡ old.stamps
+  pub insert-late : insert_refusal (tables_of old.catalog) i ≡ None → last old.stamps ≡ 2 ^ 20
       → StepsTo s s old new (BeginsSo s.told (InsertRows i) texts) (refusal_line StampsUsedUp ∷ [])
-  insert-late stands all stamps = record {
-    to = λ before st. (
-      before,
-      unmoved before st stamps,
-      unmade-step before st StampsUsedUp (cause-of-stamps (last old.stamps) (tables_in st.tables) i (refusal-same old.catalog st.tables i st.stand.shape ∙ stands) all),
-    );
-  }
-
-set-same : {X : Type 0} (xs : List X) (k : ℕ) (x : X) → slice_get xs k ≡ Some x → slice_set xs k x ≡ xs
-set-same [] k x h = refl
-set-same (y ∷ ys) zero x h = ap (λ w. w ∷ ys) (sym (Rattle.hg_engine.proofs.StandLaws.some-one y x h))
-set-same (y ∷ ys) (suc k) x h = ap (λ l. y ∷ l) (set-same ys k x h)
+  insert-late stands all = unmade StampsUsedUp (λ tables shape. cause-of-stamps (last old.stamps) (tables_in tables) i (refusal-same old.catalog tables i shape ∙ stands) all)
 
 module _ (s : Space) (old new : Tables) (i : InsertTree) (texts targets : List ℕ) (k stamp : ℕ)
     (idle : old.is_open ≡ false) (still : new.is_open ≡ old.is_open) (max : new.max ≡ old.max) (mpl : new.mpl ≡ old.mpl) (catalog : new.catalog ≡ old.catalog)
@@ -587,6 +381,7 @@ module _ (s : Space) (old new : Tables) (i : InsertTree) (texts targets : List �
             none_lent = st.none_lent;
             most = st.most;
             some_may = st.some_may;
+            few_temp = st.few_temp;
             no_indexes = st.no_indexes;
             tables = st.tables;
             pages = st.pages;
@@ -602,34 +397,24 @@ module _ (s : Space) (old new : Tables) (i : InsertTree) (texts targets : List �
 
 -- ---- what the call on the table asks, what it leaves, and which damage it finds
 
-pub stands-at : (s : Space) (x : Tables) (k : ℕ) (state : State) → TablesAre s x state → StandsAt s x.catalog k
-stands-at s x k state st c hc =
-    let f = found-at s x.stamps x.catalog.tables st.tables st.pages k st.stand (slice_get_within x.catalog.tables k c hc) in
-    let one : TableStands s x.stamps c f.table (st.pages k) = st.stand.each k c f.table hc f.at_table in
-    record { pages = st.pages k; chain = one.chain; whole = λ told. let h = one.rows told in (h.versions, h.table) }
-
--- the same over an equal catalog
-pub stands-over : (s : Space) (c d : Contents) (k : ℕ) → d ≡ c → StandsAt s c k → StandsAt s d k
-stands-over s c d k same h = subst (λ e. StandsAt s e k) (sym same) h
-
 module _ (a b : Space) (old : Tables) (now : Contents) (i : InsertTree) (texts targets : List ℕ) (k stamp : ℕ) (state : State) (st : TablesAre a old state) (inside : k < length old.catalog.tables) where
-  there : FoundAt a old.stamps old.catalog.tables st.tables st.pages k
-  there = found-at a old.stamps old.catalog.tables st.tables st.pages k st.stand inside
+  here-at : FoundAt a old.stamps old.catalog.tables st.tables st.pages k
+  here-at = found-at a old.stamps old.catalog.tables st.tables st.pages k st.stand inside
 
   pub done-same : ((c : CatalogTable) → slice_get old.catalog.tables k ≡ Some c → PutsAll a b old.catalog now k stamp texts targets i.values i.ends c) → IsSameSpace a b
   done-same puts =
-      let p = (puts there.entry there.at_entry).puts (st.pages k) there.stands.chain in
+      let p = (puts here-at.entry here-at.at_entry).puts (st.pages k) here-at.stands.chain in
       same-space (table_mine a (st.pages k)) a b p.grows.steady
 
   pub part-same : (f : PageFault) → ((c : CatalogTable) → slice_get old.catalog.tables k ≡ Some c → PutsPart a b old.catalog now k stamp texts targets i.values i.ends f c) → IsSameSpace a b
   part-same f puts =
-      let p = (puts there.entry there.at_entry).puts (st.pages k) there.stands.chain in
+      let p = (puts here-at.entry here-at.at_entry).puts (st.pages k) here-at.stands.chain in
       same-space (table_mine a (st.pages k)) a b p.puts.grows.steady
 
   pub part-counted : (f : PageFault) → ((c : CatalogTable) → slice_get old.catalog.tables k ≡ Some c → PutsPart a b old.catalog now k stamp texts targets i.values i.ends f c)
       → CountedIn a b (line_of f ∷ [])
   part-counted f puts =
-      let p = (puts there.entry there.at_entry).puts (st.pages k) there.stands.chain in
+      let p = (puts here-at.entry here-at.at_entry).puts (st.pages k) here-at.stands.chain in
       put-counted a b _ f p.puts.grows.steady.counts p.cause
 
   finds : (f : PageFault) (n : ℕ) (c : CatalogTable) → slice_get now.tables k ≡ Some c → same_name c.name i.table ≡ true → PutFault a b n f → FindsLast c.pages.last f
@@ -645,18 +430,11 @@ module _ (a b : Space) (old : Tables) (now : Contents) (i : InsertTree) (texts t
       → ((c : CatalogTable) → slice_get old.catalog.tables k ≡ Some c → PutsPart a b old.catalog now k stamp texts targets i.values i.ends f c)
       → TellOnlyFound (InsertFinds a now.tables i.table) (line_of f ∷ [])
   part-found f number puts =
-      let some = puts there.entry there.at_entry in
-      let p = some.puts (st.pages k) there.stands.chain in
-      let at : slice_get now.tables k ≡ Some (with_ends there.entry some.after) =
-      ap (λ (c : Contents). slice_get c.tables k) some.moves.tables ∙ ap (λ l. slice_get l k) (pages-set old.catalog.tables k there.entry some.after there.at_entry)
-      ∙ get-set-here old.catalog.tables k (with_ends there.entry some.after) inside in
-      let named : same_name there.entry.name i.table ≡ true =
-      first-holds (λ (c : CatalogTable). same_name c.name i.table) old.catalog.tables k there.entry (position-first (λ (c : CatalogTable). same_name c.name i.table) old.catalog.tables k number) there.at_entry in
-      finds f _ (with_ends there.entry some.after) at named p.cause p.found
-
--- what is told of an error of a change that is of one kind
-pub at-fault : (e : ChangeError) (f : PageFault) (P : PageFault → Type 0) → e ≡ change.Fault f → OnFault P e → P f
-at-fault e f P is h = subst (OnFault P) is h
-
-pub at-refused : (e : ChangeError) (code : ℕ) (column : Option ℕ) (P : ℕ → Option ℕ → Type 0) → e ≡ change.Refused code column → OnRefused P e → P code column
-at-refused e code column P is h = subst (OnRefused P) is h
+      let some = puts here-at.entry here-at.at_entry in
+      let p = some.puts (st.pages k) here-at.stands.chain in
+      let at : slice_get now.tables k ≡ Some (with_ends here-at.entry some.after) =
+      ap (λ (c : Contents). slice_get c.tables k) some.moves.tables ∙ ap (λ l. slice_get l k) (pages-set old.catalog.tables k here-at.entry some.after here-at.at_entry)
+      ∙ get-set-here old.catalog.tables k (with_ends here-at.entry some.after) inside in
+      let named : same_name here-at.entry.name i.table ≡ true =
+      first-holds (λ (c : CatalogTable). same_name c.name i.table) old.catalog.tables k here-at.entry (position-first (λ (c : CatalogTable). same_name c.name i.table) old.catalog.tables k number) here-at.at_entry in
+      finds f _ (with_ends here-at.entry some.after) at named p.cause p.found

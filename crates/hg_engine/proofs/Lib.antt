@@ -4,7 +4,10 @@ pub mod StandLaws
 pub mod StepLaws
 pub mod TurnLaws
 pub mod CreateLaws
+pub mod ChangeLaws
 pub mod InsertLaws
+pub mod DeleteLaws
+pub mod UpdateLaws
 pub mod SelectLaws
 pub mod Saying
 pub mod Words

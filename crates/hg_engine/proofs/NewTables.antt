@@ -18,12 +18,12 @@ use Rattle.hg_model.specs.declared.trees.NewColumn.{NewColumn}
 use Rattle.hg_engine.proofs.Lookups.{FirstAt, position-first}
 
 -- where there is no first cause there is none
-first-none : (o : Option Refusal) (os : List (Option Refusal)) → first_cause (o ∷ os) ≡ None → (o ≡ None) × (first_cause os ≡ None)
+pub first-none : (o : Option Refusal) (os : List (Option Refusal)) → first_cause (o ∷ os) ≡ None → (o ≡ None) × (first_cause os ≡ None)
 unfolding first_cause
 first-none None os h = (refl, h)
 first-none (Some r) os h = absurd (none-some r (sym h))
 
-cause-off : (b : Bool) (r : Refusal) → cause_if b r ≡ None → b ≡ false
+pub cause-off : (b : Bool) (r : Refusal) → cause_if b r ≡ None → b ≡ false
 cause-off true r h = absurd (none-some r (sym h))
 cause-off false r h = refl
 

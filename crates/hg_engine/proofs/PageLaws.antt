@@ -1,5 +1,5 @@
 -- Laws of the pages of tables.
-use Rattle.std.specs.Prelude.{◌≡◌, ℕ, ◌<◌, ◌==◌, ◌||◌, Bool, true, false, List, [], ◌∷◌}
+use Rattle.std.specs.Prelude.{◌≡◌, ℕ, ◌<◌, ◌≤◌, ◌^◌, ◌==◌, ◌||◌, Bool, true, false, List, [], ◌∷◌}
 use Rattle.std.specs.List.{AllByRecursion}
 use Rattle.std.proofs.Common.{sym, ◌∙◌, ap, subst, refl, arith, inl, inr}
 use Rattle.std.proofs.lemmas.Bool.{false≢true}
@@ -9,7 +9,7 @@ use Rattle.hg_base.specs.Lines.{NoneMine, has_page}
 use Rattle.hg_base.specs.Steadiness.{Steady}
 use Rattle.hg_base.specs.TakenLaws.{AreDistinctPages}
 use Rattle.hg_base.specs.declared.File.{File}
-use Rattle.hg_base.specs.declared.File.TheVariants.{Main}
+use Rattle.hg_base.specs.declared.File.TheVariants.{Main, Temp}
 use Rattle.hg_table.specs.Calls.{none_mine, TakesNone}
 use Rattle.hg_dml.specs.Lent.{NoneLent}
 
@@ -48,3 +48,7 @@ none-lent-still a b steady none q = steady.of_heap q (λ no. no) ∙ none q
 
 pub taken-still : (file : File) (a b : Space) → Steady none_mine a b → TakesNone a b → taken_in b file ≡ taken_in a file
 taken-still file a b steady none = ap (λ t. taken_below t file (b.limit file)) none.taken ∙ ap (λ l. taken_below a.taken file (l file)) steady.limit
+
+-- as many temporary pages as before
+pub few-still : (a b : Space) → b.limit ≡ a.limit → a.limit Temp ≤ 2 ^ 32 → b.limit Temp ≤ 2 ^ 32
+few-still a b same few = subst (λ l. l Temp ≤ 2 ^ 32) (sym same) few

@@ -19,7 +19,7 @@ use Rattle.hg_table.specs.Calls.{none_mine, TakesNone}
 use Rattle.hg_engine.specs.Standing.{LeftStands, nothing_left, state_of}
 use Rattle.hg_engine.specs.Stepping.{TablesAre, StepsTo, IsSameSpace, TurnFault, line_of, work_in}
 use Rattle.hg_engine.specs.declared.tables.Tables.{Tables}
-use Rattle.hg_engine.proofs.PageLaws.{none-lent-still}
+use Rattle.hg_engine.proofs.PageLaws.{few-still, none-lent-still}
 use Rattle.hg_engine.proofs.StandLaws.{tables-stay, stays-still, stays-resized}
 use Rattle.hg_engine.proofs.CreateLaws.{begins-same, kept, no-work}
 use Rattle.hg_engine.proofs.TurnLaws.{state-still, dropped-is}
@@ -39,6 +39,7 @@ module _ (a : Space) (x : Tables) (n : ℕ) (texts : List ℕ) (idle : x.is_open
             none_lent = st.none_lent;
             most = st.most;
             some_may = st.some_may;
+            few_temp = st.few_temp;
             no_indexes = st.no_indexes;
             tables = st.tables;
             pages = st.pages;
@@ -64,6 +65,7 @@ module _ (a : Space) (x : Tables) (n : ℕ) (texts : List ℕ) (idle : x.is_open
         none_lent = none-lent-still a b steady st.none_lent;
         most = steady.most ∙ st.most;
         some_may = st.some_may;
+        few_temp = few-still a b steady.limit st.few_temp;
         no_indexes = st.no_indexes;
         tables = st.tables;
         pages = st.pages;
@@ -106,6 +108,7 @@ drops s x y catalog stamps idle max mpl before st =
       none_lent = st.none_lent;
       most = st.most;
       some_may = st.some_may;
+      few_temp = st.few_temp;
       no_indexes = st.no_indexes;
       tables = st.tables;
       pages = st.pages;

@@ -13,6 +13,7 @@ use Rattle.hg_base.specs.declared.PageId.{PageId}
 use Rattle.hg_base.specs.declared.pages.PageFault.{PageFault}
 use Rattle.hg_base.specs.declared.pages.PageFault.TheVariants as fault
 use Rattle.hg_dml.specs.Putting.{PutFault}
+use Rattle.hg_dml.specs.Updating.{UpdateFault}
 use Rattle.hg_machine.specs.Plain.Refused.{refusal_line}
 use Rattle.hg_machine.specs.Plain.Replies.{ReplyLine, closed, line_text, text_of, has_error, is_error, is_code, code_lines}
 use Rattle.hg_model.specs.Refusal.{Refusal, UnknownTable, UnknownColumn, AmbiguousColumn, TypeMismatch, TooWide, NameTaken, TooMany, NotGrouped, DoesNotFit, NullNotAllowed, DuplicateKey, BadNumber, RowTooLong, StampsUsedUp, KeyTooLong}
@@ -159,6 +160,10 @@ full-says : (more : List ReplyLine) → HasFaultLines more 0 0 0 0 → HasFaultL
 unfolding code_lines
 full-says more q = record { main = ap (λ n. 0 + n) q.main; temp = ap (λ n. 0 + n) q.temp; main_full = ap (λ n. 1 + n) q.main_full; temp_full = ap (λ n. 0 + n) q.temp_full }
 
+temp_full-says : (more : List ReplyLine) → HasFaultLines more 0 0 0 0 → HasFaultLines (line_of fault.TempFull ∷ more) 0 0 0 1
+unfolding code_lines
+temp_full-says more q = record { main = ap (λ n. 0 + n) q.main; temp = ap (λ n. 0 + n) q.temp; main_full = ap (λ n. 0 + n) q.main_full; temp_full = ap (λ n. 1 + n) q.temp_full }
+
 damaged-says : (page : PageId) (check : Check) (more : List ReplyLine) → HasFaultLines more 0 0 0 0 → HasFaultLines (line_of (fault.Damaged page check) ∷ more) 0 0 0 0
 unfolding code_lines
 damaged-says page check more q = record { main = ap (λ n. 0 + n) q.main; temp = ap (λ n. 0 + n) q.temp; main_full = ap (λ n. 0 + n) q.main_full; temp_full = ap (λ n. 0 + n) q.temp_full }
@@ -181,6 +186,12 @@ full-counted a b lines later h says = record {
   full = record { main = (let s = says.main_full in omega (arith, s, h)); temp = (let s = says.temp_full in let l = later.temp_full in omega (arith, s, l)) };
 }
 
+temp_full-counted : (a b : Space) (lines : List ReplyLine) → Later a.counts b.counts → Rose a.counts.temp_full b.counts.temp_full → HasFaultLines lines 0 0 0 1 → CountedIn a b lines
+temp_full-counted a b lines later h says = record {
+  devices = record { main = (let s = says.main in let l = later.main_device in omega (arith, s, l)); temp = (let s = says.temp in let l = later.temp_device in omega (arith, s, l)) };
+  full = record { main = (let s = says.main_full in let l = later.main_full in omega (arith, s, l)); temp = (let s = says.temp_full in omega (arith, s, h)) };
+}
+
 none-says : HasFaultLines [] 0 0 0 0
 unfolding code_lines
 none-says = record { main = refl; temp = refl; main_full = refl; temp_full = refl }
@@ -191,6 +202,13 @@ put-counted a b n fault.TempFault later h = temp-counted a b _ later h (temp-say
 put-counted a b n fault.MainFull later h = full-counted a b _ later h.1 (full-says [] none-says)
 put-counted a b n fault.TempFull later h = absurd h
 put-counted a b n (fault.Damaged page check) later h = quiet-counted a b _ later (damaged-says page check [] none-says)
+
+pub update-counted : (a b : Space) (n : ℕ) (f : PageFault) → Later a.counts b.counts → UpdateFault a b n f → CountedIn a b (line_of f ∷ [])
+update-counted a b n fault.MainFault later h = main-counted a b _ later h (main-says [] none-says)
+update-counted a b n fault.TempFault later h = temp-counted a b _ later h (temp-says [] none-says)
+update-counted a b n fault.MainFull later h = full-counted a b _ later h.1 (full-says [] none-says)
+update-counted a b n fault.TempFull later h = temp_full-counted a b _ later h.1 (temp_full-says [] none-says)
+update-counted a b n (fault.Damaged page check) later h = quiet-counted a b _ later (damaged-says page check [] none-says)
 
 -- a look that failed, with no line behind its own
 pub look-counted : (a b : Space) (f : PageFault) → Later a.counts b.counts → TurnFault a b f → CountedIn a b (line_of f ∷ [])

@@ -69,8 +69,8 @@ use Rattle.hg_engine.specs.declared.open.OpenSelect.{OpenSelect}
 use Rattle.hg_engine.specs.declared.tables.Tables.{Tables}
 use Rattle.hg_engine.proofs.CreateLaws.{and-both, begins-same, kept, no-work}
 use Rattle.hg_engine.proofs.Lookups.{columns-same, some-same, tables_in}
-use Rattle.hg_engine.proofs.PageLaws.{none-lent-still}
-use Rattle.hg_engine.proofs.InsertLaws.{shape-at}
+use Rattle.hg_engine.proofs.PageLaws.{few-still, none-lent-still}
+use Rattle.hg_engine.proofs.ChangeLaws.{shape-at}
 use Rattle.hg_engine.proofs.StandLaws.{found-at, same-count, some-one, stays-still, tables-stay}
 use Rattle.hg_engine.proofs.TurnLaws.{call-damaged, call-end, call-fails, call-row, leaves_pairs, state-still}
 
@@ -363,6 +363,7 @@ module _ (s : Space) (old : Tables) (q : Query) (texts : List ℕ) (idle : old.i
           none_lent = st.none_lent;
           most = st.most;
           some_may = st.some_may;
+          few_temp = st.few_temp;
           no_indexes = st.no_indexes;
           tables = st.tables;
           pages = st.pages;
@@ -452,6 +453,7 @@ module _ (a b : Space) (old new : Tables) (running : old.is_open ≡ true) (cata
         none_lent = none-lent-still a b steady st.none_lent;
         most = steady.most ∙ st.most;
         some_may = st.some_may;
+        few_temp = few-still a b steady.limit st.few_temp;
         no_indexes = st.no_indexes;
         tables = st.tables;
         pages = st.pages;

@@ -1,7 +1,7 @@
 -- The words behind the code of a refusal.
-use Rattle.std.specs.Prelude.{◌≡◌, ℕ, ◌≤◌, List, [], ◌∷◌, Option, Some, None, unwrap_or, option_map, slice_get, length, ◌<◌}
+use Rattle.std.specs.Prelude.{◌≡◌, ℕ, ◌≤◌, List, [], ◌∷◌, Option, Some, None, unwrap_or, option_map, slice_get, slice_index_or, false, length, ◌<◌}
 use Rattle.std.proofs.Common.{sym, ◌∙◌, ap, subst, refl, arith}
-use Rattle.std.proofs.lemmas.Option.{none-some, slice_get_within}
+use Rattle.std.proofs.lemmas.Option.{none-some, slice_get_within, slice_get-get_or}
 use Rattle.hg_bind.specs.Bound.{error_of, name_written, kind_written}
 use Rattle.hg_bind.specs.declared.errors.BindError.{BindError}
 use Rattle.hg_machine.specs.Plain.Refused.{refusal_line, words_of, column_word}
@@ -11,6 +11,7 @@ use Rattle.hg_model.specs.declared.trees.ColRef.{ColRef}
 use Rattle.hg_model.specs.declared.trees.Count.{Count}
 use Rattle.hg_dml.specs.Rows.{Tells}
 use Rattle.hg_model.specs.declared.trees.Column.{Column}
+use Rattle.hg_model.specs.declared.trees.SqlType.TheVariants.{Integer}
 use Rattle.hg_reply.specs.Plain.{kind_words}
 
 one : {X : Type 0} (x y : X) → Some x ≡ Some y → x ≡ y
@@ -175,3 +176,13 @@ told-known columns code column BadNumber h = absurd h
 told-known columns code column RowTooLong h = let e = h.0 in omega (arith, e)
 told-known columns code column StampsUsedUp h = absurd h
 told-known columns code column KeyTooLong h = absurd h
+
+-- a code and a column's number tell one line
+no_column : Column
+no_column = record { name = []; ty = Integer; not_null = false }
+
+pub told-same : (columns : List Column) (code : ℕ) (column : Option ℕ) (r q : Refusal) → Tells columns code column r → Tells columns code column q → refusal_line r ≡ refusal_line q
+told-same columns code None r q h i = sym (told-nothing columns code r h) ∙ told-nothing columns code q i
+told-same columns code (Some k) r q h i =
+    let at = slice_get-get_or columns k no_column (told-within columns code k r h) in
+    sym (told-column columns code k (slice_index_or columns k no_column) r at h) ∙ told-column columns code k (slice_index_or columns k no_column) q at i

@@ -5,6 +5,7 @@ use Rattle.hg_base.specs.Space.{Space}
 use Rattle.hg_io.specs.declared.device.PageDevice.{Ghosts}
 use Rattle.hg_machine.specs.Plain.Replies.{ReplyLine}
 use Rattle.hg_machine.specs.Plain.State.{State}
+use Rattle.hg_plan.specs.declared.plan.Plan.{Plan}
 use Rattle.hg_pool.specs.Shown.{state_of, main_device, temp_device}
 use Rattle.hg_reply.specs.Steps.{DeviceFacts, FullCounts, FullsLater, NoneFell, Says, FullOnlyWhereFull, Findings, TellOnlyFound, Moves}
 use Rattle.hg_reply.specs.declared.reply.Reply.{Reply}
@@ -42,6 +43,16 @@ module _ {M T : Type 0} where
   -- how many bytes its replies had
   abbrev pub said_by_engine : Kept M T → ℕ
   said_by_engine e = e.said
+
+  -- no device was called, and no page was touched
+  pub record IsStill (m : Ghosts M) (t : Ghosts T) (old new : Kept M T) : Type 0 where
+    pub space : space_of m t new ≡ space_of m t old
+    pub main : main_of new ≡ main_of old
+    pub temp : temp_of new ≡ temp_of old
+
+  -- the plan of the SELECT at work
+  abbrev pub plan_of : Kept M T → Plan
+  plan_of e = e.tables.open.plan
 
   -- a SELECT is at work
   abbrev pub is_pending : Kept M T → Bool

@@ -2,7 +2,7 @@
 -- with the rows that the last stamp sees; the pages in use are those that are taken, and the stamps given
 -- are those that were drawn. Between two steps no pin is out and no page is lent. Where the space does not
 -- tell its bytes nothing is said of rows and of versions.
-use Rattle.std.specs.Prelude.{◌≡◌, ◌≢◌, ℕ, ◌<◌, ◌≤◌, ⊤, Bool, true, false, List, [], ◌∷◌, length, map, Option, None, Some, slice_get}
+use Rattle.std.specs.Prelude.{◌≡◌, ◌≢◌, ℕ, ◌<◌, ◌≤◌, ◌^◌, ⊤, Bool, true, false, List, [], ◌∷◌, length, map, Option, None, Some, slice_get}
 use Rattle.std.specs.List.{AllByRecursion}
 use Rattle.std.specs.List.Sorted.{IsPermutation}
 use Rattle.hg_base.specs.Space.{Space, NoPins, taken_in}
@@ -125,12 +125,14 @@ state_of s max mpl marks work tables left = record {
 }
 
 -- What an engine keeps of its tables, its stamps and the SELECT at work stands for this state. It has no
--- index; and as many frames are reserved as the pool may have.
+-- index; as many frames are reserved as the pool may have; and there are so few temporary pages that their numbers
+-- fit four bytes.
 pub record Stands (s : Space) (max mpl : ℕ) (catalog : Contents) (marks : List Bool) (work : Option OpenSelect) (state : State) : Type 0 where
   pub pins : NoPins s
   pub none_lent : NoneLent s
   pub most : s.heaps.most ≡ max
   pub some_may : 1 ≤ mpl
+  pub few_temp : s.limit Temp ≤ 2 ^ 32
   pub no_indexes : catalog.indexes ≡ []
   pub tables : List TableState
   pub pages : ℕ → List ℕ

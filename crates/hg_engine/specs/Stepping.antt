@@ -1,13 +1,16 @@
 -- What a step of an engine promises: it says lines, and is a step of the plain machine. Our own rule.
-use Rattle.std.specs.Prelude.{◌≡◌, ℕ, ◌+◌, Bool, true, false, List, Option, None, Some, slice_get}
+use Rattle.std.specs.Prelude.{◌≡◌, ℕ, ◌+◌, ◌⊎◌, Bool, true, false, List, Option, None, Some, slice_get, ⊤, map}
 use Rattle.std.specs.List.{AllByRecursion}
-use Rattle.hg_base.specs.Space.{Space, NoPins}
+use Rattle.hg_base.specs.Space.{Space, NoPins, key}
+use Rattle.hg_base.specs.Lines.{has_page}
 use Rattle.hg_base.specs.Causes.{Later, MainFailed, TempFailed}
 use Rattle.hg_base.specs.declared.Check.{Check}
 use Rattle.hg_base.specs.declared.File.TheVariants.{Main, Temp}
 use Rattle.hg_base.specs.declared.PageId.{PageId}
 use Rattle.hg_base.specs.declared.pages.PageFault.{PageFault}
 use Rattle.hg_base.specs.declared.pages.PageFault.TheVariants as fault
+use Rattle.hg_bind.specs.Bound.{tables_of}
+use Rattle.hg_bind.specs.BoundSelect.{AreTables}
 use Rattle.hg_catalog.specs.Contents.{CatalogTable}
 use Rattle.hg_machine.specs.Plain.Refused.{damaged}
 use Rattle.hg_machine.specs.Plain.Replies.{ReplyLine, device_fault, file_full}
@@ -15,7 +18,7 @@ use Rattle.hg_machine.specs.Plain.State.{State}
 use Rattle.hg_model.specs.Statements.{CommandTree, CreateTable, CreateIndex, InsertRows, UpdateRows, DeleteRows, Vacuum, SelectRows, OpenCursor, Start, Work, Fetch, Close, Pool, Mpl, ShowMemory}
 use Rattle.hg_model.specs.Tables.{same_name}
 use Rattle.hg_reply.specs.Steps.{DeviceFacts, FullCounts, Counted, FullOnlyWhereFull, Findings}
-use Rattle.hg_table.specs.Calls.{NamesGiven, IsPageCheck}
+use Rattle.hg_table.specs.Calls.{NamesGiven, NamesOneOf, IsPageCheck, IsVersionCheck}
 use Rattle.hg_table.specs.Chains.{IsChain}
 use Rattle.hg_plan.specs.declared.plan.TableLoop.{TableLoop}
 use Rattle.hg_exec.specs.Standing.{entry}
@@ -96,26 +99,65 @@ pub record InsertFinds (s : Space) (catalog : List CatalogTable) (name : List �
   pub last : NamesGiven entry.pages.last (fault.Damaged page check)
   pub failed : IsPageCheck check
 
+-- A DELETE finds damage only over a space that does not tell, in a page of its table: it is no slotted page (Kind,
+-- Size), or a record on it is no version of a row of the table (RowBytes).
+pub record DeleteFinds (s : Space) (catalog : List CatalogTable) (name : List ℕ) (page : PageId) (check : Check) : Type 0 where
+  pub untold : s.told ≡ false
+  pub table : ℕ
+  pub entry : CatalogTable
+  pub at : slice_get catalog table ≡ Some entry
+  pub named : same_name entry.name name ≡ true
+  pub pages : List ℕ
+  pub chain : IsChain s entry.pages pages
+  pub among : NamesOneOf pages (fault.Damaged page check)
+  pub failed : IsVersionCheck check
+
+-- An UPDATE finds damage only over a space that does not tell: in a page of its table, or in one that was not
+-- taken before, a new page of the table or a temporary one. It is no slotted page and no page of a run (Kind, Size),
+-- or a record on it is no version of a row of the table (RowBytes).
+pub record UpdateFinds (s : Space) (catalog : List CatalogTable) (name : List ℕ) (page : PageId) (check : Check) : Type 0 where
+  pub untold : s.told ≡ false
+  pub table : ℕ
+  pub entry : CatalogTable
+  pub at : slice_get catalog table ≡ Some entry
+  pub named : same_name entry.name name ≡ true
+  pub pages : List ℕ
+  pub chain : IsChain s entry.pages pages
+  pub found : ((page.file ≡ Main) × (has_page pages page.no ≡ true)) ⊎ (s.taken (key page) ≡ false)
+  pub failed : IsVersionCheck check
+
 abbrev pub no_damage : Findings
 no_damage page check = ⊥
 
--- Which damage a command finds up to its first turn: only an INSERT looks at pages.
-abbrev pub CommandFinds : Space → Tables → CommandTree → Findings
-CommandFinds s new (InsertRows i) = InsertFinds s new.catalog.tables i.table
-CommandFinds s new (CreateTable t) = no_damage
-CommandFinds s new (CreateIndex i) = no_damage
-CommandFinds s new (UpdateRows u) = no_damage
-CommandFinds s new (DeleteRows d) = no_damage
-CommandFinds s new (Vacuum t) = no_damage
-CommandFinds s new (SelectRows q) = no_damage
-CommandFinds s new (OpenCursor c q) = no_damage
-CommandFinds s new (Start c n) = no_damage
-CommandFinds s new (Work n) = no_damage
-CommandFinds s new (Fetch c n) = no_damage
-CommandFinds s new (Close c) = no_damage
-CommandFinds s new (Pool n) = no_damage
-CommandFinds s new (Mpl n) = no_damage
-CommandFinds s new ShowMemory = no_damage
+-- Which damage a command finds up to its first turn: only a change looks at pages. The tables are those before
+-- the command and after it.
+abbrev pub CommandFinds : Space → (old new : Tables) → CommandTree → Findings
+CommandFinds s old new (InsertRows i) = InsertFinds s new.catalog.tables i.table
+CommandFinds s old new (CreateTable t) = no_damage
+CommandFinds s old new (CreateIndex i) = no_damage
+CommandFinds s old new (UpdateRows u) = UpdateFinds s old.catalog.tables u.table
+CommandFinds s old new (DeleteRows d) = DeleteFinds s old.catalog.tables d.table
+CommandFinds s old new (Vacuum t) = no_damage
+CommandFinds s old new (SelectRows q) = no_damage
+CommandFinds s old new (OpenCursor c q) = no_damage
+CommandFinds s old new (Start c n) = no_damage
+CommandFinds s old new (Work n) = no_damage
+CommandFinds s old new (Fetch c n) = no_damage
+CommandFinds s old new (Close c) = no_damage
+CommandFinds s old new (Pool n) = no_damage
+CommandFinds s old new (Mpl n) = no_damage
+CommandFinds s old new ShowMemory = no_damage
+
+-- CREATE TABLE and the beginning of a SELECT call no device.
+abbrev pub StillWhere : CommandTree → Type 0 → Type 0
+StillWhere (CreateTable t) still = still
+StillWhere (SelectRows q) still = still
+StillWhere _ still = ⊤
+
+-- Only a SELECT has turns; the tables that it reads are those that FROM names, in their order.
+abbrev pub PlanIsOf : Tables → CommandTree → Type 0
+PlanIsOf x (SelectRows q) = AreTables (tables_of x.catalog) q.tables (map (λ (l : TableLoop). l.table) x.open.plan.loops.items)
+PlanIsOf x _ = ⊥
 
 -- what no step changes: whether the space tells, and how many pages it may have; and no count falls
 pub record IsSameSpace (a b : Space) : Type 0 where

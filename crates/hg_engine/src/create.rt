@@ -9,10 +9,10 @@ use arrayvec::ArrayVec;
 use hg_base::NoMemory;
 use hg_bind::refuse_columns;
 use hg_catalog::Catalog;
+use hg_dml::ChangeRoom;
 use hg_model::{Column, NewColumn};
 use hg_reply::{Reply, ReplyLine, TableAt};
 use hg_table::Stamps;
-use hg_value::Row;
 use std::alloc::Global;
 
 /// The columns of a table that is made.
@@ -57,8 +57,10 @@ impl Tables {
             open: SelectRoom::new(alloc)?,
             max,
             mpl,
-            row: Row::new(),
+            room: ChangeRoom::new(),
             targets: ArrayVec::new(),
+            places: ArrayVec::new(),
+            columns: ArrayVec::new(),
         })
     }
 

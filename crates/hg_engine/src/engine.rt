@@ -55,8 +55,8 @@ impl<M: PageDevice, T: PageDevice> Engine<M, T> {
     ghost use Rattle.hg_reply.specs.Asked.{IsReadAs};
     ghost use Rattle.hg_reply.specs.Steps.{BeginsRead, ContinuesSo};
     ghost use Rattle.hg_engine.specs.Opened.{sizes_of};
-    ghost use Rattle.hg_engine.specs.Shown.{space_of, main_of, temp_of, tells_of, frames_of, said_by_engine, turns_left, IsEngineOf, IsSomeEngine, is_pending, EngineSteps, IsLater};
-    ghost use Rattle.hg_engine.specs.Stepping.{CommandFinds, TurnFinds};
+    ghost use Rattle.hg_engine.specs.Shown.{space_of, main_of, temp_of, tells_of, frames_of, said_by_engine, turns_left, IsEngineOf, IsSomeEngine, is_pending, plan_of, EngineSteps, IsLater, IsStill};
+    ghost use Rattle.hg_engine.specs.Stepping.{CommandFinds, PlanIsOf, StillWhere, TurnFinds};
 
     /// An engine of no table over these devices. Page 0 of the main file is kept for the catalog. The only
     /// error is want of memory; the devices are then handed back. No device is called.
@@ -94,21 +94,24 @@ impl<M: PageDevice, T: PageDevice> Engine<M, T> {
 
     /// Runs one command up to its first turn, and puts its lines into `reply`, which is emptied first. It is a
     /// command that some line is read as, where a pool of `max` frames is the largest; one that the grammar
-    /// has and the engine has not by now is a syntax error, and changes nothing.
+    /// has and the engine has not by now is a syntax error, and changes nothing. CREATE TABLE and the beginning of
+    /// a SELECT call no device.
     pub fn command(&mut self, parsed: Parsed, reply: &mut Reply) -> Next
         requires idle { is_pending self.old ≡ false }
         requires read { IsReadAs (frames_of self.old) (command_tree parsed.command) parsed.texts.bytes }
         ensures step { EngineSteps M.PageDevice T.PageDevice self.old self.new reply.new
             (BeginsRead (tells_of M.PageDevice T.PageDevice self.old) (command_tree parsed.command) parsed.texts.bytes)
-            (λ now. CommandFinds (space_of M.PageDevice T.PageDevice self.old) now (command_tree parsed.command)) }
+            (λ now. CommandFinds (space_of M.PageDevice T.PageDevice self.old) self.old.tables now (command_tree parsed.command)) }
         ensures more { (result ≡ Next.More) ↔ (is_pending self.new ≡ true) }
+        ensures plan { result ≡ Next.More → PlanIsOf self.new.tables (command_tree parsed.command) }
+        ensures still { StillWhere (command_tree parsed.command) (IsStill M.PageDevice T.PageDevice self.old self.new) }
         ensures stood { IsSomeEngine M.PageDevice T.PageDevice self.old }
         ensures later { IsLater (space_of M.PageDevice T.PageDevice self.old) (space_of M.PageDevice T.PageDevice self.new) }
         ensures said { said_by_engine self.new ≡ raised (said_by_engine self.old) (array_vec_len reply.new.text) }
         ensures frames { frames_of self.new ≡ frames_of self.old }
     {
         let asked = asked_by(&parsed);
-        Machine::answer(self, &asked, reply)
+        self.kept.answer(&asked, reply)
     }
 
     /// Gives one turn of the command at work, with its end behind it where no turn is left and nothing is to
@@ -119,12 +122,13 @@ impl<M: PageDevice, T: PageDevice> Engine<M, T> {
             (λ now. TurnFinds (space_of M.PageDevice T.PageDevice self.old) self.old.tables) }
         ensures nearer { turns_left self.new < turns_left self.old }
         ensures more { (result ≡ Next.More) ↔ (is_pending self.new ≡ true) }
+        ensures plan { plan_of self.new ≡ plan_of self.old }
         ensures stood { IsSomeEngine M.PageDevice T.PageDevice self.old }
         ensures later { IsLater (space_of M.PageDevice T.PageDevice self.old) (space_of M.PageDevice T.PageDevice self.new) }
         ensures said { said_by_engine self.new ≡ raised (said_by_engine self.old) (array_vec_len reply.new.text) }
         ensures frames { frames_of self.new ≡ frames_of self.old }
     {
-        Machine::more(self, reply)
+        self.kept.more(reply)
     }
 
     /// There is a state of the plain machine that the engine stands for. It computes nothing: its
@@ -173,7 +177,7 @@ impl<M: PageDevice, T: PageDevice> Machine for Engine<M, T> {
 
     ghost frames = { frames_of };
 
-    ghost found_by = { λ old new command. CommandFinds (space_of M.PageDevice T.PageDevice old) new.tables command };
+    ghost found_by = { λ old new command. CommandFinds (space_of M.PageDevice T.PageDevice old) old.tables new.tables command };
 
     ghost found_in_turn = { λ e. TurnFinds (space_of M.PageDevice T.PageDevice e) e.tables };
 

@@ -8,14 +8,14 @@ ghost use Rattle.hg_model.specs.Refusal.{Refusal};
 
 use crate::say::{say_fault, say_refusal};
 use crate::tables::Tables;
-use hg_base::{Pages, Stamp};
+use hg_base::Pages;
 use hg_bind::{BindError, place_values};
 use hg_dml::{ChangeError, insert_rows};
 use hg_model::Column;
 use hg_reply::{InsertAt, Reply, ReplyLine, Words};
 
 /// Says what stands against the rows of a change.
-fn say_cause(reply: &mut Reply, columns: &[Column], code: u8, column: Option<u8>)
+pub fn say_cause(reply: &mut Reply, columns: &[Column], code: u8, column: Option<u8>)
     requires room { array_vec_len reply.old.text ≤ 512 }
     requires known { (r : Refusal) × Tells columns.now code column r }
     ensures text { (r : Refusal) → Tells columns.now code column r → reply.new.text.items ≡ reply.old.text.items ++ line_text (refusal_line r) }
@@ -29,7 +29,7 @@ fn say_cause(reply: &mut Reply, columns: &[Column], code: u8, column: Option<u8>
 }
 
 impl Tables {
-    ghost use Rattle.std.specs.Prelude.{◌≡◌, ◌<◌, ◌^◌, ℕ, false, [], List, length, MatchOption, None, Some, IfOk, IfErr, IsTrue, option_map, slice_get};
+    ghost use Rattle.std.specs.Prelude.{◌≡◌, ◌<◌, ℕ, false, [], List, length, None, Some, IfOk, IfErr, IsTrue, option_map, slice_get};
     ghost use Rattle.std.specs.List.{list_all};
     ghost use Rattle.hg_base.specs.Space.{NoPins};
     ghost use Rattle.hg_bind.specs.Bound.{tables_of, error_of};
@@ -43,7 +43,6 @@ impl Tables {
     ghost use Rattle.hg_model.specs.Value.{is_printable};
     ghost use Rattle.hg_reply.specs.Asked.{insert_at};
     ghost use Rattle.hg_reply.specs.Steps.{HasLines, TellOnlyFound, BeginsSo};
-    ghost use Rattle.hg_table.specs.Marks.{last, Draws};
     ghost use Rattle.hg_engine.specs.Stepping.{TablesAre, CountedIn, IsSameSpace, StepsTo, InsertFinds};
 
     /// Puts the columns of an INSERT's values into `targets`. The answer is the number of its table.
@@ -73,20 +72,6 @@ impl Tables {
             Some(table) => Ok(table),
             None => unreachable!(),
         }
-    }
-
-    /// The next stamp, if one is left.
-    fn draw(&mut self) -> Option<Stamp>
-        ensures drawn { MatchOption result ((last self.old.stamps ≡ 2 ^ 20) × (self.new.stamps ≡ self.old.stamps))
-            (λ s. Draws self.old.stamps self.new.stamps s.0 × (last self.old.stamps < 2 ^ 20)) }
-        ensures catalog { self.new.catalog ≡ self.old.catalog }
-        ensures targets { self.new.targets ≡ self.old.targets }
-        ensures open { self.new.is_open ≡ self.old.is_open }
-        ensures max { self.new.max ≡ self.old.max }
-        ensures mpl { self.new.mpl ≡ self.old.mpl }
-    {
-        let _ = self.stamps.last();
-        self.stamps.draw()
     }
 
     /// INSERT. Where it is refused the tables keep their rows; once the rows are looked at, a stamp is
@@ -131,7 +116,7 @@ impl Tables {
             &mut self.stamps,
             stamp,
             space,
-            &mut self.row,
+            &mut self.room.row,
         ) {
             Ok(count) => reply.say(&ReplyLine::Rows(count)),
             Err(ChangeError::Refused { code, column }) => {

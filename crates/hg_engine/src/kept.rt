@@ -4,7 +4,8 @@ use crate::tables::Tables;
 use hg_io::PageDevice;
 use hg_pool::Pool;
 use hg_reply::{
-    Asked, CommandAt, InsertAt, Next, Reply, ReplyLine, SelectAt, TableAt, Words, built,
+    Asked, CommandAt, DeleteAt, InsertAt, Next, Reply, ReplyLine, SelectAt, TableAt, UpdateAt,
+    Words, built,
 };
 
 /// The tables of an engine, the pool of their pages, and how many bytes the replies had so far.
@@ -21,13 +22,13 @@ impl<M: PageDevice, T: PageDevice> Kept<M, T> {
     ghost use Rattle.hg_base.specs.Count.{raised};
     ghost use Rattle.hg_machine.specs.Plain.Replies.{ReplyLine as ReplyLineOf};
     ghost use Rattle.hg_machine.specs.Plain.State.{State};
-    ghost use Rattle.hg_model.specs.Statements.{CreateTable, InsertRows, SelectRows, Pool as PoolTo};
+    ghost use Rattle.hg_model.specs.Statements.{CreateTable, InsertRows, UpdateRows, DeleteRows, SelectRows, Pool as PoolTo};
     ghost use Rattle.hg_model.specs.Value.{is_printable};
-    ghost use Rattle.hg_reply.specs.Asked.{command_in, texts_in, table_at, insert_at, query_at, IsReadAs};
+    ghost use Rattle.hg_reply.specs.Asked.{command_in, texts_in, table_at, insert_at, update_at, delete_at, query_at, IsReadAs};
     ghost use Rattle.hg_reply.specs.Built.{is_built};
     ghost use Rattle.hg_reply.specs.Steps.{DropsCommand, BeginsSo, BeginsRead, ContinuesSo};
-    ghost use Rattle.hg_engine.specs.Shown.{space_of, IsEngineOf, IsSomeEngine, is_pending, turns_left, tells_of, frames_of, EngineSteps, IsLater};
-    ghost use Rattle.hg_engine.specs.Stepping.{CommandFinds, InsertFinds, TurnFinds, no_damage};
+    ghost use Rattle.hg_engine.specs.Shown.{space_of, IsEngineOf, IsSomeEngine, is_pending, plan_of, turns_left, tells_of, frames_of, EngineSteps, IsLater};
+    ghost use Rattle.hg_engine.specs.Stepping.{CommandFinds, PlanIsOf, StillWhere, InsertFinds, UpdateFinds, DeleteFinds, TurnFinds, no_damage};
 
     /// Whether a SELECT is at work.
     fn next(&self) -> Next
@@ -48,6 +49,8 @@ impl<M: PageDevice, T: PageDevice> Kept<M, T> {
         ensures step { (texts : List ℕ) → EngineSteps M.PageDevice T.PageDevice self.old self.new reply.new
             (BeginsSo (tells_of M.PageDevice T.PageDevice self.old) (CreateTable (table_at table.now)) texts) (λ now. no_damage) }
         ensures later { IsLater (space_of M.PageDevice T.PageDevice self.old) (space_of M.PageDevice T.PageDevice self.new) }
+        ensures idle { is_pending self.new ≡ false }
+        ensures still { self.new.pool ≡ self.old.pool }
         ensures said { self.new.said ≡ self.old.said }
         ensures frames { frames_of self.new ≡ frames_of self.old }
     {
@@ -64,12 +67,47 @@ impl<M: PageDevice, T: PageDevice> Kept<M, T> {
             (BeginsSo (tells_of M.PageDevice T.PageDevice self.old) (InsertRows (insert_at insert.now)) texts.now)
             (λ now. InsertFinds (space_of M.PageDevice T.PageDevice self.old) now.catalog.tables insert.now.table.now) }
         ensures later { IsLater (space_of M.PageDevice T.PageDevice self.old) (space_of M.PageDevice T.PageDevice self.new) }
+        ensures idle { is_pending self.new ≡ false }
         ensures said { self.new.said ≡ self.old.said }
         ensures frames { frames_of self.new ≡ frames_of self.old }
     {
         reply.clear();
         self.tables
             .insert(&mut self.pool, insert, texts.as_bytes(), reply);
+    }
+
+    /// UPDATE.
+    fn update(&mut self, update: &UpdateAt, texts: &str, reply: &mut Reply)
+        requires idle { is_pending self.old ≡ false }
+        requires stands { IsSomeEngine M.PageDevice T.PageDevice self.old }
+        requires read { IsReadAs (frames_of self.old) (UpdateRows (update_at update.now)) texts.now }
+        ensures step { EngineSteps M.PageDevice T.PageDevice self.old self.new reply.new
+            (BeginsSo (tells_of M.PageDevice T.PageDevice self.old) (UpdateRows (update_at update.now)) texts.now)
+            (λ now. UpdateFinds (space_of M.PageDevice T.PageDevice self.old) self.old.tables.catalog.tables update.now.table.now) }
+        ensures later { IsLater (space_of M.PageDevice T.PageDevice self.old) (space_of M.PageDevice T.PageDevice self.new) }
+        ensures idle { is_pending self.new ≡ false }
+        ensures said { self.new.said ≡ self.old.said }
+        ensures frames { frames_of self.new ≡ frames_of self.old }
+    {
+        reply.clear();
+        self.tables.update(&mut self.pool, update, texts, reply);
+    }
+
+    /// DELETE.
+    fn delete(&mut self, delete: &DeleteAt, texts: &str, reply: &mut Reply)
+        requires idle { is_pending self.old ≡ false }
+        requires stands { IsSomeEngine M.PageDevice T.PageDevice self.old }
+        requires read { IsReadAs (frames_of self.old) (DeleteRows (delete_at delete.now)) texts.now }
+        ensures step { EngineSteps M.PageDevice T.PageDevice self.old self.new reply.new
+            (BeginsSo (tells_of M.PageDevice T.PageDevice self.old) (DeleteRows (delete_at delete.now)) texts.now)
+            (λ now. DeleteFinds (space_of M.PageDevice T.PageDevice self.old) self.old.tables.catalog.tables delete.now.table.now) }
+        ensures later { IsLater (space_of M.PageDevice T.PageDevice self.old) (space_of M.PageDevice T.PageDevice self.new) }
+        ensures idle { is_pending self.new ≡ false }
+        ensures said { self.new.said ≡ self.old.said }
+        ensures frames { frames_of self.new ≡ frames_of self.old }
+    {
+        reply.clear();
+        self.tables.delete(&mut self.pool, delete, texts, reply);
     }
 
     /// SELECT.
@@ -81,6 +119,8 @@ impl<M: PageDevice, T: PageDevice> Kept<M, T> {
         ensures step { EngineSteps M.PageDevice T.PageDevice self.old self.new reply.new
             (BeginsSo (tells_of M.PageDevice T.PageDevice self.old) (SelectRows (query_at select.now)) texts.now) (λ now. no_damage) }
         ensures later { IsLater (space_of M.PageDevice T.PageDevice self.old) (space_of M.PageDevice T.PageDevice self.new) }
+        ensures plan { is_pending self.new ≡ true → PlanIsOf self.new.tables (SelectRows (query_at select.now)) }
+        ensures still { self.new.pool ≡ self.old.pool }
         ensures said { self.new.said ≡ self.old.said }
         ensures frames { frames_of self.new ≡ frames_of self.old }
     {
@@ -97,6 +137,7 @@ impl<M: PageDevice, T: PageDevice> Kept<M, T> {
         ensures step { (texts : List ℕ) → EngineSteps M.PageDevice T.PageDevice self.old self.new reply.new
             (BeginsSo (tells_of M.PageDevice T.PageDevice self.old) (PoolTo frames) texts) (λ now. no_damage) }
         ensures later { IsLater (space_of M.PageDevice T.PageDevice self.old) (space_of M.PageDevice T.PageDevice self.new) }
+        ensures idle { is_pending self.new ≡ false }
         ensures said { self.new.said ≡ self.old.said }
         ensures frames { frames_of self.new ≡ frames_of self.old }
     {
@@ -115,19 +156,21 @@ impl<M: PageDevice, T: PageDevice> Kept<M, T> {
         requires built { is_built (command_in asked.now.command) ≡ true }
         ensures step { EngineSteps M.PageDevice T.PageDevice self.old self.new reply.new
             (BeginsSo (tells_of M.PageDevice T.PageDevice self.old) (command_in asked.now.command) (texts_in asked.now))
-            (λ now. CommandFinds (space_of M.PageDevice T.PageDevice self.old) now (command_in asked.now.command)) }
+            (λ now. CommandFinds (space_of M.PageDevice T.PageDevice self.old) self.old.tables now (command_in asked.now.command)) }
         ensures later { IsLater (space_of M.PageDevice T.PageDevice self.old) (space_of M.PageDevice T.PageDevice self.new) }
+        ensures plan { is_pending self.new ≡ true → PlanIsOf self.new.tables (command_in asked.now.command) }
+        ensures still { StillWhere (command_in asked.now.command) (self.new.pool ≡ self.old.pool) }
         ensures said { self.new.said ≡ self.old.said }
         ensures frames { frames_of self.new ≡ frames_of self.old }
     {
         match asked.command {
             CommandAt::CreateTable(table) => self.create(&table, reply),
             CommandAt::Insert(insert) => self.insert(&insert, asked.texts, reply),
+            CommandAt::Update(update) => self.update(&update, asked.texts, reply),
+            CommandAt::Delete(delete) => self.delete(&delete, asked.texts, reply),
             CommandAt::Select(select) => self.select(&select, asked.texts, reply),
             CommandAt::Pool(frames) => self.resize(frames, reply),
             CommandAt::CreateIndex(_)
-            | CommandAt::Update(_)
-            | CommandAt::Delete(_)
             | CommandAt::Vacuum(_)
             | CommandAt::OpenCursor(_, _)
             | CommandAt::Start(_, _)
@@ -147,6 +190,7 @@ impl<M: PageDevice, T: PageDevice> Kept<M, T> {
             (λ now. TurnFinds (space_of M.PageDevice T.PageDevice self.old) self.old.tables) }
         ensures nearer { turns_left self.new < turns_left self.old }
         ensures later { IsLater (space_of M.PageDevice T.PageDevice self.old) (space_of M.PageDevice T.PageDevice self.new) }
+        ensures plan { plan_of self.new ≡ plan_of self.old }
         ensures said { self.new.said ≡ self.old.said }
         ensures frames { frames_of self.new ≡ frames_of self.old }
     {
@@ -170,8 +214,10 @@ impl<M: PageDevice, T: PageDevice> Kept<M, T> {
         requires read { IsReadAs (frames_of self.old) (command_in asked.now.command) (texts_in asked.now) }
         ensures step { EngineSteps M.PageDevice T.PageDevice self.old self.new reply.new
             (BeginsRead (tells_of M.PageDevice T.PageDevice self.old) (command_in asked.now.command) (texts_in asked.now))
-            (λ now. CommandFinds (space_of M.PageDevice T.PageDevice self.old) now (command_in asked.now.command)) }
+            (λ now. CommandFinds (space_of M.PageDevice T.PageDevice self.old) self.old.tables now (command_in asked.now.command)) }
         ensures later { IsLater (space_of M.PageDevice T.PageDevice self.old) (space_of M.PageDevice T.PageDevice self.new) }
+        ensures plan { is_pending self.new ≡ true → PlanIsOf self.new.tables (command_in asked.now.command) }
+        ensures still { StillWhere (command_in asked.now.command) (self.new.pool ≡ self.old.pool) }
         ensures said { self.new.said ≡ self.old.said }
         ensures frames { frames_of self.new ≡ frames_of self.old }
     {
@@ -190,9 +236,11 @@ impl<M: PageDevice, T: PageDevice> Kept<M, T> {
         requires read { IsReadAs (frames_of self.old) (command_in asked.now.command) (texts_in asked.now) }
         ensures step { EngineSteps M.PageDevice T.PageDevice self.old self.new reply.new
             (BeginsRead (tells_of M.PageDevice T.PageDevice self.old) (command_in asked.now.command) (texts_in asked.now))
-            (λ now. CommandFinds (space_of M.PageDevice T.PageDevice self.old) now (command_in asked.now.command)) }
+            (λ now. CommandFinds (space_of M.PageDevice T.PageDevice self.old) self.old.tables now (command_in asked.now.command)) }
         ensures more { (result ≡ Next.More) ↔ (is_pending self.new ≡ true) }
         ensures later { IsLater (space_of M.PageDevice T.PageDevice self.old) (space_of M.PageDevice T.PageDevice self.new) }
+        ensures plan { is_pending self.new ≡ true → PlanIsOf self.new.tables (command_in asked.now.command) }
+        ensures still { StillWhere (command_in asked.now.command) (self.new.pool ≡ self.old.pool) }
         ensures said { self.new.said ≡ raised self.old.said (array_vec_len reply.new.text) }
         ensures frames { frames_of self.new ≡ frames_of self.old }
     {
@@ -210,6 +258,7 @@ impl<M: PageDevice, T: PageDevice> Kept<M, T> {
         ensures nearer { turns_left self.new < turns_left self.old }
         ensures more { (result ≡ Next.More) ↔ (is_pending self.new ≡ true) }
         ensures later { IsLater (space_of M.PageDevice T.PageDevice self.old) (space_of M.PageDevice T.PageDevice self.new) }
+        ensures plan { plan_of self.new ≡ plan_of self.old }
         ensures said { self.new.said ≡ raised self.old.said (array_vec_len reply.new.text) }
         ensures frames { frames_of self.new ≡ frames_of self.old }
     {

@@ -7,6 +7,8 @@
 //! a command where it lies -- bound by the catalog --> a refusal
 //!                         -- CREATE TABLE --> one more table in the catalog
 //!                         -- INSERT       --> rows on pages, under a stamp
+//!                         -- UPDATE       --> rows that die and rows in their place, under a stamp
+//!                         -- DELETE       --> rows that die, under a stamp
 //!                         -- SELECT       --> planned; loops at work, of which each turn gives the next row
 //!                         -- POOL         --> other frames in use
 //! ```
@@ -17,6 +19,7 @@
 #![tactic(auto)]
 
 mod create;
+mod delete;
 mod engine;
 mod first;
 mod insert;
@@ -25,6 +28,7 @@ mod open;
 mod say;
 mod select;
 mod tables;
+mod update;
 
 pub use engine::{Devices, Engine};
 pub use hg_pool::Config;

@@ -15,7 +15,7 @@ impl Tables {
     ghost use Rattle.hg_reply.specs.Asked.{query_at, IsReadAs};
     ghost use Rattle.hg_reply.specs.Built.{is_plain_select};
     ghost use Rattle.hg_reply.specs.Steps.{HasLines, TellOnlyFound, BeginsSo, ContinuesSo};
-    ghost use Rattle.hg_engine.specs.Stepping.{TablesAre, CountedIn, IsSameSpace, StepsTo, TurnFinds, turns_in, no_damage};
+    ghost use Rattle.hg_engine.specs.Stepping.{TablesAre, CountedIn, IsSameSpace, StepsTo, PlanIsOf, TurnFinds, turns_in, no_damage};
 
     /// SELECT: its rows are left to give from the next turn on.
     pub fn select<S: Pages>(&mut self, space: &S, select: &SelectAt, texts: &str, reply: &mut Reply)
@@ -29,6 +29,7 @@ impl Tables {
             × StepsTo (S.state space.now) (S.state space.now) self.old self.new
             (BeginsSo (S.state space.now).told (SelectRows (query_at select.now)) texts.now) lines
             × TellOnlyFound no_damage lines }
+        ensures plan { self.new.is_open ≡ true → PlanIsOf self.new (SelectRows (query_at select.now)) }
         ensures max { self.new.max ≡ self.old.max }
     {
         read_selects_fit();
@@ -55,13 +56,14 @@ impl Tables {
             × TellOnlyFound (TurnFinds (S.state space.old) self.old) lines }
         ensures nearer { turns_in self.new.is_open self.new.open < turns_in self.old.is_open self.old.open }
         ensures same { IsSameSpace (S.state space.old) (S.state space.new) }
+        ensures plan { self.new.open.plan ≡ self.old.open.plan }
         ensures max { self.new.max ≡ self.old.max }
     {
         match self
             .open
-            .turn(&self.catalog, &self.stamps, space, &mut self.row)
+            .turn(&self.catalog, &self.stamps, space, &mut self.room.row)
         {
-            Turn::Row => reply.say_row(&None, &self.row),
+            Turn::Row => reply.say_row(&None, &self.room.row),
             Turn::End => {
                 self.is_open = false;
                 reply.say(&ReplyLine::Ended(None));

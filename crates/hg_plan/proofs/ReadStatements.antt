@@ -3,7 +3,7 @@ use Rattle.std.proofs.Common.{◌≡◌, ℕ, ◌≤◌, refl, arith, Bool, true
 use Rattle.std.specs.Prelude.{⊤}
 use Rattle.std.specs.List.{list_all}
 use Rattle.hg_model.specs.Grammar as grammar
-use Rattle.hg_model.specs.Grammar.{Read, nothing_read, with_node, Clause, IsOutput, Outputs, Tables, GroupColumns, Group, IsKey, Keys, Order, Columns, IsSelect, IsCommand, IsLine}
+use Rattle.hg_model.specs.Grammar.{Read, nothing_read, with_node, Clause, IsOutput, Outputs, Tables, GroupColumns, Group, IsKey, Keys, Order, Columns, Sets, IsSelect, IsCommand, IsLine}
 use Rattle.hg_model.specs.Query.{Query}
 use Rattle.hg_model.specs.Reading.{Reads, Reading, Statement, too_many_of}
 use Rattle.hg_model.specs.Reading as reading
@@ -16,7 +16,7 @@ use Rattle.hg_model.specs.declared.trees.Node.{Node}
 use Rattle.hg_model.specs.declared.trees.Node.TheVariants as node
 use Rattle.hg_model.specs.declared.trees.OrderKey.{OrderKey}
 use Rattle.hg_model.specs.declared.trees.Output.{Output}
-use Rattle.hg_plan.specs.ReadLaws.{IsReadSelect, IsReadDelete}
+use Rattle.hg_plan.specs.ReadLaws.{IsReadSelect, IsReadDelete, IsReadUpdate}
 use Rattle.hg_plan.proofs.ReadTokens.{Few, few, spelled_fit}
 use Rattle.hg_plan.proofs.ReadTrees.{AllTexts, front, back, rest, Sound, sound_more, good}
 
@@ -118,17 +118,24 @@ select (grammar.IsSelect.select {hs = hs} {cs = cs} {fs = fs} {ws = ws} {gs = gs
     (then (group grouped) (then (clause having (front vs _ behind_group)) (order ordered))))) in
     record { sound = read_whole f all; tables = some_tables from }
 
--- what the grammar alone gives of a SELECT and of a DELETE
+sets : {r s : Read} {ts : List Token} {xs : List (List ℕ × ℕ)} → Sets r ts s xs → AllTexts ts → Keeps r s
+sets (grammar.Sets.one {ts = ts} c is e) p = whole e (rest _ ts (rest _ _ p))
+sets (grammar.Sets.more {ts = ts} {us = us} c xs is e) p = then (sets xs (front ts _ p)) (whole e (rest _ us (rest _ _ (rest _ _ (back ts _ p)))))
+
+-- what the grammar alone gives of a SELECT, of a DELETE and of an UPDATE
 abbrev Grows : CommandTree → List ℕ → Type 0
 Grows (SelectRows q) x = Selects q x
 Grows (DeleteRows d) x = AreSound d.nodes x
+Grows (UpdateRows u) x = AreSound u.nodes x
 Grows _ x = ⊤
 
 command : {ts : List Token} {c : CommandTree} {x : List ℕ} → IsCommand ts c x → AllTexts ts → Grows c x
 command (grammar.IsCommand.create_table t is cs) p = tt
 command (grammar.IsCommand.create_index i t u is it ns) p = tt
 command (grammar.IsCommand.insert t is l vs) p = tt
-command (grammar.IsCommand.update t is xs f) p = tt
+command (grammar.IsCommand.update {ts = ts} {us = us} {s = s} t is xs f) p =
+    let behind = rest _ _ (rest _ _ (rest _ _ p)) in
+    read_whole s (then (sets xs (front ts us behind)) (clause f (back ts us behind)))
 command (grammar.IsCommand.delete {ts = ts} {r = r} t is f) p = read_whole r (clause f (rest _ ts (rest _ _ (rest _ _ p))))
 command (grammar.IsCommand.vacuum t is) p = tt
 command (grammar.IsCommand.select s) p = select s p
@@ -149,6 +156,7 @@ line (grammar.IsLine.ended {ts = ts} c) p = command c (front ts _ p)
 abbrev Fits : CommandTree → List ℕ → Type 0
 Fits (SelectRows q) x = IsReadSelect q x
 Fits (DeleteRows d) x = IsReadDelete d x
+Fits (UpdateRows u) x = IsReadUpdate u x
 Fits _ x = ⊤
 
 fits : (ts : List Token) (c : CommandTree) (x : List ℕ) → Few ts c → Grows c x → Fits c x
@@ -163,10 +171,10 @@ fits ts (SelectRows q) x f g = record {
   few_nodes = f.nodes;
 }
 fits ts (DeleteRows d) x f g = record { tree = g.tree; texts_fit = g.fit; few_nodes = f.nodes }
+fits ts (UpdateRows u) x f g = record { tree = g.tree; texts_fit = g.fit; few_nodes = f.nodes; few_sets = f.columns }
 fits ts (CreateTable t) x f g = tt
 fits ts (CreateIndex i) x f g = tt
 fits ts (InsertRows i) x f g = tt
-fits ts (UpdateRows u) x f g = tt
 fits ts (Vacuum t) x f g = tt
 fits ts (OpenCursor c q) x f g = tt
 fits ts (Start c n) x f g = tt

@@ -36,6 +36,7 @@ counts ts c =
 
 pub record Few (ts : List Token) (c : CommandTree) : Type 0 where
   pub texts : list_any is_long_text ts ≡ false
+  pub columns : columns_in c ≤ 16
   pub tables : of_query (λ (q : Query). length q.tables) c ≤ 4
   pub outputs : of_query (λ (q : Query). length q.outputs) c ≤ 16
   pub groups : of_query (λ (q : Query). length q.group) c ≤ 16
@@ -49,6 +50,7 @@ few ts c h =
     let of_keys = of_tables.1.1.1 in
     record {
       texts = all.1.0;
+      columns = ltb-false 16 (columns_in c) all.1.1.0;
       tables = ltb-false 4 (of_query (λ (q : Query). length q.tables) c) of_tables.0;
       outputs = ltb-false 16 (of_query (λ (q : Query). length q.outputs) c) of_tables.1.0;
       groups = ltb-false 16 (of_query (λ (q : Query). length q.group) c) of_tables.1.1.0;

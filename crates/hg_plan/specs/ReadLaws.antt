@@ -1,9 +1,9 @@
--- What holds of every SELECT, and of every DELETE, that was read. Our own rule.
+-- What holds of every SELECT, of every DELETE and of every UPDATE that was read. Our own rule.
 use Rattle.std.specs.Prelude.{ℕ, ◌≤◌, List, length, IsTrue}
 use Rattle.std.specs.List.{list_all}
 use Rattle.hg_model.specs.Query.{Query}
 use Rattle.hg_model.specs.Reading.{Reads, Statement}
-use Rattle.hg_model.specs.Statements.{DeleteTree, DeleteRows, SelectRows}
+use Rattle.hg_model.specs.Statements.{DeleteTree, DeleteRows, SelectRows, UpdateTree, UpdateRows}
 use Rattle.hg_model.specs.Width.{is_tree, text_fits}
 
 -- A SELECT with its texts, as it was read: each node stands behind those below it, each text literal names a part
@@ -29,3 +29,13 @@ pub record IsReadDelete (d : DeleteTree) (texts : List ℕ) : Type 0 where
 
 abbrev pub ReadDeletesFit : Type 0
 ReadDeletesFit = (max : ℕ) (line : List ℕ) (d : DeleteTree) (texts : List ℕ) → Reads max line (Statement (DeleteRows d) texts) → IsReadDelete d texts
+
+-- an UPDATE with its texts, as it was read
+pub record IsReadUpdate (u : UpdateTree) (texts : List ℕ) : Type 0 where
+  pub tree : IsTrue (is_tree u.nodes)
+  pub texts_fit : IsTrue (list_all (text_fits texts) u.nodes)
+  pub few_nodes : length u.nodes ≤ 96
+  pub few_sets : length u.sets ≤ 16
+
+abbrev pub ReadUpdatesFit : Type 0
+ReadUpdatesFit = (max : ℕ) (line : List ℕ) (u : UpdateTree) (texts : List ℕ) → Reads max line (Statement (UpdateRows u) texts) → IsReadUpdate u texts

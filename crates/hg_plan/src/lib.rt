@@ -27,4 +27,4 @@ mod tests;
 
 pub use laws::bound_may_be_planned;
 pub use plan::{Plan, TableLoop};
-pub use read_laws::{read_deletes_fit, read_selects_fit};
+pub use read_laws::{read_deletes_fit, read_selects_fit, read_updates_fit};

@@ -12,3 +12,9 @@ pub fn read_selects_fit()
 pub fn read_deletes_fit()
     ensures { read_laws.ReadDeletesFit }
 {}
+
+/// The nodes of an UPDATE that was read stand each behind those below it, each text literal names a part of the
+/// texts of the line, and there are not too many nodes and items.
+pub fn read_updates_fit()
+    ensures { read_laws.ReadUpdatesFit }
+{}

@@ -22,8 +22,8 @@ abbrev pub is_built : CommandTree → Bool
 is_built (CreateTable t) = list_all is_plain_column t.columns
 is_built (CreateIndex i) = false
 is_built (InsertRows i) = true
-is_built (UpdateRows u) = false
-is_built (DeleteRows d) = false
+is_built (UpdateRows u) = true
+is_built (DeleteRows d) = true
 is_built (Vacuum t) = false
 is_built (SelectRows q) = is_plain_select q
 is_built (OpenCursor c q) = false

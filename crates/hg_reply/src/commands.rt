@@ -48,11 +48,11 @@ pub fn built(command: &CommandAt) -> bool
 {
     match command {
         CommandAt::CreateTable(table) => are_plain(table.columns),
-        CommandAt::Insert(_) | CommandAt::Pool(_) => true,
+        CommandAt::Insert(_) | CommandAt::Update(_) | CommandAt::Delete(_) | CommandAt::Pool(_) => {
+            true
+        }
         CommandAt::Select(select) => is_plain_select(select),
         CommandAt::CreateIndex(_)
-        | CommandAt::Update(_)
-        | CommandAt::Delete(_)
         | CommandAt::Vacuum(_)
         | CommandAt::OpenCursor(_, _)
         | CommandAt::Start(_, _)

@@ -201,6 +201,73 @@ fn pool(rt: HostRuntime) -> Result<(), Fail> {
     Ok(())
 }
 
+/// Every right side is computed from the old row; a change that is refused leaves the rows.
+#[test]
+fn changes(rt: HostRuntime) -> Result<(), Fail> {
+    let alloc = rt.alloc();
+    gives(
+        &rt,
+        alloc,
+        "CREATE TABLE t (a INTEGER, b INTEGER)\nINSERT INTO t VALUES (1, 2)\nUPDATE t SET a = b, b = a\nSELECT * FROM t\nUPDATE t SET a = 2147483647 + b\nSELECT * FROM t\nDELETE FROM t WHERE a = NULL\nUPDATE t SET b = NULL WHERE NOT a = 1\nSELECT * FROM t\nUPDATE t SET a = 5 WHERE b > 0\nDELETE FROM t WHERE b IS NULL AND t.a = 2\nDELETE FROM t\nUPDATE t SET a = 1\nSELECT * FROM t\n",
+        "created\nrows 1\nrows 1\nrow * 2,1\nend *\nerror 11 value does not fit a\nrow * 2,1\nend *\nrows 0\nrows 1\nrow * 2,NULL\nend *\nrows 0\nrows 1\nrows 0\nrows 0\nend *\n",
+        Status::Errors,
+    )?;
+    gives(
+        &rt,
+        alloc,
+        "CREATE TABLE t (a INTEGER NOT NULL)\nCREATE TABLE u (a INTEGER NOT NULL)\nINSERT INTO t VALUES (1), (2), (3)\nINSERT INTO u VALUES (1)\nUPDATE t SET a = NULL WHERE a = 3\nUPDATE T SET A = A * 10 WHERE a <> 2\nDELETE FROM t WHERE a BETWEEN 2 AND 10\nSELECT * FROM t\nSELECT * FROM u\n",
+        "created\ncreated\nrows 3\nrows 1\nerror 12 null not allowed a\nrows 2\nrows 2\nrow * 30\nend *\nrow * 1\nend *\n",
+        Status::Errors,
+    )?;
+    Ok(())
+}
+
+#[test]
+fn refused_changes(rt: HostRuntime) -> Result<(), Fail> {
+    let alloc = rt.alloc();
+    gives(
+        &rt,
+        alloc,
+        "CREATE TABLE t (a INTEGER, v VARCHAR(2))\nUPDATE x SET a = 1\nUPDATE t SET z = 1\nUPDATE t SET a = z\nUPDATE t SET a = v\nUPDATE t SET a = 99999999999999999999999999999999999999 * 9\nUPDATE t SET a = 1, A = 2\nUPDATE t SET a = MAX(a)\nUPDATE t SET a = 1 WHERE a\nSELECT * FROM t\n",
+        "created\nerror 3 unknown table x\nerror 4 unknown column z\nerror 4 unknown column z\nerror 6 type mismatch\nerror 7 expression too wide\nerror 8 name taken a\nerror 10 not grouped\nerror 6 type mismatch\nend *\n",
+        Status::Errors,
+    )?;
+    gives(
+        &rt,
+        alloc,
+        "CREATE TABLE t (a INTEGER, v VARCHAR(2))\nDELETE FROM x\nDELETE FROM t WHERE z = 1\nDELETE FROM t WHERE u.a = 1\nDELETE FROM t WHERE a = v\nDELETE FROM t WHERE a = 99999999999999999999999999999999999999 * 9\nDELETE FROM t WHERE COUNT(*) = 1\nSELECT * FROM t\n",
+        "created\nerror 3 unknown table x\nerror 4 unknown column z\nerror 4 unknown column u.a\nerror 6 type mismatch\nerror 7 expression too wide\nerror 10 not grouped\nend *\n",
+        Status::Errors,
+    )?;
+    Ok(())
+}
+
+/// Four texts of 255 letters would have 1,028 bytes; a row has 1,000 at most.
+fn long_update(alloc: Global) -> Result<Vec<u8>, AllocError> {
+    let mut script = Vec::from_slice(
+        alloc,
+        b"CREATE TABLE l (a VARCHAR(255),b VARCHAR(255),c VARCHAR(255),d VARCHAR(255))\nINSERT INTO l (a) VALUES ('".as_slice(),
+    )?;
+    for _letter in 0..255 {
+        script.push(b'x')?;
+    }
+    script.extend_from_slice(
+        b"')\nUPDATE l SET b = a, c = a, d = a\nUPDATE l SET b = a, c = a\nSELECT 1 FROM l WHERE a = b AND b = c AND d IS NULL\n".as_slice(),
+    )?;
+    Ok(script)
+}
+
+#[test]
+fn longest_changes(rt: HostRuntime) -> Result<(), Fail> {
+    let alloc = rt.alloc();
+    let (_, sink) = through_engine(alloc, long_update(alloc)?, device(alloc))?;
+    assert_eq!(rt;
+        sink.bytes(),
+        b"created\nrows 1\nerror 23 row too long\nrows 1\nrow * 1\nend *\n".as_slice()
+    );
+    Ok(())
+}
+
 /// Commands that the grammar reads and that there are not by now.
 #[test]
 fn not_built(rt: HostRuntime) -> Result<(), Fail> {
@@ -208,8 +275,8 @@ fn not_built(rt: HostRuntime) -> Result<(), Fail> {
     gives(
         &rt,
         alloc,
-        "CREATE TABLE t (a INTEGER PRIMARY KEY)\nCREATE TABLE t (a INTEGER UNIQUE)\nCREATE TABLE t (a INTEGER)\nCREATE INDEX i ON t (a)\nUPDATE t SET a = 1\nDELETE FROM t\nVACUUM t\nSELECT DISTINCT * FROM t\nSELECT COUNT(*) FROM t\nSELECT a FROM t GROUP BY a\nSELECT * FROM t ORDER BY 1\nOPEN c FOR SELECT * FROM t\nSTART c 1\nWORK 1\nFETCH c 1\nCLOSE c\nMPL 2\nSHOW MEMORY\nSELECT * FROM t\n",
-        "error 1 syntax\nerror 1 syntax\ncreated\nerror 1 syntax\nerror 1 syntax\nerror 1 syntax\nerror 1 syntax\nerror 1 syntax\nerror 1 syntax\nerror 1 syntax\nerror 1 syntax\nerror 1 syntax\nerror 1 syntax\nerror 1 syntax\nerror 1 syntax\nerror 1 syntax\nerror 1 syntax\nerror 1 syntax\nend *\n",
+        "CREATE TABLE t (a INTEGER PRIMARY KEY)\nCREATE TABLE t (a INTEGER UNIQUE)\nCREATE TABLE t (a INTEGER)\nCREATE INDEX i ON t (a)\nVACUUM t\nSELECT DISTINCT * FROM t\nSELECT COUNT(*) FROM t\nSELECT a FROM t GROUP BY a\nSELECT * FROM t ORDER BY 1\nOPEN c FOR SELECT * FROM t\nSTART c 1\nWORK 1\nFETCH c 1\nCLOSE c\nMPL 2\nSHOW MEMORY\nSELECT * FROM t\n",
+        "error 1 syntax\nerror 1 syntax\ncreated\nerror 1 syntax\nerror 1 syntax\nerror 1 syntax\nerror 1 syntax\nerror 1 syntax\nerror 1 syntax\nerror 1 syntax\nerror 1 syntax\nerror 1 syntax\nerror 1 syntax\nerror 1 syntax\nerror 1 syntax\nerror 1 syntax\nend *\n",
         Status::Errors,
     )?;
     Ok(())

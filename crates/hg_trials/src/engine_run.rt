@@ -10,13 +10,22 @@ use std::alloc::{AllocError, Global};
 /// How many frames are in use at the beginning.
 pub const FRAMES: u32 = 16;
 
-/// What a script gave, and what the main device was asked for.
+/// How many pages the files may have: the main file at least 64, the temporary one too.
+#[derive(Clone, Copy)]
+pub struct Files {
+    pub main_pages: u32,
+    pub temp_pages: u32,
+}
+
+/// What a script gave, and what the devices were asked for.
 #[derive(Drop)]
 pub struct Ran {
     pub status: Status,
     pub sink: MemSink,
     pub reads: u64,
     pub writes: u64,
+    pub temp_reads: u64,
+    pub temp_writes: u64,
 }
 
 /// Runs a script over two devices.
@@ -24,16 +33,19 @@ pub fn run_over(
     alloc: Global,
     mut source: MemSource,
     main: Counted<MemDevice>,
-    temp: MemDevice,
+    temp: Counted<MemDevice>,
+    files: &Files,
 ) -> Result<Ran, AllocError> {
+    let (main_pages, temp_pages) = (files.main_pages, files.temp_pages);
     let config = Config {
         max: MAX,
         pool: FRAMES,
         mpl: 1,
-        main_pages: 256,
-        temp_pages: 64,
+        main_pages,
+        temp_pages,
     };
-    if main.limit() < 256 || temp.limit() < 64 {
+    let fits = main_pages >= 64 && main_pages <= 65_536 && temp_pages >= 64 && temp_pages <= 65_536;
+    if !fits || main.limit() < main_pages || temp.limit() < temp_pages {
         return Err(AllocError);
     }
     let mut sink = MemSink::new(alloc, Vec::new(alloc));
@@ -41,11 +53,13 @@ pub fn run_over(
         return Err(AllocError);
     };
     let status = serve(&mut engine, &mut source, &mut sink);
-    let Devices { main, temp: _ } = engine.close();
+    let Devices { main, temp } = engine.close();
     Ok(Ran {
         status,
         sink,
         reads: main.reads,
         writes: main.writes,
+        temp_reads: temp.reads,
+        temp_writes: temp.writes,
     })
 }

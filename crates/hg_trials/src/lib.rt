@@ -13,6 +13,9 @@
 //!                                                                                          |
 //!                  lists of the rows that stand (`standing`) <---- line by line -----------+
 //!
+//! change_trials    script of changes (`changes`) --> engine over devices of which one call fails --> replies,
+//!                  compared line by line with a list of the rows that stand
+//!
 //! tree_trials      400 insertions, pool of 16 frames over such a device --> walked beside a sorted list
 //!
 //! selects          lines --> engine over clean devices (`clean_run`) --> replies
@@ -25,6 +28,10 @@
 
 #[cfg(test)]
 mod answers;
+#[cfg(test)]
+mod change_trials;
+#[cfg(test)]
+mod changes;
 #[cfg(test)]
 mod clean_run;
 #[cfg(test)]

@@ -97,7 +97,7 @@ fn push_small(text: &mut Vec<u8>, number: u32) -> Result<(), AllocError> {
 }
 
 /// A number of five digits.
-fn push_number(text: &mut Vec<u8>, number: u32) -> Result<(), AllocError> {
+pub fn push_number(text: &mut Vec<u8>, number: u32) -> Result<(), AllocError> {
     push_digit(text, number / 10_000)?;
     push_digit(text, number / 1_000)?;
     push_digit(text, number / 100)?;
@@ -116,6 +116,11 @@ fn push_text(text: &mut Vec<u8>, letter: u8) -> Result<(), AllocError> {
 /// The values of the row with that number, as a script and a reply show them.
 pub fn push_values(text: &mut Vec<u8>, number: u32) -> Result<(), AllocError> {
     push_number(text, number)?;
+    push_texts(text, number)
+}
+
+/// The two texts of the row with that number, each with a comma in front.
+pub fn push_texts(text: &mut Vec<u8>, number: u32) -> Result<(), AllocError> {
     push_text(text, ((number % 26) as u8).wrapping_add(b'a'))?;
     push_text(text, ((number % 10) as u8).wrapping_add(b'A'))
 }

@@ -4,10 +4,10 @@
 //! then that line and `closed *`. The rows of an INSERT that failed stand in no later answer, those of
 //! every other one stand in each, once, and the number of frames in use is that of the last `pool n`.
 //!
-//! The temporary file is not called by any statement so far: its calls fail all at once.
+//! The temporary file is not called by any of these statements: its calls fail all at once.
 
 use crate::counted::Counted;
-use crate::engine_run::{FRAMES, Ran, run_over};
+use crate::engine_run::{FRAMES, Files, Ran, run_over};
 use crate::script::{Statement, add_pages, statements, text_of};
 use crate::standing::{Lines, Standing};
 use hg_io::{MemDevice, MemSource};
@@ -35,9 +35,17 @@ fn run(alloc: Global, script: &[u8], failing: &Failing) -> Result<Ran, AllocErro
     };
     let reads = Vec::from_slice(alloc, failing.temp)?;
     let writes = Vec::from_slice(alloc, failing.temp)?;
-    let temp = MemDevice::new(alloc, reads, writes);
+    let temp = Counted {
+        device: MemDevice::new(alloc, reads, writes),
+        reads: 0,
+        writes: 0,
+    };
     let source = MemSource::new(Vec::from_slice(alloc, script)?, Vec::new(alloc));
-    run_over(alloc, source, main, temp)
+    let files = Files {
+        main_pages: 256,
+        temp_pages: 64,
+    };
+    run_over(alloc, source, main, temp, &files)
 }
 
 /// The statements, and the text of two scripts: of all but the last one, and of all. The last one makes

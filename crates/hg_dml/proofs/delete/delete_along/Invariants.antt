@@ -1,7 +1,7 @@
 use Rattle.std.proofs.Common.{◌≡◌, ◌≤◌}
 use Rattle.hg_table.specs.Marks.{committed}
 use Rattle.hg_dml.specs.Filtering.{row_passes}
-use Rattle.hg_dml.proofs.WalkLaws.{DeletedSoFar}
+use Rattle.hg_dml.proofs.DeleteLaws.{DeletedSoFar}
 use Rattle.hg_dml.proofs.delete.delete_along.Given as goal
 
 abbrev pub invariant-loop-turn : goal.invariant-loop-turn

@@ -21,7 +21,7 @@ returns-in-Ok-put-clause-ok g c = λ t at.
     (g.S.Pages.state c.args.space.now) (g.S.Pages.state c.put.new.space) c.args.catalog.now c.put.new.catalog c.args.table c.args.stamp.0 t moved.0
     (c.as_slice.ensures.value ∙ checked.sources t at)
     (subst (λ s. AreReady t.columns (rows_from c.args.texts.now s c.args.values.now c.args.ends.now)) (sym c.as_slice.ensures.value) (checked.ok t at))
-    moved.1 (moved.2 t at)
+    moved.1 (moved.2 t at) (c.in-Ok-put.ensures {u = tt}).cause
 
 pub returns-in-Err-put-clause-fault : goal.returns-in-Err-put-clause-fault
 returns-in-Err-put-clause-fault g c = λ t at.
@@ -31,4 +31,4 @@ returns-in-Err-put-clause-fault g c = λ t at.
     (g.S.Pages.state c.args.space.now) (g.S.Pages.state c.put.new.space) c.args.catalog.now c.put.new.catalog c.args.table c.args.stamp.0 t moved.0
     (c.as_slice.ensures.value ∙ checked.sources t at)
     (subst (λ s. AreReady t.columns (rows_from c.args.texts.now s c.args.values.now c.args.ends.now)) (sym c.as_slice.ensures.value) (checked.ok t at))
-    moved.1 c.in-Err-put.fault (moved.2 t at)
+    moved.1 c.in-Err-put.fault (moved.2 t at) (c.in-Err-put.ensures {u = tt}).cause

@@ -1,5 +1,7 @@
+use Rattle.std.specs.Prelude.{Some}
 use Rattle.std.proofs.Common.{◌≡◌, ◌∙◌, true, List, take, map, sym, subst, ap, refl, arith}
 use Rattle.std.proofs.lemmas.List.{drop_all}
+use Rattle.hg_base.specs.SteadyLaws.{HasCause_behind}
 use Rattle.hg_base.specs.declared.Table.{Table}
 use Rattle.hg_model.specs.Changes.{tuples_from}
 use Rattle.hg_model.specs.Tables.{fits_columns}
@@ -9,7 +11,7 @@ use Rattle.hg_dml.specs.Steps.{OneMore}
 use Rattle.hg_dml.specs.Tuples.{row_from, rows_from}
 use Rattle.hg_dml.proofs.FirstCauses.{rows-step}
 use Rattle.hg_dml.proofs.Fits.{next-of, all-of, all-done}
-use Rattle.hg_dml.proofs.PutLaws.{PutSoFar, put-next, puts-failed, length-first}
+use Rattle.hg_dml.proofs.PutLaws.{PutSoFar, put-next, put-told, puts-failed, length-first}
 use Rattle.hg_dml.proofs.putting.put_rows.Goals as goal
 
 pub loop-end-preserved : goal.loop-end-preserved
@@ -33,7 +35,7 @@ loop-end-preserved g c =
       left = sym next.0;
       put = subst (PutSoFar a d old new c.args.stamp.0 rows) (sym next.1)
           (put-next a b d old mid new c.args.stamp.0 put.1 rows (take i rows) row put.0 c.requires.whole
-          (λ columns fit. all-of (λ (r : List Value). fits_columns columns r ≡ true) rows i row _ behind fit) c.loop-end.invariant.put one);
+          (λ columns fit. all-of (λ (r : List Value). fits_columns columns r ≡ true) rows i row _ behind fit) c.loop-end.invariant.put one (c.in-Ok.ensures {u = tt}).cause);
     }
 
 pub returns-in-Err-clause-err : goal.returns-in-Err-clause-err
@@ -67,3 +69,15 @@ returns-clause-ok g c = λ pages columns chain fit.
     let none = sym c.loop-end.invariant.left
     ∙ ap (λ es. map (row_from c.args.texts.now c.args.sources.now) (tuples_from c.loop-end.from es c.args.values.now)) (drop_all i c.args.ends.now (omega arith)) in
     subst (λ rs. Puts a b old new pages c.args.stamp.0 columns rs) (all-done rows i none) (c.loop-end.invariant.put.puts pages columns chain fit)
+
+pub returns-in-Err-clause-cause : goal.returns-in-Err-clause-cause
+returns-in-Err-clause-cause g c =
+    let a = g.S.Pages.state c.args.space.now in
+    let b = g.S.Pages.state c.loop-end.space in
+    let d = g.S.Pages.state c.put_one.new.space in
+    let rows = rows_from c.args.texts.now c.args.sources.now c.args.values.now c.args.ends.now in
+    let told = put-told a b (g.D.TableCalls.ends c.args.table.now) (g.D.TableCalls.ends c.loop-end.table) c.args.stamp.0 rows (take c.loop-end.end-index rows) c.requires.whole c.loop-end.invariant.put in
+    HasCause_behind a b d (Some c.in-Err.fault) told c.loop-end.invariant.put.cause (c.in-Err.ensures {u = tt}).cause
+
+pub returns-clause-cause : goal.returns-clause-cause
+returns-clause-cause g c = c.loop-end.invariant.put.cause

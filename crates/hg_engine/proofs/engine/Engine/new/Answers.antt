@@ -19,7 +19,7 @@ returns-clause-start g c =
     let b = state_of g.M.PageDevice g.T.PageDevice c.take_first.new.pool in
     let made = c.in-Ok.ensures {u = tt} in
     opened a b c.in-Ok.tables c.args.config.now (record { main = disk_of g.M.PageDevice c.args.main; temp = disk_of g.T.PageDevice c.args.temp }) c.take_first.ensures.taken (c.in-Ok-new.ensures {u = tt}).start c.requires.some_request
-    (let least = c.requires.main_least in omega (arith, least)) made.catalog made.stamps made.idle made.max made.mpl
+    (let least = c.requires.main_least in omega (arith, least)) (let most = c.requires.temp_most in omega (arith, most)) made.catalog made.stamps made.idle made.max made.mpl
 
 pub returns-clause-tells : goal.returns-clause-tells
 returns-clause-tells g c = c.take_first.ensures.taken.told ∙ ap (λ (s : Space). s.told) (c.in-Ok-new.ensures {u = tt}).start
@@ -31,5 +31,5 @@ invariant_of-result g c =
     let made = c.in-Ok.ensures {u = tt} in (
       _,
       opened a b c.in-Ok.tables c.args.config.now (record { main = disk_of g.M.PageDevice c.args.main; temp = disk_of g.T.PageDevice c.args.temp }) c.take_first.ensures.taken (c.in-Ok-new.ensures {u = tt}).start c.requires.some_request
-          (let least = c.requires.main_least in omega (arith, least)) made.catalog made.stamps made.idle made.max made.mpl,
+          (let least = c.requires.main_least in omega (arith, least)) (let most = c.requires.temp_most in omega (arith, most)) made.catalog made.stamps made.idle made.max made.mpl,
     )

@@ -16,7 +16,7 @@ returns-clause-step g c =
     let step =
     subst (λ k. EngineSteps g.M.PageDevice g.T.PageDevice k c.answer.new.self c.answer.new.reply
     (BeginsRead (tells_of g.M.PageDevice g.T.PageDevice k) (command_in c.args.asked.now.command) (texts_in c.args.asked.now))
-    (λ now. CommandFinds (space_of g.M.PageDevice g.T.PageDevice k) now (command_in c.args.asked.now.command)))
+    (λ now. CommandFinds (space_of g.M.PageDevice g.T.PageDevice k) k.tables now (command_in c.args.asked.now.command)))
     c.self.view_is c.answer.ensures.step
     in
     (step.lines, step.says, step.moves, step.full, step.damage)

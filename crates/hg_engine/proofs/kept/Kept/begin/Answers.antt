@@ -11,28 +11,42 @@ pub returns-in-CreateTable-clause-step : goal.returns-in-CreateTable-clause-step
 returns-in-CreateTable-clause-step g c =
     let old = c.args.self.now in
     let P : CommandAt → Type 0 = λ k. EngineSteps g.M.PageDevice g.T.PageDevice old c.create.new.self c.create.new.reply
-    (BeginsSo (tells_of g.M.PageDevice g.T.PageDevice old) (command_in k) (texts_in c.args.asked.now)) (λ now. CommandFinds (space_of g.M.PageDevice g.T.PageDevice old) now (command_in k)) in
+    (BeginsSo (tells_of g.M.PageDevice g.T.PageDevice old) (command_in k) (texts_in c.args.asked.now)) (λ now. CommandFinds (space_of g.M.PageDevice g.T.PageDevice old) old.tables now (command_in k)) in
     subst P (sym c.in-CreateTable.is) (c.create.ensures.step (texts_in c.args.asked.now))
 
 pub returns-in-Insert-clause-step : goal.returns-in-Insert-clause-step
 returns-in-Insert-clause-step g c =
     let old = c.args.self.now in
     let P : CommandAt → Type 0 = λ k. EngineSteps g.M.PageDevice g.T.PageDevice old c.insert.new.self c.insert.new.reply
-    (BeginsSo (tells_of g.M.PageDevice g.T.PageDevice old) (command_in k) (texts_in c.args.asked.now)) (λ now. CommandFinds (space_of g.M.PageDevice g.T.PageDevice old) now (command_in k)) in
+    (BeginsSo (tells_of g.M.PageDevice g.T.PageDevice old) (command_in k) (texts_in c.args.asked.now)) (λ now. CommandFinds (space_of g.M.PageDevice g.T.PageDevice old) old.tables now (command_in k)) in
     subst P (sym c.in-Insert.is) c.insert.ensures.step
+
+pub returns-in-Update-clause-step : goal.returns-in-Update-clause-step
+returns-in-Update-clause-step g c =
+    let old = c.args.self.now in
+    let P : CommandAt → Type 0 = λ k. EngineSteps g.M.PageDevice g.T.PageDevice old c.update.new.self c.update.new.reply
+    (BeginsSo (tells_of g.M.PageDevice g.T.PageDevice old) (command_in k) (texts_in c.args.asked.now)) (λ now. CommandFinds (space_of g.M.PageDevice g.T.PageDevice old) old.tables now (command_in k)) in
+    subst P (sym c.in-Update.is) c.update.ensures.step
+
+pub returns-in-Delete-clause-step : goal.returns-in-Delete-clause-step
+returns-in-Delete-clause-step g c =
+    let old = c.args.self.now in
+    let P : CommandAt → Type 0 = λ k. EngineSteps g.M.PageDevice g.T.PageDevice old c.delete.new.self c.delete.new.reply
+    (BeginsSo (tells_of g.M.PageDevice g.T.PageDevice old) (command_in k) (texts_in c.args.asked.now)) (λ now. CommandFinds (space_of g.M.PageDevice g.T.PageDevice old) old.tables now (command_in k)) in
+    subst P (sym c.in-Delete.is) c.delete.ensures.step
 
 pub returns-in-Select-clause-step : goal.returns-in-Select-clause-step
 returns-in-Select-clause-step g c =
     let old = c.args.self.now in
     let P : CommandAt → Type 0 = λ k. EngineSteps g.M.PageDevice g.T.PageDevice old c.select.new.self c.select.new.reply
-    (BeginsSo (tells_of g.M.PageDevice g.T.PageDevice old) (command_in k) (texts_in c.args.asked.now)) (λ now. CommandFinds (space_of g.M.PageDevice g.T.PageDevice old) now (command_in k)) in
+    (BeginsSo (tells_of g.M.PageDevice g.T.PageDevice old) (command_in k) (texts_in c.args.asked.now)) (λ now. CommandFinds (space_of g.M.PageDevice g.T.PageDevice old) old.tables now (command_in k)) in
     subst P (sym c.in-Select.is) c.select.ensures.step
 
 pub returns-in-Pool-clause-step : goal.returns-in-Pool-clause-step
 returns-in-Pool-clause-step g c =
     let old = c.args.self.now in
     let P : CommandAt → Type 0 = λ k. EngineSteps g.M.PageDevice g.T.PageDevice old c.resize.new.self c.resize.new.reply
-    (BeginsSo (tells_of g.M.PageDevice g.T.PageDevice old) (command_in k) (texts_in c.args.asked.now)) (λ now. CommandFinds (space_of g.M.PageDevice g.T.PageDevice old) now (command_in k)) in
+    (BeginsSo (tells_of g.M.PageDevice g.T.PageDevice old) (command_in k) (texts_in c.args.asked.now)) (λ now. CommandFinds (space_of g.M.PageDevice g.T.PageDevice old) old.tables now (command_in k)) in
     subst P (sym c.in-Pool.is) (c.resize.ensures.step (texts_in c.args.asked.now))
 
 pub resize-requires-clause-at_least : goal.resize-requires-clause-at_least

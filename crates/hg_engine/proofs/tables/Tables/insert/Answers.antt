@@ -14,7 +14,8 @@ use Rattle.hg_reply.specs.Steps.{BeginsSo}
 use Rattle.hg_table.specs.Marks.{last, Draws}
 use Rattle.hg_engine.specs.Stepping.{StepsTo, CountedIn, line_of}
 use Rattle.hg_model.specs.Statements.{InsertRows}
-use Rattle.hg_engine.proofs.InsertLaws.{insert-misfit, insert-late, insert-done, insert-faulted, insert-against, stands-at, stands-over, done-same, part-same, part-counted, part-found, at-fault, at-refused}
+use Rattle.hg_engine.proofs.ChangeLaws.{stands-at, stands-over, at-fault, at-refused}
+use Rattle.hg_engine.proofs.InsertLaws.{insert-misfit, insert-late, insert-done, insert-faulted, insert-against, done-same, part-same, part-counted, part-found}
 use Rattle.hg_engine.proofs.Lookups.{mapped-some}
 use Rattle.hg_engine.proofs.NewTables.{some-mapped}
 use Rattle.hg_engine.proofs.StandLaws.{some-one}
@@ -30,7 +31,7 @@ returns-in-Err-clause-step g c =
       refusal_line r.0 ∷ [],
       tells-one c.args.reply.now c.say_refusal.new.reply (refusal_line r.0) c.requires.empty c.requires.no_error (c.say_refusal.ensures.text r.0 r.2) c.say_refusal.ensures.errors,
       counted-plain a a (refusal_line r.0) (Later_same a.counts) (refusal-quiet r.0),
-      insert-misfit a old c.place.new.self i c.args.texts.now c.requires.idle c.place.ensures.open c.place.ensures.max c.place.ensures.mpl c.place.ensures.catalog r.0 r.1 c.place.ensures.stamps,
+      insert-misfit a old c.place.new.self i c.args.texts.now c.requires.idle c.place.ensures.open c.place.ensures.max c.place.ensures.mpl c.place.ensures.catalog c.place.ensures.stamps r.0 r.1,
       sound-refusal _ r.0,
     )
 
@@ -45,8 +46,8 @@ returns-in_default-clause-step g c =
       refusal_line StampsUsedUp ∷ [],
       tells-one c.args.reply.now c.say.new.self (refusal_line StampsUsedUp) c.requires.empty c.requires.no_error c.say.ensures.text c.say.ensures.errors,
       counted-plain a a (refusal_line StampsUsedUp) (Later_same a.counts) (refusal-quiet StampsUsedUp),
-      insert-late a old c.draw.new.self i c.args.texts.now c.requires.idle (d.open ∙ p.open) (d.max ∙ p.max) (d.mpl ∙ p.mpl) (d.catalog ∙ p.catalog)
-          (c.in-Ok.ensures {u = tt}).stands (ap last (sym p.stamps) ∙ drawn.0) (drawn.1 ∙ p.stamps),
+      insert-late a old c.draw.new.self i c.args.texts.now c.requires.idle (d.open ∙ p.open) (d.max ∙ p.max) (d.mpl ∙ p.mpl) (d.catalog ∙ p.catalog) (drawn.1 ∙ p.stamps)
+          (c.in-Ok.ensures {u = tt}).stands (ap last (sym p.stamps) ∙ drawn.0),
       sound-refusal _ StampsUsedUp,
     )
 
@@ -75,14 +76,14 @@ returns-in-Ok-insert_rows-clause-step g c =
     let P : Contents → Type 0 = λ cat. (t : CatalogTable) → slice_get cat.tables k ≡ Some t → PutsAll a b cat now k s texts targets c.args.insert.now.values.now c.args.insert.now.ends.now t in
     let puts = subst P (d.catalog ∙ p.catalog) done.ok in
     let line = rows c.in-Ok-insert_rows.count in
-    let step = insert-done a b old (record c.draw.new.self { catalog = now; stamps = c.insert_rows.new.stamps; row = c.insert_rows.new.row }) i texts targets k s c.draw.new.self.stamps
+    let step = insert-done a b old (record c.draw.new.self { catalog = now; stamps = c.insert_rows.new.stamps; room = (record c.draw.new.self.room { row = c.insert_rows.new.row }) }) i texts targets k s c.draw.new.self.stamps
     c.requires.idle (d.open ∙ p.open) (d.max ∙ p.max) (d.mpl ∙ p.mpl) placed.number placed.inside placed.stands
     (c.as_slice.ensures.value ∙ ap (λ t. t.items) d.targets ∙ placed.targets)
     (subst (λ m. Draws m c.draw.new.self.stamps s) p.stamps drawn.0) (subst (λ m. last m < 2 ^ 20) p.stamps drawn.1) puts done.committed in (
       line ∷ [],
       tells-one c.args.reply.now c.say-in-Ok-insert_rows.new.self line c.requires.empty c.requires.no_error c.say-in-Ok-insert_rows.ensures.text c.say-in-Ok-insert_rows.ensures.errors,
       counted-plain a b line (done-same a b old now i texts targets k s c.requires.stands.0 c.requires.stands.1 placed.inside puts).later (record { main = refl; temp = refl; main_full = refl; temp_full = refl }),
-      subst (λ n. StepsTo a b old (record c.draw.new.self { catalog = now; stamps = c.insert_rows.new.stamps; row = c.insert_rows.new.row }) (BeginsSo a.told (InsertRows i) texts) (rows n ∷ [])) (sym done.count) step,
+      subst (λ n. StepsTo a b old (record c.draw.new.self { catalog = now; stamps = c.insert_rows.new.stamps; room = (record c.draw.new.self.room { row = c.insert_rows.new.row }) }) (BeginsSo a.told (InsertRows i) texts) (rows n ∷ [])) (sym done.count) step,
       sound-line _ line refl,
     )
 
@@ -121,7 +122,7 @@ returns-in-Err-Fault-clause-step g c =
       tells-one c.args.reply.now c.say_fault.new.reply (line_of f) c.requires.empty c.requires.no_error c.say_fault.ensures.text
           (c.say_fault.ensures.errors ∙ ap (λ b. c.args.reply.now.has_error || b) (sym (error-of-fault f))),
       part-counted a b old now i texts targets k s c.requires.stands.0 c.requires.stands.1 placed.inside f puts,
-      insert-faulted a b old (record c.draw.new.self { catalog = now; stamps = c.insert_rows.new.stamps; row = c.insert_rows.new.row }) i texts targets k s c.draw.new.self.stamps
+      insert-faulted a b old (record c.draw.new.self { catalog = now; stamps = c.insert_rows.new.stamps; room = (record c.draw.new.self.room { row = c.insert_rows.new.row }) }) i texts targets k s c.draw.new.self.stamps
           c.requires.idle (d.open ∙ p.open) (d.max ∙ p.max) (d.mpl ∙ p.mpl) placed.number placed.inside placed.stands
           (c.as_slice.ensures.value ∙ ap (λ t. t.items) d.targets ∙ placed.targets)
           (subst (λ m. Draws m c.draw.new.self.stamps s) p.stamps drawn.0) (subst (λ m. last m < 2 ^ 20) p.stamps drawn.1) f puts failed.uncommitted,
@@ -167,7 +168,7 @@ returns-in-Err-Refused-clause-step g c =
     let d = c.draw.ensures in
     let placed = c.in-Ok.ensures {u = tt} in
     let drawn = (c.in-Some.ensures {u = tt}).drawn in
-    let new = record c.draw.new.self { catalog = c.insert_rows.new.catalog; stamps = c.insert_rows.new.stamps; row = c.insert_rows.new.row } in
+    let new = record c.draw.new.self { catalog = c.insert_rows.new.catalog; stamps = c.insert_rows.new.stamps; room = (record c.draw.new.self.room { row = c.insert_rows.new.row }) } in
     let e = mapped-some (λ (x : CatalogTable). x.columns) _ _ c.columns.ensures.value in
     let failed = c.in-Err-Refused.ensures {u = tt} in
     let U : ℕ → Option ℕ → Type 0 = λ code column. (c.insert_rows.new.space ≡ c.args.space.now) × (c.insert_rows.new.catalog ≡ c.draw.new.self.catalog) in

@@ -1,11 +1,12 @@
-use Rattle.std.proofs.Common.{Some, [], ◌∷◌, ◌≡◌, ◌∙◌, refl, ap, subst, sym}
+use Rattle.std.proofs.Common.{Some, map, [], ◌∷◌, ◌≡◌, ◌∙◌, refl, ap, subst, sym}
 use Rattle.hg_base.specs.SteadyLaws.{Later_same}
 use Rattle.hg_bind.specs.Bound.{error_of, tables_of}
-use Rattle.hg_bind.specs.BoundSelect.{IsBoundSelect}
+use Rattle.hg_bind.specs.BoundSelect.{AreTables, IsBoundSelect}
 use Rattle.hg_exec.specs.Planned.{IsReady}
 use Rattle.hg_machine.specs.Plain.Refused.{refusal_line}
 use Rattle.hg_model.specs.Binding.{select_refusal}
 use Rattle.hg_model.specs.Query.{query_of}
+use Rattle.hg_plan.specs.declared.plan.TableLoop.{TableLoop}
 use Rattle.hg_reply.specs.Asked.{query_at}
 use Rattle.hg_engine.proofs.Lookups.{mapped-some}
 use Rattle.hg_engine.proofs.Saying.{tells-one, tells-none, counted-plain, counted-none, refusal-quiet, sound-refusal}
@@ -50,3 +51,14 @@ returns-clause-step g c =
           (subst (λ n. BeginsWork a n c.begin.new.self.loops) c.last.ensures.value c.begin.ensures.work),
       tt,
     )
+
+pub returns-clause-plan : goal.returns-clause-plan
+returns-clause-plan g c =
+    let old = c.args.self.now in
+    let q = query_at c.args.select.now in
+    let w = c.place.new.self in
+    let t = c.in_default.ensures {u = tt} in
+    let bound : IsBoundSelect (tables_of old.catalog) q (query_of w.select) w.tables.items w.places.items =
+    subst (λ x. IsBoundSelect (tables_of old.catalog) x (query_of w.select) w.tables.items w.places.items) c.hold.ensures.query t.ok in
+    λ yes. subst (AreTables (tables_of old.catalog) q.tables)
+    (sym t.plan.tables_are ∙ ap (λ (x : OpenSelect). map (λ (l : TableLoop). l.table) x.plan.loops.items) (sym c.begin.ensures.rest)) bound.tables_are
