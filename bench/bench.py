@@ -4,8 +4,8 @@
     python3 bench/bench.py [--program PATH] [ROWS ..]   (100000 and 1000000 rows where none are given)
 
 One table is filled by INSERTs and then read whole. Then a table of four times the pool's frames is read
-whole ten times, and the reads of its file are counted for each page and each time. Then come the
-statements of WORKLOADS, against sqlite3 with its database in memory: the instructions by callgrind, and
+whole ten times, and the reads of its file are counted for each page and each time; and all of its rows are
+deleted, and the writes of its file are counted for each page. Then come the statements of WORKLOADS, against sqlite3 with its database in memory: the instructions by callgrind, and
 the processor time, each without that of the statements that go before.
 
 Where no program is named it builds it with `rt run` where that has changed. It runs each script in a
@@ -176,6 +176,22 @@ def bench_scans(program, folder):
           f"{reads:.2f} reads a page and scan.")
 
 
+def bench_deletion(program, folder):
+    """Says how often each page of a table of four times the pool is written when all rows are deleted.
+
+    A scan before it has written what the INSERTs left in the pool, and one behind it what the DELETE left.
+    """
+    pages = 4 * POOL
+    script = folder / "deletion.sql"
+    counts = []
+    for more in ([], ["DELETE FROM t;", "SELECT * FROM t;"]):
+        write_lines(script, ["CREATE TABLE t (a INTEGER, b INTEGER);",
+                             *insert_lines("t", two_numbers(pages * ROWS_OF_PAGE)), "SELECT * FROM t;", *more])
+        counts.append(count_calls([program], script, folder)["heapgov.main"]["write"])
+    print(f"All rows of a table of {pages} pages deleted, with {POOL} frames: "
+          f"{(counts[1] - counts[0]) / pages:.2f} writes a page.")
+
+
 def numbers_with_rest(rows):
     """Row n is n, a number that comes in no order, and what is left of n by 100."""
     return [f"({n}, {n * 7919 % 1_000_003}, {n % 100})" for n in range(rows)]
@@ -188,6 +204,8 @@ def two_texts(rows):
 # Nine of the conditions hold for every row, and the last one for one row in a hundred.
 TEN_CONDITIONS = """SELECT a, b FROM t WHERE a >= 0 AND b >= 0 AND c >= 0 AND a < 200000 AND b < 1000003
  AND c < 100 AND a + b < 1200003 AND a <> c - 100 AND (a > 50 OR c <= 50) AND c = 7;""".replace("\n", "")
+THREE_NUMBERS = ["CREATE TABLE t (a INTEGER, b INTEGER, c INTEGER);",
+                 *insert_lines("t", numbers_with_rest(100_000))]
 TWO_TABLES = ["CREATE TABLE t (a INTEGER, b INTEGER);", *insert_lines("t", two_numbers(1_000)),
               "CREATE TABLE u (a INTEGER, b INTEGER);", *insert_lines("u", two_numbers(1_000))]
 
@@ -196,8 +214,7 @@ WORKLOADS = [
     ("10,000 INSERTs of one row",
      ["CREATE TABLE t (a INTEGER, b INTEGER);"], insert_lines("t", two_numbers(10_000), 1), 0),
     ("ten conditions over 100,000 rows, one row in a hundred kept",
-     ["CREATE TABLE t (a INTEGER, b INTEGER, c INTEGER);", *insert_lines("t", numbers_with_rest(100_000))],
-     [TEN_CONDITIONS], 1_000),
+     THREE_NUMBERS, [TEN_CONDITIONS], 1_000),
     ("1,000 rows beside 1,000 rows, joined by a sum, for which neither has an index",
      TWO_TABLES, ["SELECT t.a, u.b FROM t JOIN u ON t.a + u.a = 999;"], 1_000),
     ("1,000 rows beside 1,000 rows, joined by equal columns, for which sqlite3 makes an index",
@@ -207,6 +224,10 @@ WORKLOADS = [
     ("100,000 rows of two texts, read whole",
      ["CREATE TABLE t (a VARCHAR(20), b VARCHAR(40));", *insert_lines("t", two_texts(100_000))],
      ["SELECT * FROM t;"], 100_000),
+    ("UPDATE of every row of 100,000", THREE_NUMBERS, ["UPDATE t SET b = b + 1 WHERE a >= 0;"], 0),
+    ("UPDATE of one row in a hundred of 100,000", THREE_NUMBERS, ["UPDATE t SET b = b + 1 WHERE c = 7;"], 0),
+    ("DELETE of every row of 100,000", THREE_NUMBERS, ["DELETE FROM t WHERE a >= 0;"], 0),
+    ("DELETE of one row in a hundred of 100,000", THREE_NUMBERS, ["DELETE FROM t WHERE c = 7;"], 0),
 ]
 
 
@@ -218,6 +239,10 @@ def instructions(command, script, folder):
             env={**os.environ, "GLIBC_TUNABLES": "glibc.cpu.hwcaps=-ERMS,-FSRM"}, stdin=source,
             stdout=subprocess.DEVNULL, stderr=subprocess.PIPE, text=True, cwd=folder)
     return int(re.search(r"Collected : (\d+)", done.stderr)[1])
+
+
+# What sqlite3 gets before the statements of a workload; it answers with one line.
+NO_JOURNAL = "PRAGMA journal_mode = OFF;"
 
 
 def cost(command, before, measured, folder):
@@ -234,12 +259,13 @@ def cost(command, before, measured, folder):
 def bench_workload(program, workload, folder):
     """One line of the table of workloads."""
     name, before, measured, rows = workload
-    costs = []
-    for command, start in ([program], "row "), (["sqlite3", "-batch", ":memory:"], ""):
-        costs.append(cost(command, before, measured, folder))
-        if lines_with_rows(folder / "out", start) != rows:
-            sys.exit(f"bench: {command[0]} did not give every row once")
-    (count, used), (their_count, their_used) = costs
+    ours = cost([program], before, measured, folder)
+    if lines_with_rows(folder / "out", "row ") != rows:
+        sys.exit("bench: the program did not give every row once")
+    theirs = cost(["sqlite3", "-batch", ":memory:"], [NO_JOURNAL, *before], measured, folder)
+    if lines_with_rows(folder / "out", "") != rows + 1:
+        sys.exit("bench: sqlite3 did not give every row once")
+    (count, used), (their_count, their_used) = ours, theirs
     return [name, f"{count / 1e6:,.1f} / {their_count / 1e6:,.1f} million", f"{count / their_count:.2f}",
             f"{used:.3f} / {their_used:.3f} s", f"{used / their_used:.2f}"]
 
@@ -278,6 +304,7 @@ def main():
         with tempfile.TemporaryDirectory() as folder:
             print()
             bench_scans(program, Path(folder))
+            bench_deletion(program, Path(folder))
     if shutil.which("sqlite3") and shutil.which("valgrind"):
         print()
         bench_workloads(program)
