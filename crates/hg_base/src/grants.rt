@@ -19,6 +19,21 @@ impl Grant {
         Grant { request, pages: 0 }
     }
 
+    /// A grant of so many pages, of a space that is in memory.
+    pub(crate) fn of(request: Request, pages: u32) -> Grant
+        ensures { result ≡ record { request = request; pages = pages } }
+    {
+        Grant { request, pages }
+    }
+
+    /// A page was made of it.
+    pub(crate) fn spend(self) {
+        let Grant {
+            request: _,
+            pages: _,
+        } = self;
+    }
+
     /// Both grants as one.
     pub fn join(self, other: Grant) -> Grant
         requires same { other.request ≡ self.request }

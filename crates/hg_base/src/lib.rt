@@ -1,7 +1,8 @@
 //! What every layer of the engine names: numbers of frames, heaps, requests and pages, addresses,
-//! the errors that many calls share, numbers read from bytes and written to them, and the trait
-//! [`Pages`], the seam between the buffer pool and everything that is kept on pages. It stands on
-//! nothing. The contract that the layers above use is that of [`Pages`].
+//! the errors that many calls share, numbers read from bytes and written to them, and the two traits
+//! that the layers above use: [`Pages`], the seam between the buffer pool and everything that is kept
+//! on pages, and [`Heaps`], the working memory of queries over the same pages. [`PlainSpace`] meets
+//! both in memory, for tests of what stands on them. It stands on `arrayvec` alone.
 #![tactic(auto)]
 
 mod addr;
@@ -10,6 +11,14 @@ mod grants;
 mod heaps;
 mod pages;
 mod plain;
+mod plain_bytes;
+mod plain_drain;
+mod plain_heap;
+mod plain_heaps;
+mod plain_objects;
+mod plain_page;
+mod plain_parts;
+mod plain_table;
 #[cfg(test)]
 mod tests;
 

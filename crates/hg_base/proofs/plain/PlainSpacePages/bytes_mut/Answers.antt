@@ -1,32 +1,28 @@
-use Rattle.std.proofs.Common.{refl, ◌∙◌, ap, ◌≡◌, ℕ, true, length}
+use Rattle.std.proofs.Common.{◌≡◌, ◌∙◌, ap, sym, refl, ℕ, true}
 use Rattle.hg_base.specs.Space.{key}
-use Rattle.hg_base.specs.Plain.{slot_at, is_taken}
-use Rattle.hg_base.specs.PlainLaws.{and-true}
-use Rattle.std.specs.Vec.{with_item}
 use Rattle.hg_base.specs.Lending.{refit}
-use Rattle.hg_base.specs.declared.plain.Slot.{Slot}
-use Rattle.hg_base.specs.declared.plain.PlainSpace.{PlainSpace}
-use Rattle.hg_base.proofs.PlainSteps.{loan-here, held-of, size-of}
+use Rattle.hg_base.specs.Plain.{slot_at, is_plain}
+use Rattle.hg_base.specs.PlainSpaces.{state_of}
+use Rattle.hg_base.specs.PlainLaws.{after_write_of, and-true, plain-free}
+use Rattle.hg_base.specs.declared.plain_parts.PlainParts.{PlainParts}
+use Rattle.hg_base.proofs.PlainSteps.{whole-plain}
 use Rattle.hg_base.proofs.plain.PlainSpacePages.bytes_mut.Goals as goal
 
-pub returns : goal.returns
-returns c =
-    let s : PlainSpace = c.args.self.now in
+pub invariant_of-self-lent : goal.invariant_of-self-lent
+invariant_of-self-lent c w =
+    let s : PlainParts = c.self.inside.parts in
     let p : ℕ = key c.args.pin.now.page in
-    let i : ℕ = c.place_of.result in
-    let taken : is_taken p (slot_at s.slots.items p) ≡ true = and-true (is_taken p (slot_at s.slots.items p)) (slot_at s.slots.items p).pinned c.requires in
-    let here : c.index_mut-slot.result.now ≡ slot_at s.slots.items p =
-    loan-here s.slots.items i p c.index_mut-slot.result.now c.place_of.ensures c.index_mut-slot.ensures.value taken in
-    let page : c.bytes_mut.result.now ≡ (slot_at s.slots.items p).page = c.bytes_mut.ensures.value ∙ ap (λ (y : Slot). y.page) here in (
-      (
-        refl,
-        λ w.
-            ap (λ (y : Slot). record s { slots = with_item s.slots i (record y { page = refit y.page w }) }) here
-            ∙ ap (λ (k : ℕ). record s { slots = with_item s.slots k (record (slot_at s.slots.items p) { page = refit (slot_at s.slots.items p).page w }) }) c.place_of.ensures,
-      ),
-      record {
-        lends = tt;
-        value = held-of p (slot_at s.slots.items p) c.bytes_mut.result.now taken page;
-        len = ap length page ∙ size-of p (slot_at s.slots.items p) taken;
-      },
-    )
+    let pinned : (state_of s).pinned p ≡ true = ap (λ z. (state_of z).pinned p) c.self.view_is ∙ c.requires in
+    let plain : is_plain p (slot_at s.slots.items p) ≡ true = and-true (is_plain p (slot_at s.slots.items p)) (slot_at s.slots.items p).pinned pinned in
+    whole-plain s (after_write_of s p w) p p (record (slot_at s.slots.items p) { page = refit (slot_at s.slots.items p).page w }) refl plain
+    (plain-free p (slot_at s.slots.items p) plain) refl refl c.self.invariant
+
+pub returns : goal.returns
+returns c = (
+  (refl, λ w. ap (λ z. after_write_of z (key c.args.pin.now.page) w) c.self.view_is),
+  record {
+    lends = tt;
+    value = sym (ap (λ z. (state_of z).bytes (key c.args.pin.now.page)) c.self.view_is) ∙ c.bytes_mut.ensures.value;
+    len = c.bytes_mut.ensures.len;
+  },
+)

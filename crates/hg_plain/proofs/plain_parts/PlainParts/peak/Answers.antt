@@ -1,5 +1,0 @@
-use Rattle.hg_plain.specs.PlainChanges.{heaps-whole}
-use Rattle.hg_plain.proofs.plain_parts.PlainParts.peak.Goals as goal
-
-pub returns-clause-heaps : goal.returns-clause-heaps
-returns-clause-heaps c = heaps-whole c.args.self.now c.requires
