@@ -53,11 +53,16 @@ rest-payloads Locked o frames h k = absurd (false≢true h)
 rest-payloads Unlocked o frames h k = pages-payloads o.layout (objects-payloads 0 (length (flat_map (λ p. p) o.layout)) (flat_map (λ p. p) o.layout) k.objects)
 rest-payloads Draining o frames h k = k
 
+-- the payloads of a heap that is at rest, whose first page went
+went-payloads : (x y : PlainHeap) (p : ℕ) (out : List ℕ) → is_at_rest (heap_of x).standing ≡ true → Holds x.standing (objects_in x.objects) → (d : Drained x y p out)
+    → AllByRecursion (AllByRecursion IsPayload) (map payloads_of (d.layout.page ∷ y.objects.layout.items))
+went-payloads x y p out rest k d =
+    subst (λ l. AllByRecursion (AllByRecursion IsPayload) (map payloads_of l)) d.layout.pages (rest-payloads x.standing (objects_in x.objects) (frames_in x.objects) rest k)
+
 -- what is kept of a heap whose first page went
 pub drained-holds : (x y : PlainHeap) (p : ℕ) (out : List ℕ) → is_at_rest (heap_of x).standing ≡ true → Holds x.standing (objects_in x.objects) → Drained x y p out → Holds y.standing (objects_in y.objects)
 drained-holds x y p out rest k d =
-    let all : AllByRecursion (AllByRecursion IsPayload) (map payloads_of x.objects.layout.items) = rest-payloads x.standing (objects_in x.objects) (frames_in x.objects) rest k in
-    let less : AllByRecursion (AllByRecursion IsPayload) (map payloads_of (d.layout.page ∷ y.objects.layout.items)) = subst (λ l. AllByRecursion (AllByRecursion IsPayload) (map payloads_of l)) d.layout.pages all in
+    let less : AllByRecursion (AllByRecursion IsPayload) (map payloads_of (d.layout.page ∷ y.objects.layout.items)) = went-payloads x y p out rest k d in
     subst (λ st. Holds st (objects_in y.objects)) (sym d.standing) less.1
 
 -- and what is shown of it
@@ -69,19 +74,20 @@ drained-shown x y p out rest d =
     ∙ ap (λ o. record { standing = draining (option_map (drop 1) o); request = y.request; pages = y.pages.items }) (sym (left-is x rest))
     ∙ ap (λ r. record { standing = draining (option_map (drop 1) (payloads_left (heap_of x).standing)); request = r; pages = y.pages.items }) d.request
 
-pub drained-first : (x y : PlainHeap) (p : ℕ) (out : List ℕ) → is_at_rest (heap_of x).standing ≡ true → Drained x y p out → HoldsPayloads (first_payloads (payloads_left (heap_of x).standing)) out
-drained-first x y p out rest d =
-    subst (λ o. HoldsPayloads (first_payloads o) out) (sym (left-is x rest ∙ ap (λ l. Some (map payloads_of l)) d.layout.pages)) d.layout.holds
+pub drained-first : (x y : PlainHeap) (p : ℕ) (out : List ℕ) → is_at_rest (heap_of x).standing ≡ true → Holds x.standing (objects_in x.objects) → Drained x y p out
+    → HoldsPayloads (first_payloads (payloads_left (heap_of x).standing)) out
+drained-first x y p out rest k d =
+    subst (λ o. HoldsPayloads (first_payloads o) out) (sym (left-is x rest ∙ ap (λ l. Some (map payloads_of l)) d.layout.pages)) (d.layout.holds (went-payloads x y p out rest k d).0)
 
-pub drains : (s v : Space) (h p : ℕ) (x y : PlainHeap) (out : List ℕ) → s.heaps.heap h ≡ Some (heap_of x) → is_at_rest (heap_of x).standing ≡ true → Drained x y p out
-    → v ≡ with_heap (without_heap_page s p) h (Some (heap_of y)) → Drains s v h out
-drains s v h p x y out is rest d after = record {
+pub drains : (s v : Space) (h p : ℕ) (x y : PlainHeap) (out : List ℕ) → s.heaps.heap h ≡ Some (heap_of x) → is_at_rest (heap_of x).standing ≡ true
+    → Holds x.standing (objects_in x.objects) → Drained x y p out → v ≡ with_heap (without_heap_page s p) h (Some (heap_of y)) → Drains s v h out
+drains s v h p x y out is rest k d after = record {
   heap = heap_of x;
   is = is;
   first = p;
   others = y.pages.items;
   pages = d.pages;
-  holds = drained-first x y p out rest d;
+  holds = drained-first x y p out rest k d;
   counts = s.counts;
   after = after ∙ ap (λ z. with_heap (without_heap_page s p) h (Some z)) (drained-shown x y p out rest d);
 }

@@ -4,7 +4,7 @@ use Rattle.std.specs.List.{AllByRecursion}
 use Rattle.std.specs.Prelude.{◌≡◌, ℕ, ◌+◌, ◌<◌, ◌≤◌, ◌==◌, ◌⊎◌, zero, suc, Bool, true, false, List, [], ◌∷◌, ◌++◌, length, drop, max, map, slice_get, slice_set, Result, Ok, Err, Option, None, Some, IsSome, IfSome, option_map, option_and_then, ⊤, if◌then◌else◌}
 use Rattle.hg_base.specs.Content.{Object, row_object, directory, Objects, address_of, payloads_of, Standing, locked, unlocked, draining, Heap}
 use Rattle.hg_base.specs.HeapContent.{object_at, link_of, payload_of, row_link, links_of, words_of, with_payload, with_link, changed_at, with_object, room_left, next_address, no_links, no_objects}
-use Rattle.hg_base.specs.HeapFacts.{AreWellPlaced}
+use Rattle.hg_base.specs.HeapFacts.{AreWellPlaced, IsPayload}
 use Rattle.hg_base.specs.HeapPage.{link_word, IsHeapPage}
 use Rattle.hg_base.specs.Lines.{AreApart, has_page}
 use Rattle.hg_base.specs.Space.{Space, Counts, at, key, key_in, with_counts, IsUnused}
@@ -259,13 +259,15 @@ payloads_left (unlocked None) = None
 payloads_left (unlocked (Some objects)) = Some (map payloads_of objects.layout)
 payloads_left (draining payloads) = payloads
 
--- 4,096 bytes are a heap's page, whose rows have these payloads, where they are told
+-- 4,096 bytes are a heap's page: its rows have 1 to 3,920 bytes each, and these payloads, where they are told
 pub record HoldsPayloads (payloads : Option (List (List ℕ))) (page : List ℕ) : Type 0 where
   pub address : ℕ → ℕ
   pub roots : List (Option ℕ)
   pub objects : List Object
   pub frame : ℕ
   pub is : IsHeapPage address roots objects frame page
+  pub four : (length roots ≡ 4) ⊎ (roots ≡ [])
+  pub each : AllByRecursion IsPayload (payloads_of objects)
   pub told : IfSome payloads (λ ps. payloads_of objects ≡ ps)
 
 abbrev pub first_payloads : Option (List (List (List ℕ))) → Option (List (List ℕ))

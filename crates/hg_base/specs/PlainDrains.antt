@@ -1,10 +1,12 @@
 -- The bytes of a page that is drained: those of its rows alone, which lead to nothing.
 use Rattle.std.specs.Prelude.{◌≡◌, ℕ, ◌+◌, ◌-◌, ◌*◌, ◌/◌, ◌≤◌, zero, suc, List, [], ◌∷◌, ◌++◌, length, take, replicate, flat_map, sum_by, Option, None, Some}
 use Rattle.std.specs.Int.{w16, to_le_bytes}
-use Rattle.std.proofs.Common.{sym, ◌∙◌, ap, refl, arith, append_assoc, append-nil, length-append}
+use Rattle.std.specs.List.{AllByRecursion}
+use Rattle.std.proofs.Common.{sym, ◌∙◌, ap, subst, refl, arith, inr, append_assoc, append-nil, length-append}
 use Rattle.std.proofs.lemmas.Option.{none-some}
 use Rattle.std.proofs.lemmas.List.Sums.{sum_by-cons}
 use Rattle.hg_base.specs.Content.{Object, row_object, directory, object_size, page_end, payloads_of}
+use Rattle.hg_base.specs.HeapFacts.{IsPayload}
 use Rattle.hg_base.specs.HeapPage.{object_bytes}
 use Rattle.hg_base.specs.HeapStates.{HoldsPayloads}
 use Rattle.hg_base.specs.PlainEntries.{payload_at}
@@ -132,8 +134,9 @@ row-room (directory ls ∷ objects) (suc i) payload e =
     omega (arith, sum_by-cons object_size (directory ls) objects)
 
 -- such a page holds the payloads
-pub page-holds : (objects : List Object) → page_end objects ≤ 4096 → HoldsPayloads (Some (payloads_of objects)) (page_bytes (rows_bytes objects))
-page-holds objects h =
+pub page-holds : (objects : List Object) → page_end objects ≤ 4096 → AllByRecursion IsPayload (payloads_of objects)
+    → HoldsPayloads (Some (payloads_of objects)) (page_bytes (rows_bytes objects))
+page-holds objects h each =
     let rows : List ℕ = rows_bytes objects in
     let end : 64 + length rows ≡ page_end (rows_alone objects) = ap (λ n. 64 + n) (alone-long objects) in
     let small = rows-few objects h in
@@ -151,5 +154,7 @@ page-holds objects h =
         fits = let s = alone-size objects in omega arith;
         placed = ap (λ n. rows ++ replicate n 0) (let n : 4032 - length rows ≡ 4096 - page_end (rows_alone objects) = omega arith in n);
       };
+      four = inr refl;
+      each = subst (AllByRecursion IsPayload) (sym (alone-payloads objects)) each;
       told = alone-payloads objects;
     }

@@ -68,7 +68,7 @@ pub record GotPage (x y : PlainHeap) (p : ℕ) : Type 0 where
 pub record LetsGo (before after : List (List Object)) (out : List ℕ) : Type 0 where
   pub page : List Object
   pub pages : before ≡ page ∷ after
-  pub holds : HoldsPayloads (Some (payloads_of page)) out
+  pub holds : AllByRecursion IsPayload (payloads_of page) → HoldsPayloads (Some (payloads_of page)) out
 
 -- its first page went, of this number, and `out` holds its payloads
 pub record Drained (x y : PlainHeap) (p : ℕ) (out : List ℕ) : Type 0 where

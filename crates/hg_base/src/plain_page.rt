@@ -151,6 +151,8 @@ impl HeapPage {
     ghost use Rattle.std.specs.Prelude.{◌≡◌, ◌≤◌, ◌<◌, ◌+◌, ◌*◌, ◌^◌, ◌++◌, [], ◌∷◌, Some, None, length, map, IfOk, IfSome, IsSome, MatchOption, slice_index_or};
     ghost use Rattle.std.specs.Borrow.{sem};
     ghost use Rattle.hg_base.specs.Content.{page_end, row_object, directory, object_size, offsets_from, payloads_of};
+    ghost use Rattle.std.specs.List.{AllByRecursion};
+    ghost use Rattle.hg_base.specs.HeapFacts.{IsPayload};
     ghost use Rattle.hg_base.specs.HeapStates.{HoldsPayloads};
     ghost use Rattle.hg_base.specs.HeapContent.{place_in, changed_on, with_link, no_links};
     ghost use Rattle.hg_base.specs.Lending.{LendsBytes};
@@ -248,7 +250,7 @@ impl HeapPage {
     /// Writes its rows, without their links, as a page of 4,096 bytes.
     pub(crate) fn write_rows(&self, out: &mut [u8])
         requires { length out.old ≡ 4096 }
-        ensures { HoldsPayloads (Some (payloads_of self.now)) out.new }
+        ensures { AllByRecursion IsPayload (payloads_of self.now) → HoldsPayloads (Some (payloads_of self.now)) out.new }
     {
         let mut rows: ArrayVec<u8, 4096> = ArrayVec::new();
         for index in 0..self.entries.len() {

@@ -2,7 +2,8 @@
 use Rattle.std.specs.Prelude.{◌≡◌, ℕ, ◌+◌, ◌%◌, ◌<◌, ◌≤◌, List, [], ◌∷◌, ◌++◌, length, take, drop, Option, MatchOption, ⊤}
 use Rattle.std.specs.List.{concat}
 use Rattle.std.specs.List.{AllByRecursion}
-use Rattle.hg_base.specs.Content.{row_object, directory, object_size, page_end, Object as HeapObject}
+use Rattle.hg_base.specs.Content.{row_object, directory, object_size, page_end, payloads_of, Object as HeapObject}
+use Rattle.hg_base.specs.HeapFacts.{IsPayload}
 use Rattle.hg_base.specs.HeapPage.{object_bytes, IsHeapPage}
 use Rattle.hg_reloc.specs.Blocks.{number, word, kind, end, IsBlock, HasObjects}
 use Rattle.hg_reloc.specs.declared.object.Object.{Object}
@@ -58,8 +59,14 @@ GoesOn page at o = (before : List (List ℕ)) (b : List ℕ) (behind : List (Lis
 -- The same of a page of a heap, whatever its objects are: each of them is found where it stands, and the
 -- way leads from one to the next.
 abbrev pub InRange : HeapObject → Type 0
-InRange (row_object payload link) = (0 < length payload) × (length payload ≤ 3920)
+InRange (row_object payload link) = IsPayload payload
 InRange (directory links) = ⊤
+
+-- so are the objects of a page that was drained
+pub are_in_range : (objects : List HeapObject) → AllByRecursion IsPayload (payloads_of objects) → AllByRecursion InRange objects
+are_in_range [] h = tt
+are_in_range (row_object payload link ∷ objects) h = (h.0, are_in_range objects h.1)
+are_in_range (directory links ∷ objects) h = (tt, are_in_range objects h)
 
 abbrev pub FindsObject : List ℕ → ℕ → Option Object → Type 0
 FindsObject page at result =

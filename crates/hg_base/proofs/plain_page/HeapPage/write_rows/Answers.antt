@@ -52,4 +52,4 @@ returns c =
     let e = end-of c.self.inside v c.self.invariant c.self.view_is in
     let b = c.self.invariant.below in
     let s = c.as_slice.ensures.value ∙ c.loop-index.invariant ∙ ap rows_bytes all in
-    subst (λ o. HoldsPayloads (Some (payloads_of v)) o) (sym (c.write_page.ensures ∙ ap page_bytes s)) (page-holds v (omega arith))
+    λ each. subst (λ o. HoldsPayloads (Some (payloads_of v)) o) (sym (c.write_page.ensures ∙ ap page_bytes s)) (page-holds v (omega arith) each)

@@ -28,8 +28,9 @@ returns-clause-ok c =
     let h : ℕ = c.args.h.0 in
     let q : ℕ = c.take_page-page.result in
     let p : PutsHeap (λ x y. Drained x y q c.take_page-page.new.out) s c.take_page-page.new.self h = c.take_page-page.ensures in
+    let w : IsKeptHeap (owners_of s) h p.before = c.requires.whole.kept.each h p.before p.is in
     let rest : is_at_rest (heap_of p.before).standing ≡ true = can-rest (heap_at s.heaps.items h) p.before p.is c.requires.can in
-    drains (state_of s) (state_of c.clear_slot.new.self) h q p.before p.heap c.take_page-page.new.out (ap (option_map heap_of) p.is) rest p.change
+    drains (state_of s) (state_of c.clear_slot.new.self) h q p.before p.heap c.take_page-page.new.out (ap (option_map heap_of) p.is) rest w.holds p.change
     (c.clear_slot.ensures.state ∙ ap (λ z. without_heap_page z q) (puts-state s c.take_page-page.new.self h p.heap p.after p.inside))
 
 pub returns-clause-counts : goal.returns-clause-counts
