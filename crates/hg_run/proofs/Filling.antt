@@ -10,7 +10,7 @@ use Rattle.hg_base.specs.Steadiness.{IsPlain, Steady}
 use Rattle.hg_base.specs.SteadyLaws.{Steady_then, Steady_wider}
 use Rattle.hg_base.specs.declared.File.TheVariants.{Temp}
 use Rattle.hg_run.specs.declared.Run.{Run}
-use Rattle.hg_run.specs.Format.{IsProper, IsRunPage}
+use Rattle.hg_run.specs.Format.{IsClean, IsProper, IsRunPage}
 use Rattle.hg_run.specs.Layout.{used, fits, with_record, layout}
 use Rattle.hg_run.specs.LayoutLaws.{layout-one, layout-count, layout-records}
 use Rattle.hg_run.specs.Runs.{IsChain, IsRun, Holds, AllHold, records_of}
@@ -79,7 +79,7 @@ hold_put f g (x ∷ y ∷ pages) (rs ∷ []) l r h e d same room now = absurd h.
 hold_put f g (x ∷ y ∷ pages) (rs ∷ qs ∷ held) l r h e d same room now =
     let n : l ≢ x = last_known (λ w. w ≢ x) (y ∷ pages) l d.0 e in
     let k : Holds f x rs = h.0 in
-    (record { page = k.page; told = same.0 (λ q. n (sym q)) ∙ k.told; records = k.records }, hold_put f g (y ∷ pages) (qs ∷ held) l r h.1 e d.1 same.1 room now)
+    (record { page = k.page; told = same.0 (λ q. n (sym q)) ∙ k.told; records = k.records; clean = k.clean }, hold_put f g (y ∷ pages) (qs ∷ held) l r h.1 e d.1 same.1 room now)
 
 -- where one more does not fit the last page
 pub full_for : (f : ℕ → Option (List ℕ)) (pages : List ℕ) (held : List (List (List ℕ))) (l : ℕ) (r : List ℕ) → AllHold f pages held → last_of pages ≡ Some l
@@ -180,7 +180,7 @@ put_run a b old new l r rs pages c last chain count h =
     (all_map (λ y. IsPlain a (key_in Temp y)) (λ y. y ≢ l → b.bytes (key_in Temp y) ≡ a.bytes (key_in Temp y)) pages
     (λ y p n. (c.steady.pages (key_in Temp y) (λ q. n (key_in-one Temp y l q)) p).bytes) (line-plain Temp a old.first pages h.chain.line))
     (d.are.room (last_held (layout rs)) k.records)
-    (record { page = d.bytes; told = d.told; records = d.are.page (last_held (layout rs)) k.records }))
+    (record { page = d.bytes; told = d.told; records = d.are.page (last_held (layout rs)) k.records; clean = d.are.clean (last_held (layout rs)) k.records k.clean }))
 
 pub puts_appends : (a b : Space) (old new : Run) (l : ℕ) (r : List ℕ) (pages : List ℕ) → ChangesPage a b l (λ p q. PutsBehind p q r) → old.last ≡ Some l
     → new.first ≡ old.first → new.last ≡ old.last → a.limit Temp ≤ 2 ^ 32 → new.records ≡ min (old.records + 1) (2 ^ 64 - 1)
@@ -199,7 +199,7 @@ puts_appends a b old new l r pages c is_last first last n count chain =
 pub add_run : (a b : Space) (old add new : Run) (x : ℕ) (r : List ℕ) (rs : List (List ℕ)) (pages : List ℕ) → AddsRecord a b old add r x → IsFullFor (layout rs) r
     → IsChain b new (pages ++ x ∷ []) → new.records ≡ length rs + 1 → IsRun a old rs pages → IsRun b new (rs ++ r ∷ []) (pages ++ x ∷ [])
 add_run a b old add new x r rs pages h full chain count was =
-    let d : IsHeld b x (λ q. IsRunPage q (r ∷ [])) = h.bytes was.told in
+    let d : IsHeld b x (λ q. IsRunPage q (r ∷ []) × IsClean q) = h.bytes was.told in
     let P : List (List (List ℕ)) → Type 0 = λ l. AllHold b.bytes (pages ++ x ∷ []) l in
     laid_out b new rs r (pages ++ x ∷ []) (h.steady.told ∙ was.told) chain count
     (subst P (sym (full_more (layout rs) r full))
@@ -207,7 +207,7 @@ add_run a b old add new x r rs pages h full chain count was =
     (hold_same a.bytes b.bytes pages (layout rs)
     (all_map (IsKept a b old.last x) (λ y. b.bytes (key_in Temp y) ≡ a.bytes (key_in Temp y)) pages (λ y k. k.bytes) (kept_pages a b old add r x pages h was.chain))
     was.held)
-    (record { page = d.bytes; told = d.told; records = d.are })))
+    (record { page = d.bytes; told = d.told; records = d.are.0; clean = d.are.1 })))
 
 -- nothing was put on the last page
 pub looks_last : (a m : Space) (o : Option ℕ) (r : List ℕ) → PutsLast a m o r false → Looks a m

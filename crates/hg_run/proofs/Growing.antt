@@ -12,7 +12,7 @@ use Rattle.hg_base.specs.Steadiness.{IsPlain, IsSamePage, Steady}
 use Rattle.hg_base.specs.SteadyLaws.{Steady_then, Steady_wider, Later_same}
 use Rattle.hg_base.specs.declared.File.TheVariants.{Temp}
 use Rattle.hg_run.specs.declared.Run.{Run}
-use Rattle.hg_run.specs.Format.{IsRunPage}
+use Rattle.hg_run.specs.Format.{IsClean, IsRunPage}
 use Rattle.hg_run.specs.Runs.{IsChain}
 use Rattle.hg_run.specs.Calls.{append_mine, IsNamed, AddsPage}
 use Rattle.hg_run.specs.Steps.{page_mine, IsHeld, MakesPage, AddsRecord, LeadsTo, first_with}
@@ -107,7 +107,7 @@ adds_next a m b old new r x l k p is_last after first last =
       below_limit = k.below_limit;
       no_heap = ap (λ s. s.of_heap (key_in Temp x)) after ∙ k.no_heap;
       no_next = ap (λ s. s.next (key_in Temp x)) after ∙ at_other m.next (key_in Temp l) (key_in Temp x) (Some x) far ∙ k.no_next;
-      bytes = λ told. let h : IsHeld m x (λ page. IsRunPage page (r ∷ [])) = k.bytes told in record {
+      bytes = λ told. let h : IsHeld m x (λ page. IsRunPage page (r ∷ []) × IsClean page) = k.bytes told in record {
         bytes = h.bytes;
         told = ap (λ s. s.bytes (key_in Temp x)) after ∙ h.told;
         are = h.are;

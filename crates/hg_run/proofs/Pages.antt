@@ -1,14 +1,15 @@
 -- What is read of a page of a run, and what a write leaves there.
-use Rattle.std.specs.Prelude.{◌≡◌, ℕ, ◌+◌, ◌^◌, ◌<◌, ◌≤◌, true, false, nat_le, List, [], ◌∷◌, ◌++◌, length, take, drop, slice_index, slice_set}
+use Rattle.std.specs.Prelude.{◌≡◌, ℕ, ◌+◌, ◌-◌, ◌^◌, ◌<◌, ◌≤◌, true, false, nat_le, List, [], ◌∷◌, ◌++◌, length, take, drop, replicate, slice_index, slice_set}
 use Rattle.std.specs.Int.{w16, from_le_bytes, to_le_bytes}
 use Rattle.std.specs.List.{AllByRecursion}
 use Rattle.std.proofs.Common.{sym, ◌∙◌, ap, refl, arith, append_assoc, length-append, get_or-set_same}
-use Rattle.std.proofs.lemmas.List.{take-take, take_at, drop_at, drop-take, drop-drop, drop_more, length-set}
+use Rattle.std.proofs.lemmas.List.{take-take, take_at, drop_at, drop-take, drop-drop, drop_more, drop-replicate, take-replicate, length-replicate, length-set}
 use Rattle.std.proofs.lemmas.Nat.{from_le_bytes-to_le_bytes_2}
+use Rattle.std.proofs.lemmas.Slice.{drop-put_mid}
 use Rattle.std.proofs.lemmas.Bool.Decides.{nat_tests}
-use Rattle.hg_base.specs.Parts.{below, above, within, parts, length-written}
+use Rattle.hg_base.specs.Parts.{below, above, within, parts, length-written, set-written}
 use borrow.Rule.Slice.PartMut.{put_mid}
-use Rattle.hg_run.specs.Format.{number, spelled, spelling, IsProper, IsRunPage, IsPageAt}
+use Rattle.hg_run.specs.Format.{number, spelled, spelling, IsClean, IsProper, IsRunPage, IsPageAt}
 use Rattle.hg_run.specs.Layout.{used, fits}
 
 -- a part of bytes that is u and then v begins with u
@@ -140,6 +141,33 @@ put_behind a b c d r rs end after n h p ee ea room en be ce de =
       proper = proper_more rs r h.proper p;
     }
 
+-- the bytes without a meaning stay zeros
+pub put_clean : (a b c d r : List ℕ) (end after n : ℕ) → length a ≡ 4096 → IsClean a → end ≡ number a 2 → 16 ≤ end → after ≡ end + 2 + length r → after ≤ 4096 → n ≡ length r
+    → b ≡ put_mid end 2 a (to_le_bytes w16 (length r)) → c ≡ put_mid (end + 2) n b r → d ≡ put_mid 2 2 c (to_le_bytes w16 after) → IsClean d
+put_clean a b c d r end after n la h ee low ea room en be ce de =
+    let w : List ℕ = to_le_bytes w16 (length r) in
+    let v : List ℕ = to_le_bytes w16 after in
+    let lb : length b ≡ 4096 = ap length be ∙ length-written a w end 2 (omega arith) refl ∙ la in
+    let lc : length c ≡ 4096 = ap length ce ∙ length-written b r (end + 2) n (omega arith) (sym en) ∙ lb in
+    let now : number d 2 ≡ after = ap (λ l. number l 2) de ∙ number-here c 2 after (omega arith) (omega arith) in
+    let m : ℕ = 2 + length r in
+    record {
+      second = ap (λ l. take 1 (drop 1 l)) de ∙ below c v 2 2 1 1 (omega arith) (omega arith)
+          ∙ ap (λ l. take 1 (drop 1 l)) ce ∙ below b r (end + 2) n 1 1 (omega arith) (omega arith)
+          ∙ ap (λ l. take 1 (drop 1 l)) be ∙ below a w end 2 1 1 (omega arith) (omega arith) ∙ h.second;
+      head = ap (λ l. take 12 (drop 4 l)) de ∙ above c v 2 2 4 12 (omega arith) (omega arith) refl
+          ∙ ap (λ l. take 12 (drop 4 l)) ce ∙ below b r (end + 2) n 4 12 (omega arith) (omega arith)
+          ∙ ap (λ l. take 12 (drop 4 l)) be ∙ below a w end 2 4 12 (omega arith) (omega arith) ∙ h.head;
+      behind = ap (λ k. drop k d) now
+          ∙ ap (drop after) de ∙ drop-put_mid 2 2 c v after (omega arith) (omega arith) refl
+          ∙ ap (drop after) ce ∙ drop-put_mid (end + 2) n b r after (omega arith) (omega arith) (sym en)
+          ∙ ap (drop after) be ∙ drop-put_mid end 2 a w after (omega arith) (omega arith) refl
+          ∙ ap (λ k. drop k a) (let z : after ≡ end + m = omega arith in z) ∙ sym (drop-drop m end a)
+          ∙ ap (λ k. drop m (drop k a)) ee ∙ ap (drop m) h.behind ∙ ap (λ k. drop m (replicate (4096 - k) 0)) (sym ee)
+          ∙ drop-replicate m (4096 - end) 0
+          ∙ ap (λ k. replicate k 0) (let z : 4096 - end - m ≡ 4096 - after = omega arith in z) ∙ ap (λ k. replicate (4096 - k) 0) (sym now);
+    }
+
 yes_le : (m n : ℕ) → m ≤ n → nat_le m n ≡ true
 yes_le m n h = grind (arith, nat_tests)
 
@@ -167,6 +195,27 @@ started a b l e =
       fits = omega arith;
       text = ap (λ n. take n (drop 16 b)) none ∙ sym spelling-none;
       proper = tt;
+    }
+
+-- its other bytes are zeros
+pub started_clean : (a b : List ℕ) → a ≡ replicate 4096 0 → b ≡ put_mid 2 2 (slice_set a 0 82) (to_le_bytes w16 16) → IsClean b
+started_clean a b z e =
+    let c : List ℕ = slice_set a 0 82 in
+    let la : length a ≡ 4096 = ap length z ∙ length-replicate {A = ℕ} 4096 0 in
+    let lc : length c ≡ 4096 = length-set {A = ℕ} a 0 82 ∙ la in
+    let v : List ℕ = to_le_bytes w16 16 in
+    let now : number b 2 ≡ 16 = ap (λ l. number l 2) e ∙ number-here c 2 16 (omega arith) (omega arith) in
+    let s : c ≡ put_mid 0 1 a (82 ∷ []) = set-written a 0 82 (omega arith) in
+    let zeros : (m n : ℕ) → m + n ≤ 4096 → take n (drop m a) ≡ replicate n 0 =
+    λ m n l. ap (λ x. take n (drop m x)) z ∙ ap (take n) (drop-replicate m 4096 0) ∙ take-replicate n (4096 - m) 0 (omega arith) in
+    record {
+      second = ap (λ x. take 1 (drop 1 x)) e ∙ below c v 2 2 1 1 (omega arith) (omega arith)
+          ∙ ap (λ x. take 1 (drop 1 x)) s ∙ above a (82 ∷ []) 0 1 1 1 (omega arith) (omega arith) refl ∙ zeros 1 1 (omega arith);
+      head = ap (λ x. take 12 (drop 4 x)) e ∙ above c v 2 2 4 12 (omega arith) (omega arith) refl
+          ∙ ap (λ x. take 12 (drop 4 x)) s ∙ above a (82 ∷ []) 0 1 4 12 (omega arith) (omega arith) refl ∙ zeros 4 12 (omega arith);
+      behind = ap (λ k. drop k b) now ∙ ap (drop 16) e ∙ drop-put_mid 2 2 c v 16 (omega arith) (omega arith) refl
+          ∙ ap (drop 16) s ∙ drop-put_mid 0 1 a (82 ∷ []) 16 (omega arith) (omega arith) refl
+          ∙ ap (drop 16) z ∙ drop-replicate 16 4096 0 ∙ ap (λ k. replicate (4096 - k) 0) (sym now);
     }
 
 -- ---- what is read

@@ -2,8 +2,8 @@
 --   byte 0       82, the letter R
 --   bytes 2..4   the offset of the first free byte
 --   from 16 on   the records one behind the other: two bytes length, then the bytes
--- All numbers have their least byte first. A record has 1 to 4,000 bytes.
-use Rattle.std.specs.Prelude.{◌≡◌, ◌≢◌, ℕ, ◌+◌, ◌≤◌, List, [], ◌∷◌, ◌++◌, length, take, drop, slice_index}
+-- The other bytes are zero. All numbers have their least byte first. A record has 1 to 4,000 bytes.
+use Rattle.std.specs.Prelude.{◌≡◌, ◌≢◌, ℕ, ◌+◌, ◌-◌, ◌≤◌, List, [], ◌∷◌, ◌++◌, length, take, drop, replicate, slice_index}
 use Rattle.std.specs.List.{AllByRecursion}
 use Rattle.std.specs.Int.{w16, from_le_bytes, to_le_bytes}
 use Rattle.hg_base.specs.declared.Check.{Check}
@@ -34,6 +34,12 @@ pub record IsRunPage (page : List ℕ) (rs : List (List ℕ)) : Type 0 where
   pub fits : 16 + length (spelling rs) ≤ 4096
   pub text : take (length (spelling rs)) (drop 16 page) ≡ spelling rs
   pub proper : AllByRecursion IsProper rs
+
+-- the bytes of a page that have no meaning are zero: byte 1, those before the records, and those behind them
+pub record IsClean (page : List ℕ) : Type 0 where
+  pub second : take 1 (drop 1 page) ≡ 0 ∷ []
+  pub head : take 12 (drop 4 page) ≡ replicate 12 0
+  pub behind : drop (number page 2) page ≡ replicate (4096 - number page 2) 0
 
 -- What is wrong with bytes that are no page of a run: by Kind, byte 0 is another one; by Size, it is 82,
 -- and yet no records are spelled like this.

@@ -38,7 +38,7 @@ hold_same f g [] [] e h = h
 hold_same f g [] (rs ∷ held) e h = h
 hold_same f g (x ∷ pages) [] e h = h
 hold_same f g (x ∷ pages) (rs ∷ held) e h =
-    (let k = h.0 in record { page = k.page; told = e.0 ∙ k.told; records = k.records }, hold_same f g pages held e.1 h.1)
+    (let k = h.0 in record { page = k.page; told = e.0 ∙ k.told; records = k.records; clean = k.clean }, hold_same f g pages held e.1 h.1)
 
 pub run_stays : (m : Mine) (a b : Space) (run : Run) (rs : List (List ℕ)) (pages : List ℕ) → Steady m a b → NoneMine Temp m pages → IsRun a run rs pages → IsRun b run rs pages
 run_stays m a b run rs pages steady apart h = record {

@@ -5,7 +5,7 @@ use Rattle.hg_base.specs.Lines.{IsLine, has_page, last_of}
 use Rattle.hg_base.specs.declared.File.TheVariants.{Temp}
 use Rattle.hg_run.specs.declared.Run.{Run}
 use Rattle.hg_run.specs.declared.RunPos.{RunPos}
-use Rattle.hg_run.specs.Format.{IsRunPage, spelling}
+use Rattle.hg_run.specs.Format.{IsClean, IsRunPage, spelling}
 use Rattle.hg_run.specs.Layout.{layout, pages_for}
 
 -- The pages of a run, in order. They are known over every space, also one that does not tell its bytes.
@@ -18,6 +18,7 @@ pub record Holds (b : ℕ → Option (List ℕ)) (x : ℕ) (rs : List (List ℕ)
   pub page : List ℕ
   pub told : b (key_in Temp x) ≡ Some page
   pub records : IsRunPage page rs
+  pub clean : IsClean page
 
 -- each page holds its records
 abbrev pub AllHold : (ℕ → Option (List ℕ)) → List ℕ → List (List (List ℕ)) → Type 0

@@ -8,7 +8,7 @@ use Rattle.hg_base.specs.declared.File.TheVariants as file
 use Rattle.hg_run.specs.declared.Run.{Run}
 use Rattle.hg_run.specs.declared.RunPos.{RunPos}
 use Rattle.hg_run.specs.declared.page.Found.{Found}
-use Rattle.hg_run.specs.Format.{spelling, IsRunPage}
+use Rattle.hg_run.specs.Format.{spelling, IsClean, IsRunPage}
 use Rattle.hg_run.specs.Layout.{fits}
 use Rattle.hg_run.specs.Calls.{none_mine, append_mine, pages_mine}
 
@@ -43,6 +43,7 @@ pub record LooksAt (a b : Space) (x : ℕ) (P : List ℕ → Type 0) : Type 0 wh
 pub record PutsBehind (old new : List ℕ) (r : List ℕ) : Type 0 where
   pub room : (rs : List (List ℕ)) → IsRunPage old rs → fits rs r ≡ true
   pub page : (rs : List (List ℕ)) → IsRunPage old rs → IsRunPage new (rs ++ r ∷ [])
+  pub clean : (rs : List (List ℕ)) → IsRunPage old rs → IsClean old → IsClean new
 
 -- it does not fit there
 pub record HasNoRoom (page : List ℕ) (r : List ℕ) : Type 0 where
@@ -64,7 +65,7 @@ pub record MakesPage (a b : Space) (r : List ℕ) (x : ℕ) : Type 0 where
   pub below_limit : x + 1 ≤ a.limit file.Temp
   pub no_heap : b.of_heap (key_in file.Temp x) ≡ false
   pub no_next : b.next (key_in file.Temp x) ≡ None
-  pub bytes : a.told ≡ true → IsHeld b x (λ page. IsRunPage page (r ∷ []))
+  pub bytes : a.told ≡ true → IsHeld b x (λ page. IsRunPage page (r ∷ []) × IsClean page)
 
 -- the first page of a run behind whose last page one was put
 abbrev pub first_with : Run → ℕ → Option ℕ
@@ -88,7 +89,7 @@ pub record AddsRecord (a b : Space) (old new : Run) (r : List ℕ) (x : ℕ) : T
   pub below_limit : x + 1 ≤ a.limit file.Temp
   pub no_heap : b.of_heap (key_in file.Temp x) ≡ false
   pub no_next : b.next (key_in file.Temp x) ≡ None
-  pub bytes : a.told ≡ true → IsHeld b x (λ page. IsRunPage page (r ∷ []))
+  pub bytes : a.told ≡ true → IsHeld b x (λ page. IsRunPage page (r ∷ []) × IsClean page)
   pub first : new.first ≡ first_with old x
   pub last : new.last ≡ Some x
   pub linked : LeadsTo a b old.last x

@@ -1,6 +1,6 @@
 //! The pages of a run, read and written in place.
 ghost use Rattle.std.specs.Prelude.{◌≡◌, ℕ, ◌+◌, ◌≤◌, ◌<◌, ◌^◌, true, List, length, IsOk, IfOk, Ok, IfErr, OnErr, None, slice_index, []};
-ghost use Rattle.hg_run.specs.Format.{number, IsRunPage, IsPageAt, IsWrong, IsWrongAt};
+ghost use Rattle.hg_run.specs.Format.{number, IsClean, IsRunPage, IsPageAt, IsWrong, IsWrongAt};
 ghost use Rattle.hg_run.specs.Steps.{PutsIn, TakesNext};
 
 use arrayvec::ArrayVec;
@@ -42,7 +42,8 @@ fn number_at(page: &[u8], at: usize) -> usize
 /// Makes a page with no record, whatever the bytes were.
 pub fn start(page: &mut [u8])
     requires { length page.old ≡ 4096 }
-    ensures { IsRunPage page.new [] }
+    ensures page { IsRunPage page.new [] }
+    ensures clean { IsClean page.new }
 {
     page.fill(0);
     page[0] = KIND;

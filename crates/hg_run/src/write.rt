@@ -3,7 +3,7 @@ ghost use Rattle.std.specs.Prelude.{◌≡◌, ℕ, ◌+◌, ◌-◌, ◌^◌, m
 ghost use Rattle.hg_base.specs.Space.{NoPins, key_in};
 ghost use Rattle.hg_base.specs.Causes.{HasCause, FreshFault, fault_of};
 ghost use Rattle.hg_base.specs.Steadiness.{Steady, IsPlain};
-ghost use Rattle.hg_run.specs.Format.{IsRunPage};
+ghost use Rattle.hg_run.specs.Format.{IsClean, IsRunPage};
 ghost use Rattle.hg_run.specs.Runs.{IsChain, IsRun, no_run};
 ghost use Rattle.hg_run.specs.Calls.{none_mine, append_mine, temp_page, HasRun, Appends, NeedsPage, Ends, AppendFault, NamesGiven};
 ghost use Rattle.hg_run.specs.Steps.{Looks, PutsOn, PutsLast, MakesPage, AddsRecord};
@@ -62,7 +62,8 @@ fn start_with(page: &mut [u8], bytes: &[u8])
     requires whole { length page.old ≡ 4096 }
     requires some { 1 ≤ length bytes.now }
     requires few { length bytes.now ≤ 4000 }
-    ensures { IsRunPage page.new (bytes.now ∷ []) }
+    ensures page { IsRunPage page.new (bytes.now ∷ []) }
+    ensures clean { IsClean page.new }
 {
     start(page);
     match put_in(page, bytes) {

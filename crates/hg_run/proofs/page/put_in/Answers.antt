@@ -1,7 +1,7 @@
 use Rattle.std.specs.Prelude.{ℕ, ◌≡◌, ◌+◌, ◌-◌, length}
 use borrow.Rule.Slice.PartMut.{put_mid}
 use Rattle.std.proofs.Common.{ap, refl, arith}
-use Rattle.hg_run.proofs.Pages.{put_behind, fits_yes, fits_no}
+use Rattle.hg_run.proofs.Pages.{put_behind, put_clean, fits_yes, fits_no}
 use Rattle.hg_run.proofs.page.put_in.Goals as goal
 
 pub returns-then-after-gt-PAGE-clause-put : goal.returns-then-after-gt-PAGE-clause-put
@@ -25,4 +25,7 @@ returns-clause-put c =
       page = λ rs h. put_behind c.args.page.now c.put_u16.new.b (put_mid (end + 2) n c.put_u16.new.b c.copy_from_slice.new.self) c.put_u16-2.new.b c.args.bytes.now rs
           end (end + 2 + length c.args.bytes.now) n
           h (record { some = some; few = few }) (c.in_ok-end.ensures.end.0) refl (omega arith) en c.put_u16.ensures (ap (put_mid (end + 2) n c.put_u16.new.b) c.copy_from_slice.ensures.after) c.put_u16-2.ensures;
+      clean = λ rs h k. put_clean c.args.page.now c.put_u16.new.b (put_mid (end + 2) n c.put_u16.new.b c.copy_from_slice.new.self) c.put_u16-2.new.b c.args.bytes.now
+          end (end + 2 + length c.args.bytes.now) n h.whole k (c.in_ok-end.ensures.end.0) (c.in_ok-end.ensures.end.1) refl (omega arith) en
+          c.put_u16.ensures (ap (put_mid (end + 2) n c.put_u16.new.b) c.copy_from_slice.ensures.after) c.put_u16-2.ensures;
     }
