@@ -12,8 +12,8 @@ use Rattle.hg_model.specs.declared.values.Value.{Value}
 use Rattle.hg_table.specs.Sightings.{IsUnseen}
 use Rattle.hg_table.specs.Versions.{Placed}
 use Rattle.hg_dml.specs.Deleting.{dead, is_going, deleted_at, deleted, AgreeUpTo, IsHidden, IsDeleted}
-use Rattle.hg_dml.specs.Seen.{is_seen, row_of, seen_rows, IsPast, Misses}
-use Rattle.hg_dml.specs.SeenLaws.{lt-no, lt-yes, seen-later, seen_rows-cons, seen_rows-append}
+use Rattle.hg_table.specs.Seen.{is_seen, row_of, seen_rows, IsPast, Misses}
+use Rattle.hg_table.specs.SeenLaws.{lt-no, lt-yes, seen-later, seen_rows-cons, seen_rows-append}
 
 either-first : (a b : Bool) → (a || b) ≡ true → b ≡ false → a ≡ true
 either-first true b h no_b = refl

@@ -29,7 +29,7 @@ use Rattle.hg_table.specs.TableLaws.{chain_stays}
 use Rattle.hg_dml.specs.Lent.{NoneLent}
 use Rattle.hg_dml.specs.Putting.{Grows, Puts, PutsSome, PutFault, FindsLast, IsOneOf, table_mine}
 use Rattle.hg_dml.specs.Steps.{OneMore, CanPut, FitRows}
-use Rattle.hg_dml.specs.SeenLaws.{joined-none, joined-one, joined-then}
+use Rattle.hg_dml.specs.JoinedLaws.{joined-none, joined-one, joined-then}
 
 -- a page that is named is among the pages
 pub has_page-cons : (y x : ℕ) (xs : List ℕ) → has_page xs x ≡ true → has_page (y ∷ xs) x ≡ true

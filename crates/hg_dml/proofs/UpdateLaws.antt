@@ -35,7 +35,7 @@ use Rattle.hg_dml.specs.Inserting.{StandsOver, OnRefused, OnFault}
 use Rattle.hg_dml.specs.Making.{AreCauses, stand}
 use Rattle.hg_dml.specs.Putting.{Grows, table_mine, IsOneOf}
 use Rattle.hg_dml.specs.Rows.{rows_cause}
-use Rattle.hg_dml.specs.Seen.{seen_rows}
+use Rattle.hg_table.specs.Seen.{seen_rows}
 use Rattle.hg_dml.specs.Steps.{IsRefusal}
 use Rattle.hg_dml.specs.Updating.{Updates, UpdateIsRefused, UpdatesSome, UpdateFault, FindsUpdating, IsUpdateDamage}
 use Rattle.hg_dml.specs.UpdateSteps.{GrowsBeside, KeepsRun, LacksRoom, LacksMain, FindsStoring, ChangedAll, ChangedSome, StoresAll, StoresSome, UpdatedBeside, RefusedBeside, SomeBeside, EndsRun}

@@ -19,7 +19,7 @@ use Rattle.hg_value.specs.Laws.{RowsAreAsLong}
 use Rattle.hg_dml.specs.Deleting.{AgreeUpTo, Concerns, IsHidden, IsDeleted}
 use Rattle.hg_dml.specs.Making.{made_by, IsChange, AreCauses, stand}
 use Rattle.hg_dml.specs.Putting.{Joined}
-use Rattle.hg_dml.specs.Seen.{seen_rows, IsPast}
+use Rattle.hg_table.specs.Seen.{seen_rows, IsPast}
 use Rattle.hg_dml.specs.Steps.{FitRows, IsShort}
 use Rattle.hg_dml.specs.Updating.{IsUpdated, IsHiddenUpTo}
 use Rattle.hg_dml.specs.UpdateSteps.{AreStorable}

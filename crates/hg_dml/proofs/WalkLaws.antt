@@ -31,8 +31,8 @@ use Rattle.hg_table.specs.TableLaws.{chain_stays, version_at-here, behind-here, 
 use Rattle.hg_table.specs.Versions.{Placed, RowVersion, IsTable, in_slot, in_slots, in_pages, most_slots}
 use Rattle.hg_dml.specs.Deleting.{dead, deleted_at, deleted, Concerns, IsHidden, IsDeleted}
 use Rattle.hg_dml.specs.Inserting.{StandsOver}
-use Rattle.hg_dml.specs.Seen.{is_seen, row_of, seen_rows}
-use Rattle.hg_dml.specs.SeenLaws.{seen_rows-append}
+use Rattle.hg_table.specs.Seen.{is_seen, row_of, seen_rows}
+use Rattle.hg_table.specs.SeenLaws.{seen_rows-append}
 use Rattle.hg_dml.specs.Walks.{HasEnded, HasStopped}
 use Rattle.hg_dml.proofs.DeletedLaws.{deleted-seen, deleted-kept, none-deleted, deleted-append, hidden-first, going-unseen, going-next, deleted-all, all-append}
 use Rattle.hg_dml.proofs.PutLaws.{none-mine}

@@ -16,7 +16,7 @@ use Rattle.hg_table.specs.Calls.{LookFault, IsVersionCheck, NamesOneOf}
 use Rattle.hg_table.specs.Chains.{IsChain}
 use Rattle.hg_table.specs.Versions.{Placed}
 use Rattle.hg_dml.specs.Putting.{IsOneOf}
-use Rattle.hg_dml.specs.Seen.{is_seen, row_of, seen_rows, IsPast, Misses}
+use Rattle.hg_table.specs.Seen.{is_seen, row_of, seen_rows, IsPast, Misses}
 
 -- ---- versions
 

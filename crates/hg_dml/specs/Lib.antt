@@ -1,7 +1,6 @@
 pub mod Lent
-pub mod Seen
-pub mod SeenLaws
 pub mod Putting
+pub mod JoinedLaws
 pub mod Rows
 pub mod Inserting
 pub mod Steps

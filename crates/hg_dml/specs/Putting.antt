@@ -19,7 +19,7 @@ use Rattle.hg_table.specs.Calls.{NamesGiven, IsPageCheck}
 use Rattle.hg_table.specs.Chains.{IsChain}
 use Rattle.hg_table.specs.Versions.{Placed}
 use Rattle.hg_dml.specs.Lent.{NoneLent}
-use Rattle.hg_dml.specs.Seen.{seen_rows, IsPast, Misses}
+use Rattle.hg_table.specs.Seen.{seen_rows, IsPast, Misses}
 
 -- Rows joined the versions of a table, born under one stamp: who sees the stamp sees them too, and who
 -- misses it sees no change.

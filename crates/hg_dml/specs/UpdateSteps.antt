@@ -29,7 +29,7 @@ use Rattle.hg_dml.specs.Lent.{NoneLent}
 use Rattle.hg_dml.specs.Making.{goes_by, made_by, Notes, AreCauses, stand}
 use Rattle.hg_dml.specs.Putting.{Puts, table_mine}
 use Rattle.hg_dml.specs.Rows.{rows_cause}
-use Rattle.hg_dml.specs.Seen.{seen_rows}
+use Rattle.hg_table.specs.Seen.{seen_rows}
 use Rattle.hg_dml.specs.Steps.{FitRows, IsShort, IsRefusal, OneMore}
 use Rattle.hg_dml.specs.Updating.{FindsUpdating, IsUpdated, IsHiddenUpTo}
 use Rattle.hg_dml.specs.Walks.{HasEnded, HasStopped}

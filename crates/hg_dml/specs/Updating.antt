@@ -29,7 +29,7 @@ use Rattle.hg_dml.specs.Deleting.{AgreeUpTo, Concerns, AreConcerned, IsHidden}
 use Rattle.hg_dml.specs.Inserting.{MovesEnds}
 use Rattle.hg_dml.specs.Putting.{Grows}
 use Rattle.hg_dml.specs.Rows.{rows_cause, Tells}
-use Rattle.hg_dml.specs.Seen.{seen_rows, IsPast, Misses}
+use Rattle.hg_table.specs.Seen.{seen_rows, IsPast, Misses}
 
 -- the row that SET makes of a row: what `changed_row` says of a statement with these nodes and items
 abbrev pub row_set : List ℕ → List ℕ → List Node → List ℕ → List (List ℕ × ℕ) → List Value → List Value

@@ -8,7 +8,7 @@ use Rattle.hg_model.specs.declared.values.Value.{Value}
 use Rattle.hg_table.specs.Agreement.{IsTableOver}
 use Rattle.hg_table.specs.Versions.{Placed}
 use Rattle.hg_dml.specs.Deleting.{IsHidden, IsDeleted}
-use Rattle.hg_dml.specs.Seen.{seen_rows}
+use Rattle.hg_table.specs.Seen.{seen_rows}
 
 -- All versions were looked at. Where no cause was known, all rows that go were deleted.
 pub record HasEnded (b : Space) (t : Table) (columns : List Column) (c : ℕ → Bool) (s stamp : ℕ) (goes : List Value → Bool) (known : Bool) (pages : List ℕ) (versions : List Placed) (gone : List (List Value)) : Type 0 where

@@ -22,8 +22,8 @@ use Rattle.hg_dml.specs.declared.insert.ChangeError.TheVariants as change
 use Rattle.hg_dml.specs.Deleting.{Concerns, AreConcerned, IsHidden, WritesWithin, pages_mine}
 use Rattle.hg_dml.specs.Inserting.{StandsAt, OnFault, OnRefused}
 use Rattle.hg_dml.specs.Putting.{Grows, table_mine}
-use Rattle.hg_dml.specs.Seen.{seen_rows, IsPast}
-use Rattle.hg_dml.specs.SeenLaws.{past-later, seen_rows-later}
+use Rattle.hg_table.specs.Seen.{seen_rows, IsPast}
+use Rattle.hg_table.specs.SeenLaws.{past-later, seen_rows-later}
 use Rattle.hg_dml.specs.Updating.{IsHiddenUpTo}
 use Rattle.hg_exec.proofs.PlannedBags.{filter-moved}
 use Rattle.hg_machine.specs.Plain.Licences.{Spends}

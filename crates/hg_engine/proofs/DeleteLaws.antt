@@ -14,8 +14,8 @@ use Rattle.hg_bind.specs.Bound.{table_of, tables_of, numbers_of, row_places}
 use Rattle.hg_catalog.specs.Contents.{Contents, CatalogTable, table_number}
 use Rattle.hg_dml.specs.Deleting.{Deletes, DeletesSome, WalkFault, pages_mine}
 use Rattle.hg_dml.specs.Filtering.{IsFilter, row_passes}
-use Rattle.hg_dml.specs.Seen.{seen_rows}
-use Rattle.hg_dml.specs.SeenLaws.{past-later}
+use Rattle.hg_table.specs.Seen.{seen_rows}
+use Rattle.hg_table.specs.SeenLaws.{past-later}
 use Rattle.hg_exec.proofs.PlannedBags.{filter-moved}
 use Rattle.hg_machine.specs.Plain.Changes.{refused_before, made, failed}
 use Rattle.hg_machine.specs.Plain.Delete.{Deletes as DeletesRows, deletion}

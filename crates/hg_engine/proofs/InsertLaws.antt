@@ -15,7 +15,7 @@ use Rattle.hg_catalog.specs.Contents.{Contents, CatalogTable, table_number}
 use Rattle.hg_dml.specs.Inserting.{PutsAll, PutsPart}
 use Rattle.hg_dml.specs.Putting.{Puts, PutFault, FindsLast, table_mine}
 use Rattle.hg_dml.specs.Rows.{rows_of_tuples, rows_cause}
-use Rattle.hg_dml.specs.Seen.{seen_rows}
+use Rattle.hg_table.specs.Seen.{seen_rows}
 use Rattle.hg_machine.specs.Plain.Changes.{refused_before, made, refused, failed, done_allowance, ended_allowance}
 use Rattle.hg_machine.specs.Plain.Insert.{Inserts, insertion}
 use Rattle.hg_machine.specs.Plain.Licences.{device_failed, main_is_full, both_files, Spends}

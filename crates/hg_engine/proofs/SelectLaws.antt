@@ -18,7 +18,7 @@ use Rattle.hg_bind.specs.Bound.{table_of, tables_of}
 use Rattle.hg_bind.specs.BoundMeaning.{KeysStandApart, ReadKeysStandApart, bare}
 use Rattle.hg_bind.specs.BoundSelect.{IsBoundSelect}
 use Rattle.hg_catalog.specs.Contents.{CatalogTable, Contents, IsSound}
-use Rattle.hg_dml.specs.Seen.{is_seen, row_of, seen_rows}
+use Rattle.hg_table.specs.Seen.{is_seen, row_of, seen_rows}
 use Rattle.hg_exec.specs.Beginning.{IsShown}
 use Rattle.hg_exec.specs.Joins.{Form, TableRows, rows_from}
 use Rattle.hg_exec.specs.Planned.{HoldRows, IsLoopOver, IsReady, MayRun, ReadyMayRun, ReadyMeansTheSame, form_with, keyless}

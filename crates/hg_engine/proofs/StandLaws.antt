@@ -16,7 +16,7 @@ use Rattle.hg_base.specs.declared.File.TheVariants.{Main}
 use Rattle.hg_base.specs.declared.Table.{Table}
 use Rattle.hg_bind.specs.Bound.{table_of}
 use Rattle.hg_catalog.specs.Contents.{CatalogTable}
-use Rattle.hg_dml.specs.SeenLaws.{seen_rows-later, past-later}
+use Rattle.hg_table.specs.SeenLaws.{seen_rows-later, past-later}
 use Rattle.hg_dml.specs.Putting.{Grows, table_mine}
 use Rattle.hg_machine.specs.Plain.State.{TableState}
 use Rattle.hg_model.specs.declared.trees.Column.{Column}

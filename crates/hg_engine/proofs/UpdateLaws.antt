@@ -18,8 +18,8 @@ use Rattle.hg_catalog.specs.Contents.{Contents, CatalogTable, table_number}
 use Rattle.hg_dml.specs.Filtering.{IsFilter, row_passes}
 use Rattle.hg_dml.specs.Putting.{Grows, table_mine}
 use Rattle.hg_dml.specs.Rows.{rows_cause, Tells}
-use Rattle.hg_dml.specs.Seen.{seen_rows}
-use Rattle.hg_dml.specs.SeenLaws.{past-later}
+use Rattle.hg_table.specs.Seen.{seen_rows}
+use Rattle.hg_table.specs.SeenLaws.{past-later}
 use Rattle.hg_dml.specs.Updating.{row_set, Updates, UpdateFault, UpdateIsRefused, UpdatesTable, UpdatesTableSome, FindsUpdating}
 use Rattle.hg_machine.specs.Plain.Changes.{refused_before, made, refused, failed}
 use Rattle.hg_machine.specs.Plain.Licences.{device_failed, main_is_full, temp_is_full, temp_taken, Spends}

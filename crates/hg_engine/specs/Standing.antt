@@ -20,7 +20,7 @@ use Rattle.hg_table.specs.Chains.{IsChain}
 use Rattle.hg_table.specs.Agreement.{IsTableOver}
 use Rattle.hg_table.specs.Versions.{Placed}
 use Rattle.hg_dml.specs.Lent.{NoneLent}
-use Rattle.hg_dml.specs.Seen.{seen_rows, IsPast}
+use Rattle.hg_table.specs.Seen.{seen_rows, IsPast}
 use Rattle.hg_exec.specs.Planned.{keyless}
 use Rattle.hg_exec.specs.Standing.{IsAtWork, Owes}
 use Rattle.hg_engine.specs.Work.{form_of_work}

@@ -7,8 +7,8 @@ use Rattle.hg_base.specs.TakenLaws.{AreDistinctPages-few}
 use Rattle.hg_base.specs.declared.File.TheVariants.{Main}
 use Rattle.hg_base.specs.declared.Table.{Table}
 use Rattle.hg_catalog.specs.Contents.{CatalogTable}
-use Rattle.hg_dml.specs.Seen.{is_seen, row_of, seen_rows}
-use Rattle.hg_dml.specs.SeenLaws.{seen_rows-cons}
+use Rattle.hg_table.specs.Seen.{is_seen, row_of, seen_rows}
+use Rattle.hg_table.specs.SeenLaws.{seen_rows-cons}
 use Rattle.hg_model.specs.declared.values.Value.{Value}
 use Rattle.hg_table.specs.Marks.{committed}
 use Rattle.hg_table.specs.Versions.{Placed, RowVersion, IsTable, in_slot, in_slots, in_pages, most_slots}

@@ -13,8 +13,8 @@ use Rattle.hg_base.specs.declared.Place.{Place}
 use Rattle.hg_base.specs.declared.Table.{Table}
 use Rattle.hg_base.specs.declared.pages.PageFault.{PageFault}
 use Rattle.hg_base.specs.declared.pages.PageFault.TheVariants as fault
-use Rattle.hg_dml.specs.Seen.{is_seen, row_of, seen_rows}
-use Rattle.hg_dml.specs.SeenLaws.{seen_rows-cons}
+use Rattle.hg_table.specs.Seen.{is_seen, row_of, seen_rows}
+use Rattle.hg_table.specs.SeenLaws.{seen_rows-cons}
 use Rattle.hg_model.specs.Tables.{fits_columns}
 use Rattle.hg_model.specs.declared.trees.Column.{Column}
 use Rattle.hg_model.specs.declared.values.Value.{Value}

@@ -2,7 +2,7 @@
 use Rattle.std.specs.Prelude.{◌≡◌, ℕ, Bool, List}
 use Rattle.hg_base.specs.Space.{Space}
 use Rattle.hg_catalog.specs.Contents.{CatalogTable}
-use Rattle.hg_dml.specs.Seen.{seen_rows}
+use Rattle.hg_table.specs.Seen.{seen_rows}
 use Rattle.hg_model.specs.declared.values.Value.{Value}
 use Rattle.hg_table.specs.Agreement.{IsTableOver}
 use Rattle.hg_table.specs.Versions.{Placed}

@@ -5,7 +5,7 @@ use Rattle.hg_base.specs.Space.{Space}
 use Rattle.hg_base.specs.declared.Place.{Place}
 use Rattle.hg_base.specs.declared.Table.{Table}
 use Rattle.hg_catalog.specs.Contents.{CatalogTable}
-use Rattle.hg_dml.specs.Seen.{seen_rows}
+use Rattle.hg_table.specs.Seen.{seen_rows}
 use Rattle.hg_expr.specs.Laws.{AggregatesNameNone, held}
 use Rattle.hg_expr.specs.Slots.{slots_of, ArePlaced}
 use Rattle.hg_model.specs.Tables.{fits_columns}

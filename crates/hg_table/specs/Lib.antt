@@ -11,3 +11,5 @@ pub mod TableLaws
 pub mod Kept
 pub mod Sightings
 pub mod Agreement
+pub mod Seen
+pub mod SeenLaws

@@ -2,18 +2,17 @@
 use Rattle.std.specs.Prelude.{◌≡◌, ℕ, ◌<◌, ◌≤◌, ◌&&◌, nat_lt, nat_le, Bool, true, false, List, [], ◌∷◌, ◌++◌, Option, Some, None, MatchOption, ⊤, map, if◌then◌else◌}
 use Rattle.std.specs.List.{filter, AllByRecursion}
 use Rattle.std.specs.List.Sorted.{IsPermutation}
-use Rattle.std.proofs.Common.{sym, ◌∙◌, ap, subst, refl, arith, inl, inr, append_assoc, length-append}
+use Rattle.std.proofs.Common.{sym, ◌∙◌, ap, subst, refl, arith, inl, inr}
 use Rattle.std.proofs.lemmas.Bool.Decides.{nat_tests}
-use Rattle.std.proofs.lemmas.List.{append-nil, map-append}
+use Rattle.std.proofs.lemmas.List.{map-append}
 use Rattle.std.proofs.lemmas.List.Elements.{filter-append}
-use Rattle.std.proofs.lemmas.List.Sorted.{IsPermutation-refl, IsPermutation-trans, IsPermutation-sym, IsPermutation-middle, IsPermutation-to_front, IsPermutation-append_left}
+use Rattle.std.proofs.lemmas.List.Sorted.{IsPermutation-trans, IsPermutation-sym, IsPermutation-middle, IsPermutation-to_front}
 use Rattle.hg_base.specs.declared.Place.{Place}
 use Rattle.hg_model.specs.Visible.{is_alive}
 use Rattle.hg_model.specs.declared.values.Value.{Value}
 use Rattle.hg_table.specs.Versions.{Placed}
-use Rattle.hg_table.specs.Calls.{PutsIn, newborn}
-use Rattle.hg_dml.specs.Seen.{is_seen, row_of, seen_rows, IsPast, Misses}
-use Rattle.hg_dml.specs.Putting.{Joined}
+use Rattle.hg_table.specs.Calls.{newborn}
+use Rattle.hg_table.specs.Seen.{is_seen, row_of, seen_rows, IsPast, Misses}
 
 pub lt-yes : (a b : ℕ) → a < b → nat_lt a b ≡ true
 lt-yes a b h = grind (arith, nat_tests)
@@ -70,7 +69,7 @@ pub seen_rows-append : (c : ℕ → Bool) (n : ℕ) (xs ys : List Placed) → se
 seen_rows-append c n xs ys =
     ap (map row_of) (filter-append (is_seen c n) xs ys) ∙ map-append row_of (filter (is_seen c n) xs) (filter (is_seen c n) ys)
 
-past-middle : (n : ℕ) (xs : List Placed) (v : Placed) (ys : List Placed) → IsPast n v → AllByRecursion (IsPast n) (xs ++ ys)
+pub past-middle : (n : ℕ) (xs : List Placed) (v : Placed) (ys : List Placed) → IsPast n v → AllByRecursion (IsPast n) (xs ++ ys)
     → AllByRecursion (IsPast n) (xs ++ v ∷ ys)
 past-middle n [] v ys here past = (here, past)
 past-middle n (x ∷ xs) v ys here past = (past.0, past-middle n xs v ys here past.1)
@@ -83,7 +82,7 @@ and-none true b h = h
 and-none false b h = refl
 
 -- who misses the stamp sees no change
-newborn-unseen : (c : ℕ → Bool) (n stamp : ℕ) (row : List Value) (p : Place) (xs ys : List Placed) → Misses c n stamp
+pub newborn-unseen : (c : ℕ → Bool) (n stamp : ℕ) (row : List Value) (p : Place) (xs ys : List Placed) → Misses c n stamp
     → seen_rows c n (xs ++ newborn row stamp p ∷ ys) ≡ seen_rows c n (xs ++ ys)
 newborn-unseen c n stamp row p xs ys missed =
     let v : Placed = newborn row stamp p in
@@ -96,7 +95,7 @@ newborn-unseen c n stamp row p xs ys missed =
     ∙ sym (seen_rows-append c n xs ys)
 
 -- who sees the stamp sees one row more
-newborn-seen : (c : ℕ → Bool) (n stamp : ℕ) (row : List Value) (p : Place) (xs ys : List Placed) → c stamp ≡ true → stamp ≤ n
+pub newborn-seen : (c : ℕ → Bool) (n stamp : ℕ) (row : List Value) (p : Place) (xs ys : List Placed) → c stamp ≡ true → stamp ≤ n
     → IsPermutation (seen_rows c n (xs ++ newborn row stamp p ∷ ys)) (seen_rows c n (xs ++ ys) ++ row ∷ [])
 newborn-seen c n stamp row p xs ys shown later =
     let v : Placed = newborn row stamp p in
@@ -110,38 +109,3 @@ newborn-seen c n stamp row p xs ys shown later =
     (IsPermutation-middle us row ws) (IsPermutation-sym ((us ++ ws) ++ row ∷ []) (row ∷ (us ++ ws)) (IsPermutation-to_front (us ++ ws) row)) in
     let Q : List (List Value) → Type 0 = λ rs. IsPermutation (seen_rows c n (xs ++ v ∷ ys)) (rs ++ row ∷ []) in
     subst Q (sym (seen_rows-append c n xs ys)) (subst P (sym is) moved)
-
-pub joined-none : (stamp : ℕ) (vs : List Placed) → Joined stamp vs vs []
-joined-none stamp vs = record {
-  unseen = λ c n missed. refl;
-  seen = λ c n shown later. subst (λ rs. IsPermutation (seen_rows c n vs) rs) (sym (append-nil (seen_rows c n vs))) (IsPermutation-refl (seen_rows c n vs));
-  past = λ n later past. past;
-  count = omega arith;
-}
-
-joined-here : (stamp : ℕ) (row : List Value) (p : Place) (xs ys : List Placed) → Joined stamp (xs ++ ys) (xs ++ newborn row stamp p ∷ ys) (row ∷ [])
-joined-here stamp row p xs ys = record {
-  unseen = λ c n missed. newborn-unseen c n stamp row p xs ys missed;
-  seen = λ c n shown later. newborn-seen c n stamp row p xs ys shown later;
-  past = λ n later past. past-middle n xs (newborn row stamp p) ys (record { born = later; died = tt }) past;
-  count = omega (arith, length-append xs ys, length-append xs (newborn row stamp p ∷ ys));
-}
-
-pub joined-one : (stamp : ℕ) (row : List Value) (p : Place) (old new : List Placed) → PutsIn old new (newborn row stamp p) → Joined stamp old new (row ∷ [])
-joined-one stamp row p old new puts =
-    subst (λ o. Joined stamp o new (row ∷ [])) (sym puts.was)
-    (subst (λ n. Joined stamp (puts.before ++ puts.after) n (row ∷ [])) (sym puts.now) (joined-here stamp row p puts.before puts.after))
-
--- rows that joined in two steps
-pub joined-then : (stamp : ℕ) (a b c : List Placed) (xs ys : List (List Value)) → Joined stamp a b xs → Joined stamp b c ys → Joined stamp a c (xs ++ ys)
-joined-then stamp a b c xs ys p q = record {
-  unseen = λ m n missed. q.unseen m n missed ∙ p.unseen m n missed;
-  seen = λ m n shown later.
-      let one : IsPermutation (seen_rows m n c) (seen_rows m n b ++ ys) = q.seen m n shown later in
-      let two : IsPermutation (seen_rows m n b ++ ys) ((seen_rows m n a ++ xs) ++ ys) =
-      IsPermutation-append_left ys (seen_rows m n b) (seen_rows m n a ++ xs) (p.seen m n shown later) in
-      subst (λ rs. IsPermutation (seen_rows m n c) rs) (append_assoc (seen_rows m n a) xs ys)
-      (IsPermutation-trans (seen_rows m n c) (seen_rows m n b ++ ys) ((seen_rows m n a ++ xs) ++ ys) one two);
-  past = λ n later past. q.past n later (p.past n later past);
-  count = let one = p.count in let two = q.count in omega (arith, length-append xs ys);
-}
