@@ -9,6 +9,7 @@ pub mod Altering
 pub mod InOrder
 pub mod TableLaws
 pub mod Kept
+pub mod Keeping
 pub mod Sightings
 pub mod Agreement
 pub mod Seen
