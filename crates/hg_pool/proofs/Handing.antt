@@ -1,4 +1,4 @@
--- A page that was handed out stays in its frame while another one is.
+-- A page that was handed out stays in its frame while another one is, is pinned or is made.
 use Rattle.std.specs.Prelude.{◌≡◌, ◌≢◌, ℕ, ◌&&◌, ◌||◌, Bool, true, false, Result, Ok, Err, OnOk, IfErr, ◌⊎◌}
 use Rattle.std.proofs.Common.{sym, ◌∙◌, ap, refl, inl, inr}
 use Rattle.std.proofs.lemmas.Bool.{false≢true}
@@ -49,3 +49,11 @@ module _ {M T : Type 0} where
     | inl s ↦ s.frames.stay q (out-in m t a q e)
     | inr l ↦ l.frames.stay q (out-in m t a q e) (victim-apart m t a q l.frame w e l.takes.victim.eligible.not_out)
   ]
+
+  pub made-keeps : (m : Ghosts M) (t : Ghosts T) (a b : Parts M T) (page : PageId) → IsWhole m t a → (state_of m t a).of_heap (key page) ≡ false
+      → ComesIn (current_of a) (clock_of a) (clock_of b) (frame_of b page) → KeepsFrames a b page (frame_of b page) → KeepsOut m t a b
+  made-keeps m t a b page w out comes keeps q e = keeps.stay q (λ s. false≢true (sym out ∙ ap (state_of m t a).of_heap (sym s) ∙ e)) (out-in m t a q e)
+      (victim-apart m t a q (frame_of b page) w e comes.takes.victim.eligible.not_out)
+
+  pub same-keeps : (m : Ghosts M) (t : Ghosts T) (a b : Parts M T) → SameFrames a b → KeepsOut m t a b
+  same-keeps m t a b same q e = same.stay q (out-in m t a q e)

@@ -13,6 +13,7 @@ impl<M: PageDevice, T: PageDevice> Parts<M, T> {
     ghost use Rattle.hg_pool.specs.Clocking.{ComesIn, used, back, forgotten};
     ghost use Rattle.hg_pool.specs.Shown.{state_of, IsWhole, in_frame, frame_of, page_in, clock_of, current_of, SameStockOf, SameFrames, SameFramesBut, KeepsFrames, owed, OwesSame, Asked, StaysIn, IsRefused};
     ghost use Rattle.hg_pool.specs.Work.{IsLowest, IsUnused, CallsNone, evicted};
+    ghost use Rattle.hg_pool.specs.Lending.{KeepsOut};
 
     pub(crate) fn pin(&mut self, page: PageId) -> Result<(), PageFault>
         requires whole { IsWhole M.PageDevice T.PageDevice self.old }
@@ -41,6 +42,7 @@ impl<M: PageDevice, T: PageDevice> Parts<M, T> {
         ensures same_frames { in_frame self.old page ≡ true → SameFrames self.old self.new }
         ensures owing { in_frame self.old page ≡ true → OwesSame self.old self.new }
         ensures clean { OnOk result (in_frame self.old page ≡ false → owed self.new (frame_of self.new page) ≡ None) }
+        ensures keeps_out { KeepsOut M.PageDevice T.PageDevice self.old self.new }
         ensures keeps_counts { in_frame self.old page ≡ true → self.new.store.counts ≡ self.old.store.counts }
         ensures evicts { OnOk result (in_frame self.old page ≡ false → self.new.store.counts.evictions
             ≡ evicted (page_in self.old (frame_of self.new page)) self.old.store.counts.evictions) }
@@ -78,6 +80,7 @@ impl<M: PageDevice, T: PageDevice> Parts<M, T> {
         ensures full_calls_none { IsFull (state_of M.PageDevice T.PageDevice self.old) file → self.new.devices ≡ self.old.devices }
         ensures keeps_frames { IfOk result (λ page. KeepsFrames self.old self.new page (frame_of self.new page)) }
         ensures err_frames { OnErr result (SameFrames self.old self.new) }
+        ensures keeps_out { KeepsOut M.PageDevice T.PageDevice self.old self.new }
         ensures err_owing { OnErr result (OwesSame self.old self.new) }
         ensures evicts { IfOk result (λ page. self.new.store.counts.evictions
             ≡ evicted (page_in self.old (frame_of self.new page)) self.old.store.counts.evictions) }

@@ -127,6 +127,13 @@ impl Frames {
         self.marks.len()
     }
 
+    /// How many frames are reserved.
+    pub(crate) fn max(&self) -> u32
+        ensures { result ≡ self.now.max }
+    {
+        self.region.frames()
+    }
+
     /// What is noted of a frame. One that is not in use has no page.
     pub(crate) fn mark(&self, at: usize) -> Mark
         ensures page { result.page ≡ (frame_at self.now.items at).page }

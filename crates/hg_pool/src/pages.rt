@@ -26,6 +26,7 @@ ghost use Rattle.hg_pool.specs.Shown.{
   IsRefused,
 };
 ghost use Rattle.hg_pool.specs.Work.{IsLowest, IsUnused, CallsNone, evicted};
+ghost use Rattle.hg_pool.specs.Lending.{KeepsOut};
 
 use crate::Pool;
 use hg_base::{File, PageFault, PageId, Pages};
@@ -80,6 +81,7 @@ impl<M: PageDevice, T: PageDevice> Pages for Pool<M, T> {
         ensures same_frames { in_frame self.old page ≡ true → SameFrames self.old self.new }
         ensures owing { in_frame self.old page ≡ true → OwesSame self.old self.new }
         ensures clean { OnOk result (in_frame self.old page ≡ false → owed self.new (frame_of self.new page) ≡ None) }
+        ensures keeps_out { KeepsOut M.PageDevice T.PageDevice self.old self.new }
         ensures keeps_counts { in_frame self.old page ≡ true → counts_of_pool self.new ≡ counts_of_pool self.old }
         ensures evicts { OnOk result (in_frame self.old page ≡ false → (counts_of_pool self.new).evictions
             ≡ evicted (page_in self.old (frame_of self.new page)) (counts_of_pool self.old).evictions) }
@@ -117,6 +119,7 @@ impl<M: PageDevice, T: PageDevice> Pages for Pool<M, T> {
         ensures full_calls_none { IsFull (state_of M.PageDevice T.PageDevice self.old) file → CalledNone self.old self.new }
         ensures keeps_frames { IfOk result (λ pin. KeepsFrames self.old self.new pin.page (frame_of self.new pin.page)) }
         ensures err_frames { OnErr result (SameFrames self.old self.new) }
+        ensures keeps_out { KeepsOut M.PageDevice T.PageDevice self.old self.new }
         ensures err_owing { OnErr result (OwesSame self.old self.new) }
         ensures evicts { IfOk result (λ pin. (counts_of_pool self.new).evictions
             ≡ evicted (page_in self.old (frame_of self.new pin.page)) (counts_of_pool self.old).evictions) }

@@ -33,7 +33,7 @@ impl<M: PageDevice, T: PageDevice> Model for Pool<M, T> {
 
 impl<M: PageDevice, T: PageDevice> Pool<M, T> {
     ghost use Rattle.std.specs.Prelude.{◌≡◌, ◌≢◌, ℕ, ◌≤◌, ◌<◌, ◌+◌, ◌-◌, ◌^◌, true, false, None, Some, IfOk, IfErr, IfSome, IfNone, IsOk, OnOk, OnErr, MatchResult};
-    ghost use Rattle.hg_base.specs.Space.{NoPins, IsSame, key};
+    ghost use Rattle.hg_base.specs.Space.{NoPins, IsSame, key, with_next};
     ghost use Rattle.hg_clock.specs.Clock.{score_of};
     ghost use Rattle.hg_pool.specs.Clocking.{ComesIn, used, back};
     ghost use Rattle.hg_pool.specs.Work.{evicted};
@@ -79,6 +79,14 @@ impl<M: PageDevice, T: PageDevice> Pool<M, T> {
         ensures most { max_of self.now ≤ 65536 }
     {
         self.parts.store.frames.count() as u32
+    }
+
+    /// How many frames are reserved.
+    pub fn max(&self) -> u32
+        ensures count { result ≡ max_of self.now }
+        ensures most { result ≤ 65536 }
+    {
+        self.parts.store.frames.max()
     }
 
     /// The clock over all frames that are reserved.
@@ -191,6 +199,21 @@ impl<M: PageDevice, T: PageDevice> Pool<M, T> {
         ensures calls_none { CalledNone self.old self.new }
     {
         self.parts.put_page(page, chain, dirty);
+    }
+
+    /// Sets or takes away the successor of a page that is handed out, in its frame or out of it.
+    pub fn link_out(&mut self, page: PageId, next: Option<u32>)
+        requires taken { (state_of M.PageDevice T.PageDevice self.old).taken (key page) ≡ true }
+        requires out { (state_of M.PageDevice T.PageDevice self.old).of_heap (key page) ≡ true }
+        ensures after { state_of M.PageDevice T.PageDevice self.new ≡ with_next (state_of M.PageDevice T.PageDevice self.old) (key page) next }
+        ensures clock { clock_of self.new ≡ clock_of self.old }
+        ensures stock { SameStockOf self.old self.new }
+        ensures frames { SameFrames self.old self.new }
+        ensures owing { OwesSame self.old self.new }
+        ensures counts { counts_of_pool self.new ≡ counts_of_pool self.old }
+        ensures calls_none { CalledNone self.old self.new }
+    {
+        self.parts.set_next(page, next);
     }
 
     /// Gives the devices back as they are, and all memory. No device is called: what was not written is lost.

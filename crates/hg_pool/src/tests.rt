@@ -161,6 +161,7 @@ fn pages_come_and_go(rt: HostRuntime) -> Result<(), Fail> {
         first_byte(&mut pool, File::Main, 19),
     );
     let seen = (pool.current(), pool.taken(File::Main), pool.main_faults());
+    let max = pool.max();
     // page 19 came into the frame of page 3, and page 4 left its own
     let frames = (
         pool.frame_of(main_page(19)).map(|frame| frame.0),
@@ -169,7 +170,7 @@ fn pages_come_and_go(rt: HostRuntime) -> Result<(), Fail> {
     let _ = pool.clock();
     let counts = pool.counts();
     let (main, temp) = pool.close();
-    assert_eq!(rt; frames, (Some(3), None));
+    assert_eq!(rt; (frames, max), ((Some(3), None), 32));
     assert_eq!(rt; (made, bytes), (Ok(()), (Ok(1), Ok(2), Ok(3), Ok(4))));
     assert_eq!(rt; (again, seen), ((Ok(1), Ok(20)), (16, 20, 0)));
     let wanted = PoolCounts {

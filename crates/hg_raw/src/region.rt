@@ -118,6 +118,13 @@ impl Region {
         f.0 < self.frames && self.home[f.0 as usize]
     }
 
+    /// How many frames it has, at home or not.
+    pub fn frames(&self) -> u32
+        ensures { result ≡ self.now.region.frames }
+    {
+        self.frames
+    }
+
     /// Frees the block. All frames are at home.
     pub fn free(self)
         requires { AllHome self }

@@ -173,6 +173,7 @@ fn frames_keep_their_bytes(rt: HostRuntime) {
     }
     region.give_back(again);
     assert!(rt; !region.is_home(FrameNo(FRAMES)));
+    assert_eq!(rt; region.frames(), FRAMES);
     assert!(rt; all_home(&region, FRAMES));
     region.free();
 }

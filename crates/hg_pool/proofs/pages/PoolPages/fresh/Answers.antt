@@ -13,6 +13,7 @@ use Rattle.hg_pool.proofs.Hands.{calls-none-ok, calls-none-err}
 use Rattle.std.proofs.Common.{◌<◌, ◌-◌, ◌^◌}
 use Rattle.hg_pool.specs.Shown.{page_in, SameFrames, KeepsFrames, StaysIn, OwesSame}
 use Rattle.hg_pool.specs.Work.{evicted}
+use Rattle.hg_pool.specs.Lending.{KeepsOut}
 use Rattle.hg_pool.proofs.pages.PoolPages.fresh.Goals as goal
 
 pub returns-in_err-page-clause-err : goal.returns-in_err-page-clause-err
@@ -161,3 +162,13 @@ returns-clause-stock g c =
 pub returns-in_err-page-clause-stock : goal.returns-in_err-page-clause-stock
 returns-in_err-page-clause-stock g c =
     let P : Parts g.row.M.Denot g.row.T.Denot → Type 0 = λ s. SameStockOf s c.fresh.new.self in subst P c.self.view_is c.in_err-page.ensures.stock
+
+pub returns-clause-keeps_out : goal.returns-clause-keeps_out
+returns-clause-keeps_out g c =
+    let P : Parts g.row.M.Denot g.row.T.Denot → Type 0 = λ s. KeepsOut g.M.PageDevice g.T.PageDevice s c.fresh.new.self in
+    subst P c.self.view_is c.in_ok-page.ensures.keeps_out
+
+pub returns-in_err-page-clause-keeps_out : goal.returns-in_err-page-clause-keeps_out
+returns-in_err-page-clause-keeps_out g c =
+    let P : Parts g.row.M.Denot g.row.T.Denot → Type 0 = λ s. KeepsOut g.M.PageDevice g.T.PageDevice s c.fresh.new.self in
+    subst P c.self.view_is c.in_err-page.ensures.keeps_out

@@ -10,6 +10,7 @@ use Rattle.std.proofs.Common.{◌<◌, ◌-◌, ◌^◌, ap}
 use Rattle.hg_pool.specs.Shown.{page_in, counts_of_pool, SameFrames, KeepsFrames, owed, OwesSame}
 use Rattle.std.proofs.Common.{None}
 use Rattle.hg_pool.specs.Work.{evicted}
+use Rattle.hg_pool.specs.Lending.{KeepsOut}
 use Rattle.hg_pool.proofs.pages.PoolPages.pin.Goals as goal
 
 pub returns-in_err-pin-clause-err : goal.returns-in_err-pin-clause-err
@@ -108,3 +109,13 @@ returns-clause-stock g c =
 pub returns-in_err-pin-clause-stock : goal.returns-in_err-pin-clause-stock
 returns-in_err-pin-clause-stock g c =
     let P : Parts g.row.M.Denot g.row.T.Denot → Type 0 = λ s. SameStockOf s c.pin.new.self in subst P c.self.view_is c.in_err-pin.ensures.stock
+
+pub returns-clause-keeps_out : goal.returns-clause-keeps_out
+returns-clause-keeps_out g c =
+    let P : Parts g.row.M.Denot g.row.T.Denot → Type 0 = λ s. KeepsOut g.M.PageDevice g.T.PageDevice s c.pin.new.self in
+    subst P c.self.view_is c.in_ok-pin.ensures.keeps_out
+
+pub returns-in_err-pin-clause-keeps_out : goal.returns-in_err-pin-clause-keeps_out
+returns-in_err-pin-clause-keeps_out g c =
+    let P : Parts g.row.M.Denot g.row.T.Denot → Type 0 = λ s. KeepsOut g.M.PageDevice g.T.PageDevice s c.pin.new.self in
+    subst P c.self.view_is c.in_err-pin.ensures.keeps_out

@@ -26,6 +26,7 @@ use Rattle.hg_pool.specs.Work.{evicted}
 use Rattle.hg_pool.specs.declared.parts.Parts.{Parts}
 use Rattle.hg_pool.proofs.Passing.{place-set}
 use Rattle.hg_pool.proofs.Staying.{frame-filled, keeps-then-but}
+use Rattle.hg_pool.proofs.Handing.{made-keeps, same-keeps}
 use Rattle.hg_pool.proofs.parts.Parts.fresh.Goals as goal
 
 pub unreachable-requires : goal.unreachable-requires
@@ -187,3 +188,14 @@ returns-clause-asked g c =
     let P : PoolCounts → Type 0 = λ n. Asks d a.store.counts e n (owed a i) None in
     let Q : ℕ → Type 0 = λ k. Asks d a.store.counts e c.set_new.new.self.counts (owed a k) None in
     subst Q (sym place) (subst P (sym (ap (λ (y : Store). y.counts) c.set_new.ensures)) c.in_ok-at.ensures.asked)
+
+pub returns-clause-keeps_out : goal.returns-clause-keeps_out
+returns-clause-keeps_out g c =
+    let m : Parts g.row.M.Denot g.row.T.Denot = c.room.new.self in
+    let page : PageId = record { file = c.args.file; no = c.in-Some.no } in
+    made-keeps g.M.PageDevice g.T.PageDevice c.args.self.now (record m { store = c.set_new.new.self }) page c.requires.whole (returns-clause-ok g c).unused.no_heap
+    (returns-clause-comes g c) (returns-clause-keeps_frames g c)
+
+pub returns-in_err-at-clause-keeps_out : goal.returns-in_err-at-clause-keeps_out
+returns-in_err-at-clause-keeps_out g c =
+    same-keeps g.M.PageDevice g.T.PageDevice c.args.self.now c.room.new.self c.in_err-at.ensures.refused.frames

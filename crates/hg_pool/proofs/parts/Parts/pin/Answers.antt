@@ -18,6 +18,7 @@ use Rattle.hg_pool.specs.declared.parts.Parts.{Parts}
 use Rattle.hg_pool.specs.FrameLaws.{frame-kept}
 use Rattle.hg_pool.proofs.Staying.{same-then, but-then-same, owing-kept}
 use Rattle.hg_pool.specs.Shown.{owed, OwesSame}
+use Rattle.hg_pool.proofs.Handing.{taken-keeps, refused-keeps}
 use Rattle.hg_pool.proofs.parts.Parts.pin.Goals as goal
 
 pub returns-clause-whole : goal.returns-clause-whole
@@ -168,3 +169,13 @@ returns-clause-evicts g c =
 
 pub returns-clause-uncounted : goal.returns-clause-uncounted
 returns-clause-uncounted g c = λ same reads writes. c.in_ok-at.ensures.uncounted (sym (ap (λ (z : Store). z.counts) c.hold.ensures) ∙ same) reads writes
+
+pub returns-clause-keeps_out : goal.returns-clause-keeps_out
+returns-clause-keeps_out g c =
+    let m : Parts g.row.M.Denot g.row.T.Denot = c.bring.new.self in
+    taken-keeps g.M.PageDevice g.T.PageDevice c.args.self.now (record m { store = c.hold.new.self }) c.args.page c.requires.whole c.requires.no_heap
+    (returns-clause-same_frames g c) (returns-clause-comes g c) (returns-clause-keeps_frames g c)
+
+pub returns-in_err-at-clause-keeps_out : goal.returns-in_err-at-clause-keeps_out
+returns-in_err-at-clause-keeps_out g c =
+    refused-keeps g.M.PageDevice g.T.PageDevice c.args.self.now c.bring.new.self c.args.page _ c.requires.whole c.in_err-at.ensures.refused
