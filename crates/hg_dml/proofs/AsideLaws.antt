@@ -1,21 +1,19 @@
 -- Temporary pages beside a table: the run of an UPDATE.
-use Rattle.std.specs.Prelude.{◌≡◌, ℕ, zero, suc, ◌+◌, ◌^◌, ◌<◌, ◌≤◌, ◌⊎◌, ◌==◌, ◌||◌, Bool, true, false, List, [], ◌∷◌, ◌++◌, length, map, Option, Some, None, if◌then◌else◌}
+use Rattle.std.specs.Prelude.{◌≡◌, ℕ, zero, suc, ◌+◌, ◌<◌, ◌≤◌, ◌⊎◌, ◌==◌, Bool, true, false, List, [], ◌∷◌, ◌++◌, length, map, Option, Some, None, if◌then◌else◌}
 use Rattle.std.specs.List.{AllByRecursion}
 use Rattle.std.proofs.Common.{sym, ◌∙◌, ap, subst, refl, arith, inl, inr, length-append}
 use Rattle.std.proofs.lemmas.Bool.{false≢true, cases_Bool}
 use Rattle.std.proofs.lemmas.Bool.Decides.{nat_tests}
-use Rattle.std.proofs.lemmas.List.{append-nil, map-append}
+use Rattle.std.proofs.lemmas.List.{map-append}
 use Rattle.hg_base.specs.Causes.{HasCause}
-use Rattle.hg_base.specs.LineLaws.{all_more, all_has, last_known, line_free, same_pages, line-plain}
+use Rattle.hg_base.specs.LineLaws.{all_more, all_has, line_free}
 use Rattle.hg_base.specs.Lines.{NoneMine, has_page, last_of}
-use Rattle.hg_base.specs.Space.{Space, NoPins, IsFull, at, key, key_in, taken_in, taken_below}
+use Rattle.hg_base.specs.Space.{Space, NoPins, at, key_in, taken_in, taken_below}
 use Rattle.hg_base.specs.Steadiness.{Mine, Steady}
 use Rattle.hg_base.specs.SteadyLaws.{Steady_same, Steady_then, Steady_wider}
-use Rattle.hg_base.specs.TakenLaws.{key_in-one, key_in-apart, taken_below-new, taken_below-other}
-use Rattle.hg_base.specs.declared.Check.{Check}
+use Rattle.hg_base.specs.TakenLaws.{key_in-one, key_in-apart, taken_below-new}
 use Rattle.hg_base.specs.declared.File.{File}
 use Rattle.hg_base.specs.declared.File.TheVariants.{Main, Temp}
-use Rattle.hg_base.specs.declared.PageId.{PageId}
 use Rattle.hg_base.specs.declared.Place.{Place}
 use Rattle.hg_base.specs.declared.Table.{Table}
 use Rattle.hg_model.specs.Tables.{fits_integer}
@@ -29,10 +27,9 @@ use Rattle.hg_table.specs.Calls.{none_mine, page_mine, HasVersion}
 use Rattle.hg_table.specs.Chains.{IsChain}
 use Rattle.hg_table.specs.TableLaws.{chain_stays, table_stays}
 use Rattle.hg_value.specs.Coding.{coding, coded, narrow, wide, IsStorable}
-use Rattle.hg_dml.specs.Lent.{NoneLent}
 use Rattle.hg_dml.specs.Putting.{IsOneOf, table_mine}
 use Rattle.hg_dml.specs.UpdateSteps.{PutsAside, Kills, HoldsAside, GrowsBeside}
-use Rattle.hg_dml.proofs.PutLaws.{among-no-heap, has_page-before, has_page-more, last-among, none-lent-after, none-mine}
+use Rattle.hg_dml.proofs.PutLaws.{among-no-heap, has_page-before, last-among, none-lent-after, none-mine}
 
 -- ---- how many pages are taken
 

@@ -1,5 +1,5 @@
 -- Where the walk of an UPDATE stands: the rows that it made are put aside, and the versions killed.
-use Rattle.std.specs.Prelude.{◌≡◌, ℕ, ◌+◌, ◌*◌, ◌^◌, ◌<◌, ◌≤◌, ◌⊎◌, Bool, true, false, List, [], ◌∷◌, ◌++◌, length, map, Option, Some, None, IsTrue, if◌then◌else◌, ⊤}
+use Rattle.std.specs.Prelude.{◌≡◌, ℕ, ◌+◌, ◌*◌, ◌^◌, ◌<◌, ◌≤◌, ◌⊎◌, Bool, true, false, List, [], ◌∷◌, ◌++◌, length, map, Option, Some, None, if◌then◌else◌}
 use Rattle.std.specs.List.{AllByRecursion}
 use Rattle.std.proofs.Common.{sym, ◌∙◌, ap, subst, refl, arith, inl, inr, length-append}
 use Rattle.std.proofs.lemmas.Bool.{false≢true}
@@ -7,7 +7,7 @@ use Rattle.std.proofs.lemmas.List.{append-nil, map-append}
 use Rattle.hg_base.specs.Causes.{HasCause}
 use Rattle.hg_base.specs.LineLaws.{all_has}
 use Rattle.hg_base.specs.Lines.{NoneMine, has_page}
-use Rattle.hg_base.specs.Space.{Space, NoPins, IsFull, key, key_in, taken_in}
+use Rattle.hg_base.specs.Space.{Space, NoPins, key, key_in, taken_in}
 use Rattle.hg_base.specs.Steadiness.{Mine, Steady}
 use Rattle.hg_base.specs.SteadyLaws.{Steady_same, HasCause_behind, HasCause_none}
 use Rattle.hg_base.specs.declared.Check.{Check}
@@ -26,7 +26,7 @@ use Rattle.hg_run.specs.RunLaws.{chain_stays as run_stays}
 use Rattle.hg_run.specs.Runs.{IsChain as IsRunChain, no_run}
 use Rattle.hg_run.specs.declared.Run.{Run}
 use Rattle.hg_table.specs.Agreement.{IsTableOver, over_stays}
-use Rattle.hg_table.specs.Calls.{none_mine, page_mine, main_page, StandsOn, TakesNone, LookFault, IsVersionCheck, NamesPage, NamesOneOf}
+use Rattle.hg_table.specs.Calls.{none_mine, page_mine, main_page, StandsOn, TakesNone, LookFault, IsVersionCheck, NamesOneOf}
 use Rattle.hg_table.specs.Chains.{IsChain}
 use Rattle.hg_table.specs.Places.{behind, first_seen, Finds}
 use Rattle.hg_table.specs.Versions.{Placed, IsTable}
@@ -34,8 +34,8 @@ use Rattle.hg_value.specs.Coding.{IsStorable}
 use Rattle.hg_dml.specs.Deleting.{Concerns}
 use Rattle.hg_dml.specs.Making.{goes_by, made_by, IsChange, Notes, AreCauses, stand}
 use Rattle.hg_dml.specs.Updating.{FindsUpdating, IsUpdateDamage}
-use Rattle.hg_dml.specs.UpdateSteps.{PutsAside, Kills, Moves, FailsAside, FailsKill, StaysSo, StepStays, StepGoes, StepDone, IsDamagedRow, FailsGoing, StepFails, HoldsAside, GrowsBeside, LacksRoom, ChangedAll, ChangedSome}
-use Rattle.hg_dml.specs.Walks.{HasEnded, HasStopped}
+use Rattle.hg_dml.specs.UpdateSteps.{PutsAside, Kills, Moves, FailsAside, FailsKill, StepDone, IsDamagedRow, StepFails, HoldsAside, GrowsBeside, LacksRoom, ChangedAll, ChangedSome}
+use Rattle.hg_dml.specs.Walks.{HasStopped}
 use Rattle.hg_dml.specs.declared.making.Causes.{Causes}
 use Rattle.hg_dml.specs.declared.making.Change.{Change}
 use Rattle.hg_dml.proofs.AsideLaws.{taken_in-same, full-count, none-temp, none-main, none-none, beside-none, beside-looked, beside-killed, put, aside-more, beside-more, temp-more, aside-none, aside-stays}

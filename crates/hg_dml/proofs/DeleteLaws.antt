@@ -27,11 +27,9 @@ use Rattle.hg_table.specs.TableLaws.{chain_stays}
 use Rattle.hg_table.specs.Versions.{Placed, IsTable}
 use Rattle.hg_dml.specs.Deleting.{Concerns, pages_mine, IsDeleted, WritesWithin, Deletes, DeletesSome, WalkFault}
 use Rattle.hg_dml.specs.DeleteSteps.{Removes}
-use Rattle.hg_dml.specs.Inserting.{StandsOver}
-use Rattle.hg_dml.specs.Putting.{IsOneOf}
 use Rattle.hg_dml.specs.Walks.{HasEnded, HasStopped}
 use Rattle.hg_dml.proofs.PutLaws.{none-mine}
-use Rattle.hg_dml.proofs.WalkLaws.{HasWalked, HasFound, WalkedSoFar, FoundNext, walk-begins, walk-found, walk-ends, walk-stops, walk-over, step-stays, step-killed, step-stops, walked-on, one-page}
+use Rattle.hg_dml.proofs.WalkLaws.{HasWalked, WalkedSoFar, FoundNext, walk-begins, walk-found, walk-ends, walk-stops, walk-over, step-stays, step-killed, step-stops, walked-on, one-page}
 
 -- ---- the space
 

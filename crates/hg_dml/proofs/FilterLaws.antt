@@ -7,7 +7,7 @@ use Rattle.std.proofs.lemmas.Bool.{false≢true}
 use Rattle.std.proofs.lemmas.List.{drop_more}
 use Rattle.std.proofs.lemmas.Option.{slice_get-get_or}
 use borrow.Author.Tests.{ltb-true, lt-ltb}
-use Rattle.hg_model.specs.Evaluation.{value_at, values_of}
+use Rattle.hg_model.specs.Evaluation.{values_of}
 use Rattle.hg_model.specs.SelectMeaning.{is_aggregate, leaves_of, row_leaf, node_values}
 use Rattle.hg_model.specs.Tables.{fits_columns, fits_integer, fits_type, is_allowed}
 use Rattle.hg_model.specs.Width.{is_small, is_small_row}
@@ -18,7 +18,7 @@ use Rattle.hg_model.specs.declared.trees.SqlType.{SqlType}
 use Rattle.hg_model.specs.declared.trees.SqlType.TheVariants.{Integer, Varchar}
 use Rattle.hg_model.specs.declared.values.Value.{Value}
 use Rattle.hg_model.specs.declared.values.Value.TheVariants.{Null, Int, Text}
-use Rattle.hg_expr.specs.Over.{leaf_at, leaves_at, values_over}
+use Rattle.hg_expr.specs.Over.{leaf_at, values_over}
 
 both-none : (a b : Bool) → b ≡ false → (a && b) ≡ false
 both-none true b h = h

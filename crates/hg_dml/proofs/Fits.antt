@@ -1,18 +1,18 @@
 -- Rows against which nothing stands fit their columns, and can be stored.
-use Rattle.std.specs.Prelude.{◌≡◌, ℕ, ℤ, pos, negsuc, zero, suc, ◌+◌, ◌<◌, ◌≤◌, ◌⊎◌, ◌&&◌, ◌||◌, not, Bool, true, false, List, [], ◌∷◌, ◌++◌, length, map, take, drop, Option, Some, None, slice_get, FitsSigned, IsTrue, nat_le, nat_lt, slice_index_or, ⊤, if◌then◌else◌}
-use Rattle.std.specs.Int.{w32, w128}
+use Rattle.std.specs.Prelude.{◌≡◌, ℕ, ℤ, pos, negsuc, zero, suc, ◌+◌, ◌<◌, ◌≤◌, ◌&&◌, ◌||◌, not, Bool, true, false, List, [], ◌∷◌, ◌++◌, length, map, take, drop, Option, Some, None, slice_get, FitsSigned, nat_le, nat_lt, slice_index_or, ⊤, if◌then◌else◌}
+use Rattle.std.specs.Int.{w128}
 use Rattle.std.specs.List.{AllByRecursion, list_any, list_all}
-use Rattle.std.proofs.Common.{sym, ◌∙◌, ap, subst, refl, arith, inl, inr, length-append, length-take}
+use Rattle.std.proofs.Common.{sym, ◌∙◌, ap, subst, refl, arith, length-append, length-take}
 use Rattle.std.proofs.lemmas.Bool.Decides.{nat_tests}
 use Rattle.std.proofs.lemmas.Bool.{false≢true}
 use Rattle.std.proofs.lemmas.List.{length-map}
 use Rattle.std.proofs.lemmas.Option.{none-some}
 use Rattle.hg_model.specs.Changes.{first_column, null_cause, fit_cause, long_cause, row_length, tuples_from}
-use Rattle.hg_model.specs.Evaluation.{value_at, literal_value, part_of}
+use Rattle.hg_model.specs.Evaluation.{value_at, literal_value}
 use Rattle.hg_model.specs.NullLogic.{is_null}
 use Rattle.hg_model.specs.Refusal.{Refusal, NullNotAllowed, DoesNotFit, RowTooLong}
 use Rattle.hg_model.specs.Tables.{fits_columns, fits_integer, fits_type, is_allowed}
-use Rattle.hg_model.specs.Value.{is_chars, is_printable}
+use Rattle.hg_model.specs.Value.{is_printable}
 use Rattle.hg_model.specs.declared.trees.Column.{Column}
 use Rattle.hg_model.specs.declared.trees.Literal.{Literal}
 use Rattle.hg_model.specs.declared.trees.Literal.TheVariants as literal

@@ -14,3 +14,4 @@ pub mod UpdatedLaws
 pub mod UpdateLaws
 pub mod EndingLaws
 pub mod FilterLaws
+pub mod BoundLaws

@@ -1,5 +1,5 @@
 -- Laws of the row that is made of a row, and of what stands against such rows.
-use Rattle.std.specs.Prelude.{◌≡◌, ℕ, zero, suc, ◌+◌, ◌*◌, ◌<◌, ◌≤◌, ◌⊎◌, ◌&&◌, ◌||◌, not, min, nat_le, nat_lt, Bool, true, false, List, [], ◌∷◌, ◌++◌, length, take, drop, Option, Some, None, is_some, slice_get, slice_index_or, slice_set, if◌then◌else◌}
+use Rattle.std.specs.Prelude.{◌≡◌, ℕ, zero, suc, ◌+◌, ◌<◌, ◌≤◌, ◌⊎◌, ◌&&◌, ◌||◌, min, nat_le, nat_lt, Bool, true, false, List, [], ◌∷◌, ◌++◌, length, take, drop, Option, Some, None, is_some, slice_get, slice_index_or, slice_set, if◌then◌else◌}
 use Rattle.std.specs.List.{list_all, list_any}
 use Rattle.std.proofs.Common.{sym, ◌∙◌, ap, subst, refl, arith, inl, inr, length-take}
 use Rattle.std.proofs.Math.Seq.{take-suc}
@@ -14,14 +14,14 @@ use Rattle.hg_model.specs.Evaluation.{value_at, value_of}
 use Rattle.hg_model.specs.NullLogic.{is_null}
 use Rattle.hg_model.specs.Refusal.{Refusal, NullNotAllowed, DoesNotFit, RowTooLong}
 use Rattle.hg_model.specs.Tables.{fits_columns, fits_integer, fits_type, is_allowed}
-use Rattle.hg_model.specs.Value.{is_chars, is_printable}
+use Rattle.hg_model.specs.Value.{is_printable}
 use Rattle.hg_model.specs.SelectMeaning.{is_aggregate, node_values}
 use Rattle.hg_model.specs.declared.trees.Column.{Column}
 use Rattle.hg_model.specs.declared.trees.Node.{Node}
 use Rattle.hg_model.specs.declared.values.NodeValue.{NodeValue}
 use Rattle.hg_model.specs.declared.values.Value.{Value}
 use Rattle.hg_model.specs.declared.values.Value.TheVariants.{Null, Int, Text}
-use Rattle.hg_value.specs.Coding.{coding, coded, IsHeld, HasRoom}
+use Rattle.hg_value.specs.Coding.{IsHeld, HasRoom}
 use Rattle.hg_value.specs.Laws.{ValuesAreAsLong, RowsAreAsLong}
 use Rattle.hg_dml.specs.Making.{set_nodes, no_nodes, picked, row_picked, earlier, noted, breaks_null, breaks_type, noted_row, Notes, place_of, breaks_in, AreCauses, stand, made_by, IsChange}
 use Rattle.hg_dml.specs.Rows.{rows_cause}

@@ -1,17 +1,16 @@
 -- Rows of constants by the places of their columns are the rows that the definition lists.
-use Rattle.std.specs.Prelude.{◌≡◌, ◌≢◌, ℕ, zero, suc, ◌+◌, ◌<◌, ◌≤◌, ◌==◌, Bool, true, false, List, [], ◌∷◌, ◌++◌, length, map, drop, Option, Some, None, slice_get, slice_index_or, if◌then◌else◌}
-use Rattle.std.specs.List.{range_with_len, position_from, list_any}
+use Rattle.std.specs.Prelude.{◌≡◌, ℕ, ◌+◌, ◌≤◌, ◌==◌, Bool, true, false, List, [], ◌∷◌, ◌++◌, length, map, drop, Some, slice_index_or, if◌then◌else◌}
+use Rattle.std.specs.List.{range_with_len, position_from}
 use Rattle.std.proofs.Common.{sym, ◌∙◌, ap, refl, arith, inl, inr}
 use Rattle.std.proofs.lemmas.Bool.{cases_lt}
 use Rattle.std.proofs.lemmas.List.FromFn.{map-range_with_len_more, length-range_with_len}
 use Rattle.std.proofs.lemmas.List.{drop_more, drop_all, length-map}
 use Rattle.std.proofs.lemmas.Option.{slice_get-get_or, slice_get_past}
 use Rattle.hg_model.specs.Changes.{listed, new_row, tuples_from}
-use Rattle.hg_model.specs.Evaluation.{literal_value, value_at}
+use Rattle.hg_model.specs.Evaluation.{literal_value}
 use Rattle.hg_model.specs.declared.trees.Column.{Column}
 use Rattle.hg_model.specs.declared.trees.Literal.{Literal}
 use Rattle.hg_model.specs.declared.trees.Literal.TheVariants as literal
-use Rattle.hg_model.specs.declared.values.Value.{Value}
 use Rattle.hg_model.specs.declared.values.Value.TheVariants as val
 use Rattle.hg_dml.specs.Rows.{rows_of_tuples}
 use Rattle.hg_dml.specs.Tuples.{source_of, sources_of, constant_value, value_in, row_from, rows_from}

@@ -1,14 +1,14 @@
 -- Laws of the rows of a run that are put into a table.
-use Rattle.std.specs.Prelude.{◌≡◌, ℕ, zero, suc, ◌+◌, ◌-◌, ◌<◌, ◌≤◌, ◌⊎◌, ◌||◌, nat_le, Bool, true, false, List, [], ◌∷◌, ◌++◌, length, map, drop, Option, Some, None, if◌then◌else◌}
+use Rattle.std.specs.Prelude.{◌≡◌, ℕ, suc, ◌+◌, ◌-◌, ◌<◌, ◌≤◌, nat_le, Bool, true, false, List, [], ◌∷◌, ◌++◌, length, map, drop, Option, Some, None, if◌then◌else◌}
 use Rattle.std.specs.List.{AllByRecursion}
 use Rattle.std.proofs.Common.{sym, ◌∙◌, ap, subst, refl, arith, inl, inr, append_assoc, length-append}
 use Rattle.std.proofs.lemmas.Bool.{false≢true, cases_Bool}
 use Rattle.std.proofs.lemmas.Bool.Decides.{nat_tests}
-use Rattle.std.proofs.lemmas.List.{append-nil, map-append, length-map}
-use Rattle.hg_base.specs.Causes.{HasCause, Later}
+use Rattle.std.proofs.lemmas.List.{append-nil, map-append}
+use Rattle.hg_base.specs.Causes.{HasCause}
 use Rattle.hg_base.specs.Lines.{NoneMine, IsPath, has_page}
-use Rattle.hg_base.specs.Space.{Space, NoPins, IsFull, at, key_in, taken_in}
-use Rattle.hg_base.specs.Steadiness.{Mine, Steady}
+use Rattle.hg_base.specs.Space.{Space, NoPins, at, key_in, taken_in}
+use Rattle.hg_base.specs.Steadiness.{Steady}
 use Rattle.hg_base.specs.SteadyLaws.{HasCause_behind, HasCause_none}
 use Rattle.hg_base.specs.TakenLaws.{key_in-apart}
 use Rattle.hg_base.specs.declared.Check.{Check}
@@ -22,23 +22,21 @@ use Rattle.hg_base.specs.declared.pages.PageFault.TheVariants as fault
 use Rattle.hg_model.specs.Tables.{fits_columns}
 use Rattle.hg_model.specs.declared.trees.Column.{Column}
 use Rattle.hg_model.specs.declared.values.Value.{Value}
-use Rattle.hg_run.specs.Calls.{temp_page, Reads, ReadsOne, ReadFault, HasWay, HasPosition, NamesOneOf}
+use Rattle.hg_run.specs.Calls.{temp_page, Reads, ReadFault, HasWay, NamesOneOf}
 use Rattle.hg_run.specs.Layout.{pages_more}
 use Rattle.hg_run.specs.RunLaws as runs
 use Rattle.hg_run.specs.Runs.{IsChain as IsRunChain, IsRun, IsAt, StandsOn, first_position}
 use Rattle.hg_run.specs.declared.Run.{Run}
 use Rattle.hg_run.specs.declared.RunPos.{RunPos}
-use Rattle.hg_table.specs.Agreement.{IsTableOver}
 use Rattle.hg_table.specs.Calls.{none_mine, main_page, insert_mine, HasTable, InsertFault, IsNamed, IsPageCheck, IsVersionCheck, NamesGiven}
 use Rattle.hg_table.specs.Chains.{IsChain}
 use Rattle.hg_table.specs.TableLaws.{table_stays}
-use Rattle.hg_table.specs.Versions.{Placed}
 use Rattle.hg_value.specs.Coding.{coded, IsRowOf}
 use Rattle.hg_dml.specs.Inserting.{StandsOver}
 use Rattle.hg_dml.specs.Putting.{Puts, Joined}
 use Rattle.hg_dml.specs.Steps.{FitRows, IsShort, OneMore}
-use Rattle.hg_dml.specs.UpdateSteps.{HoldsAside, AreStorable, IsStorableRow, IsSpelled, ReadsRecord, StoresOne, IsNoRecord, IsWrongRecord, FailsRead, FailsRecord, FailsPut, StoreFails, KeepsRun, StoresAll, StoresSome, LacksMain, FindsStoring}
-use Rattle.hg_dml.proofs.AsideLaws.{taken_in-same, full-count, none-none}
+use Rattle.hg_dml.specs.UpdateSteps.{HoldsAside, AreStorable, IsSpelled, ReadsRecord, StoresOne, IsNoRecord, FailsRecord, StoreFails, KeepsRun, StoresAll, StoresSome, LacksMain, FindsStoring}
+use Rattle.hg_dml.proofs.AsideLaws.{full-count, none-none}
 use Rattle.hg_dml.proofs.ChangeLaws.{page-check}
 use Rattle.hg_dml.proofs.MakingLaws.{fits-length}
 use Rattle.hg_dml.proofs.PutLaws.{puts-none, puts-then, puts-still, none-mine, has_page-first}

@@ -1,5 +1,5 @@
 -- What the steps of an INSERT say becomes what the INSERT says.
-use Rattle.std.specs.Prelude.{◌≡◌, ℕ, List, length, map, Option, Some, None, option_map, unwrap_or, slice_get}
+use Rattle.std.specs.Prelude.{◌≡◌, ℕ, List, length, Option, Some, None, option_map, unwrap_or, slice_get}
 use Rattle.std.proofs.Common.{sym, ◌∙◌, ap, subst, refl}
 use Rattle.std.proofs.lemmas.Option.{none-some}
 use Rattle.hg_base.specs.Causes.{HasCause}
@@ -8,7 +8,6 @@ use Rattle.hg_base.specs.declared.Table.{Table}
 use Rattle.hg_base.specs.declared.pages.PageFault.{PageFault}
 use Rattle.hg_catalog.specs.Contents.{Contents, CatalogTable}
 use Rattle.hg_model.specs.declared.trees.Literal.{Literal}
-use Rattle.hg_model.specs.declared.values.Value.{Value}
 use Rattle.hg_table.specs.Chains.{IsChain}
 use Rattle.hg_dml.specs.Fitting.{AreReady}
 use Rattle.hg_dml.specs.Inserting.{MovesEnds, PutsAll, PutsPart, IsCause, OnRefused}
@@ -16,8 +15,8 @@ use Rattle.hg_dml.specs.Putting.{Puts, PutsSome}
 use Rattle.hg_dml.specs.Rows.{rows_cause, rows_of_tuples}
 use Rattle.hg_dml.specs.Steps.{IsRefusal}
 use Rattle.hg_dml.specs.Tuples.{sources_of, rows_from}
-use Rattle.hg_dml.specs.declared.insert.ChangeError.{ChangeError}
-use Rattle.hg_dml.specs.declared.insert.ChangeError.TheVariants as change
+use Rattle.hg_dml.specs.declared.insertion.ChangeError.{ChangeError}
+use Rattle.hg_dml.specs.declared.insertion.ChangeError.TheVariants as change
 use Rattle.hg_dml.proofs.Sources.{rows-are}
 
 some-one : {X : Type 0} (a b : X) → Some a ≡ Some b → a ≡ b

@@ -1,7 +1,7 @@
 -- The walk of an UPDATE, the rows that it stores, and the run that it gives back are the whole change.
-use Rattle.std.specs.Prelude.{◌≡◌, ℕ, ◌+◌, ◌<◌, ◌≤◌, ◌⊎◌, Bool, true, false, List, [], ◌∷◌, length, map, Option, Some, None, Result, Ok, Err, IfOk, IfErr, slice_get, if◌then◌else◌}
-use Rattle.std.specs.List.{AllByRecursion, filter, count_by}
-use Rattle.std.proofs.Common.{sym, ◌∙◌, ap, subst, refl, arith, inl, inr}
+use Rattle.std.specs.Prelude.{◌≡◌, ℕ, ◌≤◌, Bool, true, false, List, [], ◌∷◌, length, map, Option, Some, None, Result, Ok, Err, IfOk, IfErr, slice_get}
+use Rattle.std.specs.List.{AllByRecursion, count_by}
+use Rattle.std.proofs.Common.{sym, ◌∙◌, ap, subst, arith, inl, inr}
 use Rattle.std.proofs.lemmas.Bool.{false≢true, cases_Bool}
 use Rattle.std.proofs.lemmas.List.{length-map}
 use Rattle.std.proofs.lemmas.List.Sums.{length-filter}
@@ -9,11 +9,10 @@ use Rattle.hg_base.specs.Causes.{HasCause}
 use Rattle.hg_base.specs.Count.{raised, Rose}
 use Rattle.hg_base.specs.LineLaws.{all_has}
 use Rattle.hg_base.specs.Lines.{NoneMine, has_page}
-use Rattle.hg_base.specs.Space.{Space, Counts, NoPins, key, key_in, taken_in}
-use Rattle.hg_base.specs.Steadiness.{Mine, Steady}
-use Rattle.hg_base.specs.SteadyLaws.{Steady_then, Steady_wider, HasCause_behind, main_failed, temp_failed}
+use Rattle.hg_base.specs.Space.{Space, Counts, NoPins, key_in}
+use Rattle.hg_base.specs.Steadiness.{Steady}
+use Rattle.hg_base.specs.SteadyLaws.{Steady_then, Steady_wider, HasCause_behind}
 use Rattle.hg_base.specs.TakenLaws.{key_in-one, key_in-apart}
-use Rattle.hg_base.specs.declared.Check.{Check}
 use Rattle.hg_base.specs.declared.File.TheVariants.{Main, Temp}
 use Rattle.hg_base.specs.declared.PageId.{PageId}
 use Rattle.hg_base.specs.declared.Table.{Table}
@@ -33,14 +32,14 @@ use Rattle.hg_table.specs.Versions.{Placed}
 use Rattle.hg_dml.specs.Deleting.{Concerns}
 use Rattle.hg_dml.specs.Inserting.{StandsOver, OnRefused, OnFault}
 use Rattle.hg_dml.specs.Making.{AreCauses, stand}
-use Rattle.hg_dml.specs.Putting.{Grows, table_mine, IsOneOf}
+use Rattle.hg_dml.specs.Putting.{Grows, table_mine}
 use Rattle.hg_dml.specs.Rows.{rows_cause}
 use Rattle.hg_table.specs.Seen.{seen_rows}
 use Rattle.hg_dml.specs.Steps.{IsRefusal}
-use Rattle.hg_dml.specs.Updating.{Updates, UpdateIsRefused, UpdatesSome, UpdateFault, FindsUpdating, IsUpdateDamage}
+use Rattle.hg_dml.specs.Updating.{Updates, UpdateIsRefused, UpdatesSome, UpdateFault, FindsUpdating}
 use Rattle.hg_dml.specs.UpdateSteps.{GrowsBeside, KeepsRun, LacksRoom, LacksMain, FindsStoring, ChangedAll, ChangedSome, StoresAll, StoresSome, UpdatedBeside, RefusedBeside, SomeBeside, EndsRun}
-use Rattle.hg_dml.specs.declared.insert.ChangeError.{ChangeError}
-use Rattle.hg_dml.specs.declared.insert.ChangeError.TheVariants as change
+use Rattle.hg_dml.specs.declared.insertion.ChangeError.{ChangeError}
+use Rattle.hg_dml.specs.declared.insertion.ChangeError.TheVariants as change
 use Rattle.hg_dml.specs.declared.making.Causes.{Causes}
 use Rattle.hg_dml.proofs.AsideLaws.{taken_in-same}
 use Rattle.hg_dml.proofs.ChangeLaws.{damaged-temp}

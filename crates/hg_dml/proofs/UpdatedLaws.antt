@@ -1,10 +1,10 @@
 -- What snapshots see of versions that were changed: those that go were deleted, and the rows that are made of them
 -- joined.
-use Rattle.std.specs.Prelude.{◌≡◌, ℕ, ◌+◌, ◌<◌, ◌≤◌, ◌&&◌, ◌||◌, not, nat_lt, Bool, true, false, List, [], ◌∷◌, ◌++◌, length, map, Option, Some, None, if◌then◌else◌}
+use Rattle.std.specs.Prelude.{◌≡◌, ℕ, ◌≤◌, ◌||◌, not, nat_lt, Bool, true, false, List, [], ◌∷◌, ◌++◌, length, map, if◌then◌else◌}
 use Rattle.std.specs.List.{AllByRecursion, filter, count_by, list_any}
 use Rattle.std.specs.List.Sorted.{IsPermutation}
 use Rattle.std.proofs.Common.{sym, ◌∙◌, ap, subst, refl, arith}
-use Rattle.std.proofs.lemmas.Bool.{false≢true, cases_Bool}
+use Rattle.std.proofs.lemmas.Bool.{false≢true}
 use Rattle.std.proofs.lemmas.Bool.Decides.{nat_tests}
 use Rattle.std.proofs.lemmas.List.{length-map}
 use Rattle.std.proofs.lemmas.List.Sums.{length-filter}
@@ -14,13 +14,13 @@ use Rattle.hg_model.specs.Tables.{fits_columns}
 use Rattle.hg_model.specs.declared.trees.Column.{Column}
 use Rattle.hg_model.specs.declared.values.Value.{Value}
 use Rattle.hg_table.specs.Versions.{Placed}
-use Rattle.hg_value.specs.Coding.{coded, IsStorable}
+use Rattle.hg_value.specs.Coding.{IsStorable}
 use Rattle.hg_value.specs.Laws.{RowsAreAsLong}
-use Rattle.hg_dml.specs.Deleting.{AgreeUpTo, Concerns, IsHidden, IsDeleted}
+use Rattle.hg_dml.specs.Deleting.{Concerns, IsHidden, IsDeleted}
 use Rattle.hg_dml.specs.Making.{made_by, IsChange, AreCauses, stand}
 use Rattle.hg_dml.specs.Putting.{Joined}
-use Rattle.hg_table.specs.Seen.{seen_rows, IsPast}
-use Rattle.hg_dml.specs.Steps.{FitRows, IsShort}
+use Rattle.hg_table.specs.Seen.{seen_rows}
+use Rattle.hg_dml.specs.Steps.{IsShort}
 use Rattle.hg_dml.specs.Updating.{IsUpdated, IsHiddenUpTo}
 use Rattle.hg_dml.specs.UpdateSteps.{AreStorable}
 use Rattle.hg_dml.specs.declared.making.Causes.{Causes}

@@ -1,5 +1,5 @@
 -- What it does to a table and its space that rows are deleted under one stamp. Our own rule.
-use Rattle.std.specs.Prelude.{◌≡◌, ℕ, ◌<◌, ◌≤◌, ◌⊎◌, ◌&&◌, not, Bool, true, false, List, Option, Some, map, length, slice_get, if◌then◌else◌}
+use Rattle.std.specs.Prelude.{◌≡◌, ℕ, ◌≤◌, ◌&&◌, not, Bool, true, false, List, Some, map, length, if◌then◌else◌}
 use Rattle.std.specs.List.{AllByRecursion, filter, count_by}
 use Rattle.hg_base.specs.Space.{Space}
 use Rattle.hg_base.specs.Causes.{MainFailed, TempFailed, counts_after}
@@ -7,7 +7,6 @@ use Rattle.hg_base.specs.Steadiness.{Mine, Steady, these_pages}
 use Rattle.hg_base.specs.declared.Table.{Table}
 use Rattle.hg_base.specs.declared.pages.PageFault.{PageFault}
 use Rattle.hg_base.specs.declared.pages.PageFault.TheVariants as fault
-use Rattle.hg_catalog.specs.Contents.{Contents, CatalogTable}
 use Rattle.hg_model.specs.Tables.{fits_columns}
 use Rattle.hg_model.specs.declared.trees.Column.{Column}
 use Rattle.hg_model.specs.declared.values.Value.{Value}

@@ -1,7 +1,6 @@
 -- What makes a row storable. Our own rule.
-use Rattle.std.specs.Prelude.{◌≡◌, ℕ, ◌<◌, ◌≤◌, true, List, length, None, ⊤}
-use Rattle.std.specs.List.{AllByRecursion, list_all}
-use Rattle.hg_model.specs.Value.{is_printable}
+use Rattle.std.specs.Prelude.{◌≡◌, ◌<◌, List, None, ⊤}
+use Rattle.std.specs.List.{AllByRecursion}
 use Rattle.hg_model.specs.declared.trees.Column.{Column}
 use Rattle.hg_model.specs.declared.trees.SqlType.{SqlType}
 use Rattle.hg_model.specs.declared.trees.SqlType.TheVariants.{Integer, Varchar}

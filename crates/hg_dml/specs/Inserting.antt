@@ -11,8 +11,8 @@ use Rattle.hg_model.specs.declared.trees.Literal.{Literal}
 use Rattle.hg_table.specs.Agreement.{IsTableOver}
 use Rattle.hg_table.specs.Chains.{IsChain}
 use Rattle.hg_table.specs.Versions.{Placed}
-use Rattle.hg_dml.specs.declared.insert.ChangeError.{ChangeError}
-use Rattle.hg_dml.specs.declared.insert.ChangeError.TheVariants as change
+use Rattle.hg_dml.specs.declared.insertion.ChangeError.{ChangeError}
+use Rattle.hg_dml.specs.declared.insertion.ChangeError.TheVariants as change
 use Rattle.hg_dml.specs.Putting.{Puts, PutsSome}
 use Rattle.hg_dml.specs.Rows.{rows_of_tuples, rows_cause, Tells}
 

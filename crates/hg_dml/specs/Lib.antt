@@ -13,3 +13,4 @@ pub mod Updating
 pub mod Making
 pub mod Walks
 pub mod UpdateSteps
+pub mod Bound

@@ -7,7 +7,6 @@ use Rattle.hg_model.specs.NullLogic.{is_null}
 use Rattle.hg_model.specs.SelectMeaning.{node_values}
 use Rattle.hg_model.specs.Tables.{fits_type}
 use Rattle.hg_model.specs.declared.trees.Column.{Column}
-use Rattle.hg_model.specs.declared.trees.Node.{Node}
 use Rattle.hg_model.specs.declared.values.NodeValue.{NodeValue}
 use Rattle.hg_model.specs.declared.values.Value.{Value}
 use Rattle.hg_dml.specs.declared.making.Causes.{Causes}

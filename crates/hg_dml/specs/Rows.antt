@@ -1,6 +1,6 @@
 -- Which rows an INSERT makes, and which cause against them is answered: its code, and the number of the
 -- column that it names. Our own rule.
-use Rattle.std.specs.Prelude.{◌≡◌, ℕ, List, [], ◌∷◌, Option, Some, None, map, length, option_map, slice_get}
+use Rattle.std.specs.Prelude.{◌≡◌, ℕ, List, [], Option, Some, None, map, length, option_map, slice_get}
 use Rattle.hg_model.specs.Changes.{new_row, tuples_from, change_cause}
 use Rattle.hg_model.specs.Refusal.{Refusal, UnknownTable, UnknownColumn, AmbiguousColumn, TypeMismatch, TooWide, NameTaken, TooMany, NotGrouped, DoesNotFit, NullNotAllowed, DuplicateKey, BadNumber, RowTooLong, StampsUsedUp, KeyTooLong}
 use Rattle.hg_model.specs.declared.trees.Column.{Column}

@@ -5,7 +5,6 @@ use Rattle.hg_base.specs.Space.{Space}
 use Rattle.hg_base.specs.Steadiness.{Steady}
 use Rattle.hg_base.specs.declared.Place.{Place}
 use Rattle.hg_base.specs.declared.Table.{Table}
-use Rattle.hg_base.specs.declared.pages.PageFault.{PageFault}
 use Rattle.hg_model.specs.Refusal.{Refusal}
 use Rattle.hg_model.specs.Tables.{fits_columns}
 use Rattle.hg_model.specs.declared.trees.Column.{Column}
@@ -16,8 +15,8 @@ use Rattle.hg_table.specs.Chains.{IsChain}
 use Rattle.hg_table.specs.Versions.{Placed}
 use Rattle.hg_value.specs.Coding.{IsStorable, coded}
 use Rattle.hg_dml.specs.Rows.{rows_cause, Tells}
-use Rattle.hg_dml.specs.declared.insert.ChangeError.{ChangeError}
-use Rattle.hg_dml.specs.declared.insert.ChangeError.TheVariants as change
+use Rattle.hg_dml.specs.declared.insertion.ChangeError.{ChangeError}
+use Rattle.hg_dml.specs.declared.insertion.ChangeError.TheVariants as change
 
 -- One insertion into the table as it stands, after others: what the call on the table says.
 pub record OneMore (b c : Space) (mid new : Table) (place : Place) (stamp n : ℕ) (row : List Value) : Type 0 where

@@ -33,7 +33,7 @@ use Rattle.hg_table.specs.Seen.{seen_rows}
 use Rattle.hg_dml.specs.Steps.{FitRows, IsShort, IsRefusal, OneMore}
 use Rattle.hg_dml.specs.Updating.{FindsUpdating, IsUpdated, IsHiddenUpTo}
 use Rattle.hg_dml.specs.Walks.{HasEnded, HasStopped}
-use Rattle.hg_dml.specs.declared.insert.ChangeError.TheVariants as change
+use Rattle.hg_dml.specs.declared.insertion.ChangeError.TheVariants as change
 use Rattle.hg_dml.specs.declared.making.Causes.{Causes}
 use Rattle.hg_dml.specs.declared.making.Change.{Change}
 

@@ -2,7 +2,7 @@
 -- right side is computed from the old row. Our own rule: each row that goes dies under the stamp, and the row
 -- that is made of it is born under it; the first cause against all rows that would be made comes before.
 use Rattle.std.specs.Prelude.{◌≡◌, ℕ, ◌+◌, ◌-◌, ◌<◌, ◌≤◌, ◌⊎◌, Bool, true, false, List, map, length, Option, Some, None, if◌then◌else◌, ⊤}
-use Rattle.std.specs.List.{AllByRecursion, filter, count_by}
+use Rattle.std.specs.List.{AllByRecursion, count_by}
 use Rattle.std.specs.List.Sorted.{IsPermutation}
 use Rattle.hg_base.specs.Space.{Space, key, taken_in}
 use Rattle.hg_base.specs.Count.{Rose}
@@ -23,7 +23,6 @@ use Rattle.hg_model.specs.declared.trees.Node.{Node}
 use Rattle.hg_model.specs.declared.values.Value.{Value}
 use Rattle.hg_table.specs.Agreement.{IsTableOver}
 use Rattle.hg_table.specs.Calls.{IsVersionCheck}
-use Rattle.hg_table.specs.Chains.{IsChain}
 use Rattle.hg_table.specs.Versions.{Placed}
 use Rattle.hg_dml.specs.Deleting.{AgreeUpTo, Concerns, AreConcerned, IsHidden}
 use Rattle.hg_dml.specs.Inserting.{MovesEnds}

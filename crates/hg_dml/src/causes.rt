@@ -10,7 +10,7 @@ ghost use Rattle.hg_dml.specs.Steps.{FirstIs, IsRefusal};
 ghost use Rattle.hg_dml.specs.Tuples.{value_in, rows_from};
 ghost use Rattle.std.specs.Prelude.{nat_lt, not, ◌&&◌};
 
-use crate::insert::ChangeError;
+use crate::insertion::ChangeError;
 use crate::tuples::{fits, is_null, look, row_length, tuple_between};
 use hg_model::{Column, Literal};
 

@@ -1,7 +1,7 @@
 //! The walk of an UPDATE: the rows that it makes are put aside, and the old ones are killed.
-ghost use Rattle.std.specs.Prelude.{◌≡◌, ◌≢◌, ◌<◌, ◌≤◌, ◌^◌, ◌-◌, ℕ, true, false, List, length, Ok, OnOk, IfOk, IfErr, [], Some};
-ghost use Rattle.hg_base.specs.Space.{NoPins};
-ghost use Rattle.hg_base.specs.declared.File.TheVariants.{Temp};
+ghost use Rattle.std.specs.Prelude.{◌≡◌, ◌≢◌, ◌<◌, ◌≤◌, ◌*◌, ◌^◌, ◌-◌, ℕ, true, false, List, length, Ok, OnOk, IfOk, IfErr, [], Some};
+ghost use Rattle.hg_base.specs.Space.{NoPins, taken_in};
+ghost use Rattle.hg_base.specs.declared.File.TheVariants.{Main, Temp};
 ghost use Rattle.hg_model.specs.Tables.{fits_columns};
 ghost use Rattle.hg_run.specs.Calls.{HasRun};
 ghost use Rattle.hg_run.specs.Runs.{IsChain as IsRunChain, no_run};
@@ -11,10 +11,10 @@ ghost use Rattle.hg_dml.specs.Inserting.{StandsOver};
 ghost use Rattle.hg_dml.specs.Making.{goes_by, made_by, IsChange, Notes, AreCauses};
 ghost use Rattle.hg_dml.specs.UpdateSteps.{Moves, FailsMove, StepDone, StepFails, ChangedAll, ChangedSome};
 
-use crate::delete::{MOST_ON_PAGE, counted};
+use crate::deletion::{MOST_ON_PAGE, counted};
 use crate::filter::{fits_columns, passes};
 use crate::making::{Causes, Change, make_row};
-use crate::update::ChangeRoom;
+use crate::updating::ChangeRoom;
 use hg_base::{Check, File, PageFault, PageId, Pages, Place, Stamp, Table};
 use hg_run::Run;
 use hg_table::{Stamps, TableCalls};
@@ -144,6 +144,7 @@ pub fn change_along<S: Pages>(
     requires causes { AreCauses change.now.columns.now [] causes.old }
     ensures ok { IfOk result (ChangedAll (S.state space.old) (S.state space.new) table change.now.columns.now (committed stamps.now) (stamp.0 - 1) stamp.0
         (goes_by change.now) (made_by change.now) run.new causes.new) }
+    ensures few { IfOk result (λ n. n ≤ taken_in (S.state space.old) Main * 128) }
     ensures err { IfErr result (ChangedSome (S.state space.old) (S.state space.new) table change.now.columns.now (committed stamps.now) (stamp.0 - 1) stamp.0
         (goes_by change.now) run.new) }
 {

@@ -1,11 +1,13 @@
 //! Which rows of a table a change concerns.
 ghost use Rattle.std.specs.Prelude.{◌≡◌, ◌≤◌, ◌&&◌, IsTrue, length};
+ghost use Rattle.hg_bind.specs.Bound.{numbers_of};
 ghost use Rattle.hg_model.specs.Tables.{fits_type, is_allowed, fits_columns};
 ghost use Rattle.hg_model.specs.Width.{is_small_row};
 ghost use Rattle.hg_value.specs.Looks.{value_of};
 ghost use Rattle.hg_dml.specs.Filtering.{IsFilter, row_passes};
 
 use crate::tuples::{fits, is_null};
+use arrayvec::ArrayVec;
 use hg_expr::{Evaluation, rows_fit};
 use hg_model::{Column, Node};
 use hg_value::{Look, Row};
@@ -19,6 +21,17 @@ pub struct Filter<'a> {
     pub nodes: &'a [Node],
     pub columns: &'a [u8],
     pub texts: &'a str,
+}
+
+/// Puts the numbers of the columns of places into a list.
+pub fn list_numbers(places: &[(u8, u8)], numbers: &mut ArrayVec<u8, 112>)
+    requires { length places.now ≤ 112 }
+    ensures { numbers.new.items ≡ numbers_of places.now }
+{
+    numbers.clear();
+    for place in places {
+        numbers.push(place.1);
+    }
 }
 
 /// Whether a column may hold the value.

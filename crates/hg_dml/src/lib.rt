@@ -1,6 +1,7 @@
-//! What INSERT, UPDATE and DELETE make of a table. It stands on `hg_table`, `hg_run`, `hg_catalog` and
+//! What INSERT, UPDATE and DELETE make of a table. It stands on `hg_table`, `hg_run`, `hg_catalog`, `hg_bind` and
 //! `hg_expr` (and `hg_base`, `hg_model`, `hg_value`). The contracts that the layers above use are those of
-//! `insert_rows`, `update_rows` and `delete_rows`.
+//! [`insert`], [`update`] and [`delete`], which take a bound statement, and of [`insert_rows`], [`update_rows`] and
+//! [`delete_rows`] below them, which take its parts where they lie and are lent the room for rows.
 //!
 //! ```text
 //! INSERT  values of all rows -- NULL where it is not allowed, by columns --> 12
@@ -31,17 +32,19 @@
 
 mod causes;
 mod changing;
-mod delete;
+mod deletion;
+mod edges;
 mod ending;
 mod filter;
-mod insert;
+mod insertion;
 mod making;
 mod putting;
 mod storing;
 mod tuples;
-mod update;
+mod updating;
 
-pub use delete::delete_rows;
-pub use filter::Filter;
-pub use insert::{ChangeError, insert_rows};
-pub use update::{ChangeRoom, Sets, update_rows};
+pub use deletion::delete_rows;
+pub use edges::{delete, insert, update};
+pub use filter::{Filter, list_numbers};
+pub use insertion::{ChangeError, insert_rows};
+pub use updating::{ChangeRoom, Sets, update_rows};

@@ -12,10 +12,10 @@ ghost use Rattle.hg_dml.specs.Steps.{IsRefusal};
 
 use crate::causes::MOST_BYTES;
 use crate::filter::Filter;
-use crate::insert::ChangeError;
+use crate::insertion::ChangeError;
 use crate::putting::push;
 use crate::tuples::{coded_length, fits, is_null};
-use crate::update::Sets;
+use crate::updating::Sets;
 use arrayvec::ArrayVec;
 use hg_expr::{Evaluation, rows_fit};
 use hg_model::Column;

@@ -15,7 +15,7 @@ ghost use Rattle.hg_dml.specs.UpdateSteps.{HoldsAside, AreStorable, IsStorableRo
 use crate::causes::MOST_BYTES;
 use crate::filter::fits_columns;
 use crate::putting::put_one;
-use crate::update::ChangeRoom;
+use crate::updating::ChangeRoom;
 use hg_base::{Check, File, PageFault, PageId, Pages, Stamp, Table};
 use hg_model::Column;
 use hg_run::{Run, RunPos};

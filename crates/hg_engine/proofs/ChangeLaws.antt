@@ -17,8 +17,8 @@ use Rattle.hg_base.specs.declared.Table.{Table as Ends}
 use Rattle.hg_base.specs.declared.pages.PageFault.{PageFault}
 use Rattle.hg_bind.specs.Bound.{table_of}
 use Rattle.hg_catalog.specs.Contents.{Contents, CatalogTable, table_number, with_pages}
-use Rattle.hg_dml.specs.declared.insert.ChangeError.{ChangeError}
-use Rattle.hg_dml.specs.declared.insert.ChangeError.TheVariants as change
+use Rattle.hg_dml.specs.declared.insertion.ChangeError.{ChangeError}
+use Rattle.hg_dml.specs.declared.insertion.ChangeError.TheVariants as change
 use Rattle.hg_dml.specs.Deleting.{Concerns, AreConcerned, IsHidden, WritesWithin, pages_mine}
 use Rattle.hg_dml.specs.Inserting.{StandsAt, OnFault, OnRefused}
 use Rattle.hg_dml.specs.Putting.{Grows, table_mine}

@@ -1,26 +1,12 @@
 //! DELETE: rows leave a table under one stamp, all that pass its condition.
-ghost use Rattle.std.specs.Prelude.{◌≡◌, ◌≤◌, length};
-ghost use Rattle.hg_bind.specs.Bound.{numbers_of};
 
 use crate::say::{say_fault, say_refusal};
 use crate::tables::Tables;
-use arrayvec::ArrayVec;
 use hg_base::Pages;
 use hg_bind::{BindError, place_filter};
-use hg_dml::{Filter, delete_rows};
+use hg_dml::{Filter, delete_rows, list_numbers};
 use hg_plan::read_deletes_fit;
 use hg_reply::{DeleteAt, Reply, ReplyLine, Words};
-
-/// Puts the numbers of the columns of places into a list.
-pub fn list_numbers(places: &[(u8, u8)], numbers: &mut ArrayVec<u8, 112>)
-    requires { length places.now ≤ 112 }
-    ensures { numbers.new.items ≡ numbers_of places.now }
-{
-    numbers.clear();
-    for place in places {
-        numbers.push(place.1);
-    }
-}
 
 impl Tables {
     ghost use Rattle.std.specs.Prelude.{◌≡◌, ◌<◌, ℕ, false, [], List, length, None, Some, IfOk, IfErr, option_map};

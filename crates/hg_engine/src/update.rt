@@ -1,11 +1,10 @@
 //! UPDATE: rows that pass its condition are changed under one stamp, all of them or none.
-use crate::delete::list_numbers;
 use crate::insert::say_cause;
 use crate::say::{say_fault, say_refusal};
 use crate::tables::Tables;
 use hg_base::Pages;
 use hg_bind::{BindError, place_sets};
-use hg_dml::{ChangeError, Filter, Sets, update_rows};
+use hg_dml::{ChangeError, Filter, Sets, list_numbers, update_rows};
 use hg_plan::read_updates_fit;
 use hg_reply::{Reply, ReplyLine, UpdateAt, Words};
 

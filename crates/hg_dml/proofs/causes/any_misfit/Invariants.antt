@@ -2,7 +2,6 @@ use Rattle.std.proofs.Common.{◌≡◌, drop}
 use Rattle.std.specs.Prelude.{not}
 use Rattle.std.specs.List.{list_any}
 use Rattle.hg_model.specs.Changes.{tuples_from}
-use Rattle.hg_model.specs.NullLogic.{is_null}
 use Rattle.hg_model.specs.Tables.{fits_type}
 use Rattle.hg_dml.specs.Tuples.{value_in}
 use Rattle.hg_dml.proofs.causes.any_misfit.Given as goal

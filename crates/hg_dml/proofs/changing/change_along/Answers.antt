@@ -1,4 +1,4 @@
-use Rattle.std.proofs.Common.{sym, subst, arith}
+use Rattle.std.proofs.Common.{subst, arith}
 use Rattle.std.specs.Prelude.{◌-◌, ◌*◌, ◌≤◌}
 use Rattle.hg_table.specs.Marks.{committed}
 use Rattle.hg_dml.specs.Making.{goes_by, stand}

@@ -1,5 +1,4 @@
 use Rattle.std.proofs.Common.{sym, ◌∙◌, ap, subst, inr, Ok}
-use Rattle.hg_dml.specs.Making.{made_by}
 use Rattle.hg_dml.specs.UpdateSteps.{Moves, FailsMove}
 use Rattle.hg_dml.proofs.MakingLaws.{none-stands, made-some}
 use Rattle.hg_dml.proofs.changing.change_one.Goals as goal

@@ -1,4 +1,4 @@
-use Rattle.std.proofs.Common.{sym, ◌∙◌, subst, ap, arith, inl, inr, length, ◌≤◌, List, ℕ}
+use Rattle.std.proofs.Common.{sym, ◌∙◌, subst, ap, inr, length, ◌≤◌, List, ℕ}
 use Rattle.hg_run.specs.Calls.{append_mine}
 use Rattle.hg_table.specs.Places.{killed}
 use Rattle.hg_table.specs.Versions.{IsTable}

@@ -1,6 +1,6 @@
-use Rattle.std.specs.Prelude.{◌≡◌, ℕ, ◌+◌}
-use Rattle.std.proofs.Common.{sym, ◌∙◌, ap, subst, arith}
-use Rattle.hg_base.specs.Space.{Space, key, key_in, without_page}
+use Rattle.std.specs.Prelude.{ℕ, ◌+◌}
+use Rattle.std.proofs.Common.{sym, subst, arith}
+use Rattle.hg_base.specs.Space.{Space, key_in}
 use Rattle.hg_base.specs.declared.File.TheVariants.{Temp}
 use Rattle.hg_dml.proofs.EndingLaws.{EndingSoFar, ending-none, next-of-run, ending-more, ended-none, ended-few}
 use Rattle.hg_dml.proofs.ending.end_run.Goals as goal

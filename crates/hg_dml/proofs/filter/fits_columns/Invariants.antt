@@ -1,4 +1,4 @@
-use Rattle.std.proofs.Common.{◌≡◌, drop, length}
+use Rattle.std.proofs.Common.{◌≡◌, drop}
 use Rattle.hg_model.specs.Tables as tables
 use Rattle.hg_dml.proofs.filter.fits_columns.Given as goal
 

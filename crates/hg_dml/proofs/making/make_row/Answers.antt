@@ -1,8 +1,6 @@
-use Rattle.std.proofs.Common.{◌≡◌, sym, ◌∙◌, ap, arith, take, drop, ◌+◌, length, ◌++◌, ◌∷◌, [], List}
-use Rattle.std.specs.Prelude.{slice_index_or, nat_lt, false, ◌<◌, ◌≤◌, ◌||◌}
-use Rattle.hg_model.specs.Changes.{row_length}
+use Rattle.std.proofs.Common.{◌≡◌, sym, ◌∙◌, ap, arith, drop, ◌+◌, length, List}
+use Rattle.std.specs.Prelude.{slice_index_or, nat_lt, ◌<◌, ◌||◌}
 use Rattle.hg_model.specs.SelectMeaning.{node_values}
-use Rattle.hg_model.specs.declared.trees.Column.{Column}
 use Rattle.hg_model.specs.declared.values.Value.{Value}
 use Rattle.hg_value.specs.Looks.{value_of}
 use Rattle.hg_dml.specs.Making.{made_by, breaks_null, breaks_type, noted_row}

@@ -1,10 +1,6 @@
-use Rattle.std.proofs.Common.{◌≡◌, sym, ◌∙◌, subst, ap, inl, inr, length, Ok, true, false, List, ℕ}
-use Rattle.hg_base.specs.declared.pages.PageFault.{PageFault}
-use Rattle.hg_base.specs.declared.Table.{Table}
+use Rattle.std.proofs.Common.{inl, inr}
 use Rattle.hg_table.specs.Calls.{none_mine}
 use Rattle.hg_table.specs.TableLaws.{chain_stays}
-use Rattle.hg_value.specs.Coding.{IsRowOf}
-use Rattle.hg_dml.specs.UpdateSteps.{IsStorableRow}
 use Rattle.hg_dml.proofs.PutLaws.{none-mine}
 use Rattle.hg_dml.proofs.StoreLaws.{reads-so, no-record, wrong-so, spelled-so, has-table-stays}
 use Rattle.hg_dml.proofs.storing.store_one.Goals as goal

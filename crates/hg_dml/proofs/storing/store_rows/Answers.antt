@@ -1,4 +1,4 @@
-use Rattle.std.proofs.Common.{sym, ◌∙◌, subst, arith}
+use Rattle.std.proofs.Common.{sym, subst, arith}
 use Rattle.hg_base.specs.declared.Table.{Table}
 use Rattle.hg_dml.specs.UpdateSteps.{StoresSome}
 use Rattle.hg_dml.proofs.StoreLaws.{stored-none, stored-way, stored-chain, stored-table, stored-next, stored-stops, stored-all, no-page}

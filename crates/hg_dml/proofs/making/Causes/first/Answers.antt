@@ -1,4 +1,4 @@
-use Rattle.std.proofs.Common.{◌≡◌, None, sym, ◌∙◌, ap, refl}
+use Rattle.std.proofs.Common.{◌∙◌, ap, refl}
 use Rattle.std.specs.Prelude.{option_map}
 use Rattle.hg_model.specs.Refusal.{NullNotAllowed, DoesNotFit, RowTooLong}
 use Rattle.hg_model.specs.declared.trees.Column.{Column}

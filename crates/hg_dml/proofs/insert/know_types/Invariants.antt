@@ -1,6 +1,0 @@
-use Rattle.std.proofs.Common.{take}
-use Rattle.hg_dml.specs.Fitting.{AreSmall}
-use Rattle.hg_dml.proofs.insert.know_types.Given as goal
-
-abbrev pub invariant-loop-column : goal.invariant-loop-column
-invariant-loop-column l = AreSmall (take l.column-index l.columns)
